@@ -1,0 +1,14 @@
+//! The base of every crate: want of memory, texts, places in a text, lists of texts, and fixed-point numbers.
+#![tactic(auto)]
+
+pub mod lists;
+pub mod memory;
+pub mod number;
+pub mod span;
+pub mod text;
+
+pub use lists::{Cells, Names};
+pub use memory::NoMemory;
+pub use number::{Num, NumFault};
+pub use span::Span;
+pub use text::Str;

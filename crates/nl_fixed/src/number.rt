@@ -1,0 +1,52 @@
+//! Fixed-point numbers: whole counts of millionths.
+ghost use Rattle.std.specs.Prelude.{◌≡◌};
+ghost use Rattle.nl_fixed.specs.Numbers.{number_at};
+
+use std::marker::Model;
+
+/// A number: a whole count of millionths from -9*10^18 to 9*10^18, seen by contracts as that count.
+#[derive(Clone, Copy)]
+pub struct Num {
+    count: i64,
+}
+
+impl Model for Num {
+    ghost use Rattle.std.specs.Prelude.{ℤ};
+    ghost use Rattle.nl_fixed.specs.Numbers.{IsInRange};
+
+    ghost Value = { ℤ };
+
+    ghost view = { λ n. n.count };
+
+    ghost invariant = { λ n. IsInRange n.count };
+
+    ghost inverse = { λ count. record { count = count } };
+}
+
+/// Why an operation on numbers has no answer.
+#[derive(Clone, Copy, Debug, PartialEq, Eq)]
+pub enum NumFault {
+    Overflow,
+    ZeroDivide,
+    Domain,
+}
+
+impl Num {
+    /// The number of so many millionths.
+    pub fn new(millionths: i64) -> Option<Num>
+        ensures { result ≡ number_at millionths }
+    {
+        if -9_000_000_000_000_000_000 <= millionths && millionths <= 9_000_000_000_000_000_000 {
+            Some(Num { count: millionths })
+        } else {
+            None
+        }
+    }
+
+    /// How many millionths the number is.
+    pub fn millionths(self) -> i64
+        ensures { result ≡ self }
+    {
+        self.count
+    }
+}
