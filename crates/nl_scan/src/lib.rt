@@ -1,0 +1,13 @@
+//! The tokens of a model's text.
+#![tactic(auto)]
+
+pub mod place;
+pub mod scanner;
+pub mod token;
+
+pub use place::line_column;
+pub use scanner::scan;
+pub use token::{Lexeme, ScanKind, ScanRefusal, Token, Tokens};
+
+/// A text of more bytes is refused.
+pub const TEXT_LIMIT: usize = 4_194_304;

@@ -1,0 +1,93 @@
+//! Tokens, and why a text has none.
+ghost use Rattle.std.specs.Prelude.{◌≡◌, [], ◌∷◌, ◌++◌, OnOk, OnErr};
+
+use nl_fixed::{NoMemory, Span};
+use std::alloc::Global;
+use std::marker::Model;
+
+/// What a token is.
+#[derive(Clone, Copy, Debug, PartialEq, Eq)]
+pub enum Lexeme {
+    /// A run of letters, digits and `-`.
+    Word,
+    /// `[`
+    Open,
+    /// `]`
+    Close,
+}
+
+/// A token and where it stands in its text.
+#[derive(Clone, Copy, Debug, PartialEq, Eq)]
+pub struct Token {
+    pub lexeme: Lexeme,
+    pub span: Span,
+}
+
+/// What is wrong with a text.
+#[derive(Clone, Copy, Debug, PartialEq, Eq)]
+pub enum ScanKind {
+    /// The text has more bytes than the limit; the place is the first byte past it.
+    TooLong,
+    /// A byte that belongs to no gap and no token.
+    BadChar,
+}
+
+/// Why a text has no tokens: its first fault with the byte at which it stands, or want of memory.
+#[derive(Clone, Copy, Debug, PartialEq, Eq)]
+pub enum ScanRefusal {
+    Fault { kind: ScanKind, place: u32 },
+    NoMemory,
+}
+
+impl From<NoMemory> for ScanRefusal {
+    ghost use Rattle.std.specs.Prelude.{◌≡◌};
+    ghost use Rattle.nl_scan.specs.declared.token.ScanRefusal.TheVariants as ScanRefusal;
+
+    ghost from_gives = { λ _ refusal. refusal ≡ ScanRefusal.NoMemory };
+
+    fn from(_refused: NoMemory) -> ScanRefusal {
+        ScanRefusal::NoMemory
+    }
+}
+
+/// Tokens, in the order of the text.
+#[derive(Drop)]
+pub struct Tokens {
+    list: Vec<Token>,
+}
+
+impl Model for Tokens {
+    ghost use Rattle.std.specs.Prelude.{List};
+    ghost use Rattle.nl_scan.specs.declared.token.Token.{Token};
+
+    ghost Value = { List Token };
+
+    ghost view = { λ tokens. tokens.list.items };
+}
+
+impl Tokens {
+    /// No tokens.
+    pub fn empty(alloc: Global) -> Tokens
+        ensures { result ≡ [] }
+    {
+        Tokens {
+            list: Vec::new(alloc),
+        }
+    }
+
+    /// The tokens, in order.
+    pub fn as_slice(&self) -> &[Token]
+        ensures { result.now ≡ self.now }
+    {
+        self.list.as_slice()
+    }
+
+    /// Appends a token, or leaves the list as it was.
+    pub fn push(&mut self, _alloc: Global, token: Token) -> Result<(), NoMemory>
+        ensures ok { OnOk result (self.new ≡ self.old ++ token ∷ []) }
+        ensures err { OnErr result (self.new ≡ self.old) }
+    {
+        self.list.push(token)?;
+        Ok(())
+    }
+}
