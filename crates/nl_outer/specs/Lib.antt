@@ -1,0 +1,4 @@
+pub mod Bytes
+pub mod Faults
+pub mod Folder
+pub mod Memory

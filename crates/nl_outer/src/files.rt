@@ -1,0 +1,47 @@
+//! Files that are read whole.
+ghost use Rattle.std.specs.Prelude.{◌≡◌, ℕ, ◌+◌, ◌≤◌, List, Bool, true, length, Option, Some, IfOk, IfSome, IsErrOf};
+ghost use Rattle.nl_outer.specs.Faults.{Rose};
+
+use nl_fixed::Str;
+use std::alloc::Global;
+
+/// A file with its path.
+#[derive(Drop)]
+pub struct StoredFile {
+    pub path: Str,
+    pub bytes: Str,
+}
+
+/// Why a read gave nothing.
+#[derive(Clone, Copy, Debug, PartialEq, Eq)]
+pub enum ReadFail {
+    Failed,
+    NoMemory,
+}
+
+/// Where files are read from.
+///
+/// `faults` counts its faults; `last_fault` is the path of the last one, empty before any; `serves` tells which
+/// paths may be asked for; `folder` is what is there, where that is known.
+pub trait Files {
+    ghost use Rattle.nl_outer.specs.Folder.{Folder, read_of};
+
+    ghost faults: { Self → ℕ };
+
+    ghost last_fault: { Self → List ℕ };
+
+    ghost serves: { Self → List ℕ → Bool };
+
+    ghost folder: { Self → Option Folder };
+
+    /// All bytes of a file, or its first `most + 1` where it is longer. A file that isn't there is a fault.
+    fn read_file(&mut self, alloc: Global, path: &str, most: u64) -> Result<Vec<u8>, ReadFail>
+        requires { serves self.old path.now ≡ true }
+        ensures bytes { IfOk result (λ bytes. IfSome (folder self.old) (λ files. read_of path.now most files ≡ Some bytes.items)) }
+        ensures bound { IfOk result (λ bytes. length bytes.items ≤ most + 1) }
+        ensures cause { IsErrOf result ReadFail.Failed → Rose (faults self.old) (faults self.new) }
+        ensures place { IsErrOf result ReadFail.Failed → last_fault self.new ≡ path.now }
+        ensures later { faults self.old ≤ faults self.new }
+        ensures same_folder { folder self.new ≡ folder self.old }
+        ensures same_paths { serves self.new ≡ serves self.old };
+}
