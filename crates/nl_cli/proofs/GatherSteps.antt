@@ -1,0 +1,102 @@
+-- Where the reading of the inputs ends, and what it gives.
+use Rattle.std.proofs.Common.{◌≡◌, ℕ, ◌≤◌, List, Option, Some, Result, Ok, Err, sym, ap, ◌∙◌, arith}
+use Rattle.std.specs.Option.{ForSome}
+use Rattle.nl_outer.specs.Folder.{Folder, read_of}
+use Rattle.nl_cli.specs.declared.TheConstants.{FILE_LIMIT}
+use Rattle.nl_cli.specs.declared.modelling.Walkers.{Walkers}
+use Rattle.nl_cli.specs.declared.modelling.ModelFault.{ModelFault}
+use Rattle.nl_cli.specs.declared.planning.Fields.{Fields}
+use Rattle.nl_cli.specs.declared.planning.PlanFault.{PlanFault}
+use Rattle.nl_cli.specs.declared.words.Role.{Role}
+use Rattle.nl_cli.specs.declared.ends.End.{End}
+use Rattle.nl_cli.specs.ModelForm.{model_says}
+use Rattle.nl_cli.specs.ExperimentFile.{experiment_says}
+use Rattle.nl_cli.specs.Words.{Names}
+use Rattle.nl_cli.specs.Answer.{found_in, job_of}
+use Rattle.nl_cli.specs.Outcome.{Asked}
+use Rattle.nl_cli.specs.Stages.{ExperimentSays, Gathers, ModelSays, Reads}
+use Rattle.nl_cli.proofs.CourseSteps.{all_said, experiment_bad, experiment_missing, model_bad, model_missing}
+use Rattle.nl_cli.proofs.Reading.{IsRead-read_of, experiment_says-take, model_says-take}
+
+-- a read gave these bytes of the file at a path, where the folder is known
+abbrev pub Got : List ℕ → Option Folder → List ℕ → Type 0
+Got path known bytes = ForSome known (λ folder. read_of path FILE_LIMIT folder ≡ Some bytes)
+
+-- the same of an equal folder
+pub Got-same : (path : List ℕ) (a b : Option Folder) (bytes : List ℕ) → a ≡ b → Got path a bytes → Got path b bytes
+Got-same path a b bytes e got folder is = got folder (e ∙ is)
+
+model_whole_says : (path bytes : List ℕ) (folder : Folder) (r : Result Walkers ModelFault) → (read : read_of path FILE_LIMIT folder ≡ Some bytes) → model_says bytes ≡ r
+    → model_says (IsRead-read_of path FILE_LIMIT folder bytes read).whole ≡ r
+model_whole_says path bytes folder r read says =
+    let got = IsRead-read_of path FILE_LIMIT folder bytes read in
+    sym (model_says-take got.whole) ∙ sym (ap model_says got.first) ∙ says
+
+experiment_whole_says : (path bytes : List ℕ) (folder : Folder) (r : Result Fields PlanFault) → (read : read_of path FILE_LIMIT folder ≡ Some bytes) → experiment_says bytes ≡ r
+    → experiment_says (IsRead-read_of path FILE_LIMIT folder bytes read).whole ≡ r
+experiment_whole_says path bytes folder r read says =
+    let got = IsRead-read_of path FILE_LIMIT folder bytes read in
+    sym (experiment_says-take got.whole) ∙ sym (ap experiment_says got.first) ∙ says
+
+-- the model's read stops
+pub model_read_stops : (names : Names) (files : Asked) (end : End) → Reads Role.Model names.model files (Err end) → Gathers names files (Err end)
+model_read_stops names files (End.Read at) stopped =
+    rw stopped.0 (record { rose = stopped.1; named = sym stopped.2; turn = λ folder is. model_missing (found_in names folder) })
+model_read_stops names files End.Memory stopped = tt
+model_read_stops names files (End.Model _) stopped = absurd stopped
+model_read_stops names files (End.Plan _) stopped = absurd stopped
+model_read_stops names files End.Write stopped = absurd stopped
+
+-- the experiment's read stops
+pub experiment_read_stops : (names : Names) (before between after : ℕ) (last : List ℕ) (known now : Option Folder) (model : List ℕ) (end : End)
+    → before ≤ between → now ≡ known → Got names.model known model
+    → Reads Role.Experiment names.experiment (record { faults_before = between; faults_after = after; last_fault = last; folder = now }) (Err end)
+    → Gathers names (record { faults_before = before; faults_after = after; last_fault = last; folder = known }) (Err end)
+experiment_read_stops names before between after last known now model (End.Read at) later same got stopped =
+    rw stopped.0 (record {
+      rose = omega (arith, stopped.1);
+      named = sym stopped.2;
+      turn = λ folder is. let read = IsRead-read_of names.model FILE_LIMIT folder model (got folder is) in experiment_missing (found_in names folder) read.whole read.there;
+    })
+experiment_read_stops names before between after last known now model End.Memory later same got stopped = tt
+experiment_read_stops names before between after last known now model (End.Model _) later same got stopped = absurd stopped
+experiment_read_stops names before between after last known now model (End.Plan _) later same got stopped = absurd stopped
+experiment_read_stops names before between after last known now model End.Write later same got stopped = absurd stopped
+
+-- the experiment has a fault
+pub experiment_stops : (names : Names) (files : Asked) (model text : List ℕ) (end : End)
+    → Got names.model files.folder model → Got names.experiment files.folder text
+    → ExperimentSays text (Err end) → Gathers names files (Err end)
+experiment_stops names files model text (End.Plan fault) got_model got_text says = λ folder is.
+    let read_model = IsRead-read_of names.model FILE_LIMIT folder model (got_model folder is) in
+    let read_text = IsRead-read_of names.experiment FILE_LIMIT folder text (got_text folder is) in
+    experiment_bad (found_in names folder) read_model.whole read_text.whole fault read_model.there read_text.there (experiment_whole_says names.experiment text folder (Err fault) (got_text folder is) says)
+experiment_stops names files model text End.Memory got_model got_text says = tt
+experiment_stops names files model text (End.Read _) got_model got_text says = absurd says
+experiment_stops names files model text (End.Model _) got_model got_text says = absurd says
+experiment_stops names files model text End.Write got_model got_text says = absurd says
+
+-- the model has a fault
+pub model_stops : (names : Names) (files : Asked) (model text : List ℕ) (fields : Fields) (end : End)
+    → Got names.model files.folder model → Got names.experiment files.folder text
+    → experiment_says text ≡ Ok fields → ModelSays model (Err end) → Gathers names files (Err end)
+model_stops names files model text fields (End.Model fault) got_model got_text said says = λ folder is.
+    let read_model = IsRead-read_of names.model FILE_LIMIT folder model (got_model folder is) in
+    let read_text = IsRead-read_of names.experiment FILE_LIMIT folder text (got_text folder is) in
+    model_bad (found_in names folder) read_model.whole read_text.whole fields fault read_model.there read_text.there
+    (experiment_whole_says names.experiment text folder (Ok fields) (got_text folder is) said) (model_whole_says names.model model folder (Err fault) (got_model folder is) says)
+model_stops names files model text fields End.Memory got_model got_text said says = tt
+model_stops names files model text fields (End.Read _) got_model got_text said says = absurd says
+model_stops names files model text fields (End.Plan _) got_model got_text said says = absurd says
+model_stops names files model text fields End.Write got_model got_text said says = absurd says
+
+-- both inputs have said what they say
+pub inputs_said : (names : Names) (known : Option Folder) (model text : List ℕ) (fields : Fields) (walkers : Walkers)
+    → Got names.model known model → Got names.experiment known text
+    → experiment_says text ≡ Ok fields → model_says model ≡ Ok walkers
+    → ForSome known (λ folder. job_of (found_in names folder) ≡ Ok (record { fields = fields; model = walkers }))
+inputs_said names known model text fields walkers got_model got_text said walks folder is =
+    let read_model = IsRead-read_of names.model FILE_LIMIT folder model (got_model folder is) in
+    let read_text = IsRead-read_of names.experiment FILE_LIMIT folder text (got_text folder is) in
+    all_said (found_in names folder) read_model.whole read_text.whole fields walkers read_model.there read_text.there
+    (experiment_whole_says names.experiment text folder (Ok fields) (got_text folder is) said) (model_whole_says names.model model folder (Ok walkers) (got_model folder is) walks)

@@ -1,0 +1,10 @@
+pub mod Forms
+pub mod Keys
+pub mod Items
+pub mod Costs
+pub mod PutSteps
+pub mod LineText
+pub mod Reading
+pub mod CourseSteps
+pub mod GatherSteps
+pub mod Outcomes

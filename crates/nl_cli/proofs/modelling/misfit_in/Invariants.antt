@@ -1,0 +1,8 @@
+use Rattle.std.proofs.Common.{◌≡◌, map}
+use Rattle.nl_cli.specs.ModelForm.{misfit, slot_of}
+use Rattle.nl_cli.proofs.Forms.{left_from}
+use Rattle.nl_cli.proofs.modelling.misfit_in.Given as goal
+
+-- the tokens so far fit
+abbrev pub invariant-slots : goal.invariant-slots
+invariant-slots l = left_from l.text l.slots l.tokens l.at ≡ misfit l.text (map slot_of l.slots) l.tokens

@@ -1,0 +1,9 @@
+pub mod Steps
+pub mod Words
+pub mod ModelForm
+pub mod ExperimentFile
+pub mod Course
+pub mod TableText
+pub mod Answer
+pub mod Outcome
+pub mod Stages

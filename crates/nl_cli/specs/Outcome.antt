@@ -1,0 +1,78 @@
+-- What a call of the program did, by the status that it ended with.
+use Rattle.std.specs.Prelude.{◌≡◌, ◌⊎◌, ℕ, List, [], Option, Some, None}
+use Rattle.std.specs.Option.{ForSome, option_map}
+use Rattle.nl_outer.specs.Bytes.{Appended, PartAppended}
+use Rattle.nl_outer.specs.Faults.{Rose}
+use Rattle.nl_outer.specs.Folder.{Folder}
+use Rattle.nl_cli.specs.declared.words.Role.{Role}
+use Rattle.nl_cli.specs.declared.ends.Status.{Status}
+use Rattle.nl_cli.specs.Words.{names_of, path_of}
+use Rattle.nl_cli.specs.Answer.{Answer, answer_of, answer_without, read_answer, cannot_read, usage_line, memory_line, write_line}
+
+-- what a call left of the files that it was handed
+pub record Asked : Type 0 where
+  pub faults_before : ℕ
+  pub faults_after : ℕ
+  pub last_fault : List ℕ
+  pub folder : Option Folder
+
+abbrev pub asked : {F : Type 0} → (F → ℕ) → (F → List ℕ) → (F → Option Folder) → F → F → Asked
+asked faults last_fault folder old new =
+    record { faults_before = faults old; faults_after = faults new; last_fault = last_fault new; folder = folder old }
+
+-- what a call left of a sink that it was handed
+pub record Given : Type 0 where
+  pub faults_before : ℕ
+  pub faults_after : ℕ
+  pub before : Option (List ℕ)
+  pub after : Option (List ℕ)
+
+abbrev pub given : {S : Type 0} → (S → ℕ) → (S → Option (List ℕ)) → S → S → Given
+given faults written old new =
+    record { faults_before = faults old; faults_after = faults new; before = written old; after = written new }
+
+-- the sink was given these bytes, or a prefix of them where its count of faults rose
+abbrev pub Gets : List ℕ → Given → Type 0
+Gets line sink = Appended sink.before sink.after line
+    ⊎ (Rose sink.faults_before sink.faults_after × PartAppended sink.before sink.after line)
+
+-- the status, the bytes and the line are those of an answer
+pub record Answered (answer : Answer) (out err : Given) (status : Status) : Type 0 where
+  pub same_status : status ≡ answer.status
+  pub bytes : Appended out.before out.after answer.bytes
+  pub line : Gets answer.line err
+
+-- a read failed at a file whose turn had come: were that read to fail, the answer would be this one
+pub record ReadFailed (words : List (List ℕ)) (files : Asked) (out err : Given) : Type 0 where
+  pub rose : Rose files.faults_before files.faults_after
+  pub nothing : Appended out.before out.after []
+  pub role : Role
+  pub named : option_map (λ names. path_of names role) (names_of words) ≡ Some files.last_fault
+  pub turn : ForSome files.folder (λ folder. answer_without role words folder ≡ read_answer files.last_fault)
+  pub line : Gets (cannot_read files.last_fault) err
+
+-- a write failed, at a table that is defined
+pub record WriteFailed (words : List (List ℕ)) (files : Asked) (out err : Given) : Type 0 where
+  pub rose : Rose out.faults_before out.faults_after
+  pub bytes : ForSome files.folder (λ folder. ((answer_of words folder).status ≡ Status.Done)
+      × PartAppended out.before out.after (answer_of words folder).bytes)
+  pub line : Gets write_line err
+
+-- memory was refused
+pub record MemoryWanted (words : List (List ℕ)) (files : Asked) (out err : Given) : Type 0 where
+  pub bytes : ForSome files.folder (λ folder. PartAppended out.before out.after (answer_of words folder).bytes)
+  pub line : Gets memory_line err
+
+-- what the call did, by its status
+abbrev pub Outcome : List (List ℕ) → Asked → Given → Given → Status → Type 0
+Outcome words files out err Status.Read = ReadFailed words files out err
+Outcome words files out err Status.Write = WriteFailed words files out err
+Outcome words files out err Status.Memory = MemoryWanted words files out err
+Outcome words files out err Status.Usage = (names_of words ≡ None) × Appended out.before out.after [] × Gets usage_line err
+Outcome words files out err status = ForSome files.folder (λ folder. Answered (answer_of words folder) out err status)
+
+-- where the answer over the folder is Done and neither reads nor writes fail, the status is Done, or memory was refused
+abbrev pub Complete : List (List ℕ) → Asked → Given → Status → Type 0
+Complete words files out status = ForSome files.folder (λ folder. (answer_of words folder).status ≡ Status.Done
+    → ¬ Rose files.faults_before files.faults_after → ¬ Rose out.faults_before out.faults_after
+    → (status ≡ Status.Done) ⊎ (status ≡ Status.Memory))

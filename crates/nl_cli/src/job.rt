@@ -1,0 +1,74 @@
+//! What the inputs say.
+ghost use Rattle.std.specs.Prelude.{◌≡◌, ◌≤◌, ◌+◌, length, true, IfOk};
+ghost use Rattle.nl_cli.specs.Outcome.{asked};
+ghost use Rattle.nl_cli.specs.Stages.{ExperimentSays, Gathers, IsSmall, ModelSays, Reads};
+ghost use Rattle.nl_cli.specs.Words.{AllServed, names_in};
+
+use crate::ends::End;
+use crate::modelling::{ModelRefusal, Walkers, read_model};
+use crate::planning::{Fields, PlanRefusal, read_experiment};
+use crate::words::{Named, Role};
+use crate::{FILE_LIMIT, MOST_BUDGET};
+use nl_outer::{Files, ReadFail};
+use std::alloc::Global;
+
+/// A table that is to be written.
+#[derive(Drop)]
+pub struct Job {
+    pub fields: Fields,
+    pub model: Walkers,
+}
+
+// The bytes of one input, or one more than the limit.
+pub(crate) fn read_input<F: Files>(
+    alloc: Global,
+    files: &mut F,
+    role: Role,
+    path: &str,
+) -> Result<Vec<u8>, End>
+    requires { F.serves files.old path.now ≡ true }
+    ensures outcome { Reads role path.now (asked F.faults F.last_fault F.folder files.old files.new) result }
+    ensures later { F.faults files.old ≤ F.faults files.new }
+    ensures same_folder { F.folder files.new ≡ F.folder files.old }
+    ensures same_paths { F.serves files.new ≡ F.serves files.old }
+{
+    match files.read_file(alloc, path, FILE_LIMIT) {
+        Ok(bytes) => Ok(bytes),
+        Err(ReadFail::Failed) => Err(End::Read(role)),
+        Err(ReadFail::NoMemory) => Err(End::Memory),
+    }
+}
+
+fn fields_of(alloc: Global, text: &[u8]) -> Result<Fields, End>
+    requires { length text.now ≤ FILE_LIMIT + 1 }
+    ensures { ExperimentSays text.now result }
+{
+    match read_experiment(alloc, text) {
+        Ok(fields) => Ok(fields),
+        Err(PlanRefusal::Fault(fault)) => Err(End::Plan(fault)),
+        Err(PlanRefusal::NoMemory) => Err(End::Memory),
+    }
+}
+
+fn model_of(alloc: Global, text: &[u8]) -> Result<Walkers, End>
+    requires { length text.now ≤ FILE_LIMIT + 1 }
+    ensures { ModelSays text.now result }
+{
+    match read_model(alloc, text) {
+        Ok(model) => Ok(model),
+        Err(ModelRefusal::Fault(fault)) => Err(End::Model(fault)),
+        Err(ModelRefusal::NoMemory) => Err(End::Memory),
+    }
+}
+
+/// Reads the inputs, and says what they say.
+pub fn gather<F: Files>(alloc: Global, named: &Named<'_>, files: &mut F) -> Result<Job, End>
+    requires { AllServed (F.serves files.old) (names_in named.now) }
+    ensures { Gathers (names_in named.now) (asked F.faults F.last_fault F.folder files.old files.new) result }
+{
+    let model_text = read_input(alloc, files, Role::Model, named.model)?;
+    let experiment_text = read_input(alloc, files, Role::Experiment, named.experiment)?;
+    let fields = fields_of(alloc, experiment_text.as_slice())?;
+    let model = model_of(alloc, model_text.as_slice())?;
+    Ok(Job { fields, model })
+}

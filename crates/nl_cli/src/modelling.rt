@@ -1,0 +1,218 @@
+//! The form of a model that runs today.
+ghost use Rattle.std.specs.Prelude.{◌≡◌, ◌≤◌, ◌+◌, ◌<◌, ℕ, length, IfSome, IfOk, slice_get, map};
+ghost use Rattle.std.specs.Option.{option_map};
+ghost use Rattle.nl_scan.specs.Tokens.{AreInOrder};
+ghost use Rattle.nl_cli.specs.ModelForm.{ModelGives, bytes_of, fault_at, fits, form, is_digit, misfit, model_says, number_at, number_of, slot_of, is_word_in_any_case};
+
+use crate::FILE_LIMIT;
+use nl_scan::{Lexeme, ScanKind, ScanRefusal, Token, line_column, scan};
+use std::alloc::Global;
+use std::fmt;
+
+/// A model of the form: how many turtles `setup` makes, and how far `go` moves each.
+#[derive(Clone, Copy, Debug, PartialEq, Eq)]
+pub struct Walkers {
+    pub births: u64,
+    pub distance: u64,
+}
+
+/// What is wrong with a model.
+#[derive(Clone, Copy, Debug, PartialEq, Eq)]
+pub enum ModelKind {
+    Scan(ScanKind),
+    /// The text isn't of the form that runs today.
+    NotBuilt,
+}
+
+/// The first fault of a model, with its line and its column, both from 1.
+#[derive(Clone, Copy, Debug, PartialEq, Eq)]
+pub struct ModelFault {
+    pub kind: ModelKind,
+    pub line: u64,
+    pub column: u64,
+}
+
+/// Why a text is no model.
+#[derive(Clone, Copy, Debug, PartialEq, Eq)]
+pub enum ModelRefusal {
+    Fault(ModelFault),
+    NoMemory,
+}
+
+impl fmt::Display for ModelKind {
+    ghost use Rattle.nl_cli.specs.Answer.{model_kind_text};
+    ghost use Rattle.std.specs.Prelude.{Some};
+
+    ghost output = { λ kind. Some (model_kind_text kind) };
+
+    fn fmt<W: fmt::Write>(&self, f: &mut fmt::Formatter<W>) -> fmt::Result {
+        match self {
+            ModelKind::Scan(ScanKind::TooLong) => write!(f, "TooLong"),
+            ModelKind::Scan(ScanKind::BadChar) => write!(f, "BadChar"),
+            ModelKind::NotBuilt => write!(f, "NotBuilt"),
+        }
+    }
+}
+
+/// What a token of the form has to be.
+#[derive(Clone, Copy)]
+pub(crate) enum Slot {
+    /// This word, in any case of letters.
+    Word(&'static str),
+    /// A word of one to four digits, of at most 1,000.
+    Digits,
+    Opening,
+    Closing,
+}
+
+/// `to setup cro A end to go ask turtles [ fd B ] end`
+pub(crate) const FORM: [Slot; 14] = [
+    Slot::Word("to"),
+    Slot::Word("setup"),
+    Slot::Word("cro"),
+    Slot::Digits,
+    Slot::Word("end"),
+    Slot::Word("to"),
+    Slot::Word("go"),
+    Slot::Word("ask"),
+    Slot::Word("turtles"),
+    Slot::Opening,
+    Slot::Word("fd"),
+    Slot::Digits,
+    Slot::Closing,
+    Slot::Word("end"),
+];
+
+// Where the two numbers stand in the form.
+const BIRTHS_AT: usize = 3;
+
+const DISTANCE_AT: usize = 11;
+
+// The token at a place, counted from 0.
+fn token_at(tokens: &[Token], at: usize) -> Option<Token>
+    ensures { result ≡ slice_get tokens.now at }
+{
+    tokens.get(at).copied()
+}
+
+// The bytes of a token.
+fn token_bytes<'a>(text: &'a [u8], token: &Token) -> &'a [u8]
+    requires { token.now.span.start + token.now.span.len ≤ length text.now }
+    ensures { result.now ≡ bytes_of text.now token.now }
+{
+    let start = token.span.start as usize;
+    &text[start..start + token.span.len as usize]
+}
+
+// The number of a word of one to four digits, where it is at most 1,000.
+fn word_number(bytes: &[u8]) -> Option<u64>
+    ensures is { result ≡ number_of bytes.now }
+    ensures small { IfSome result (λ number. number ≤ 1000) }
+{
+    if bytes.is_empty() || bytes.len() > 4 {
+        return None;
+    }
+    let mut number = 0u64;
+    'digits: for byte in bytes {
+        if !byte.is_ascii_digit() {
+            return None;
+        }
+        number = 10 * number + u64::from(*byte - b'0');
+    }
+    if number <= 1000 { Some(number) } else { None }
+}
+
+// Whether two words are the same in lower case.
+fn is_same_word(bytes: &[u8], name: &str) -> bool
+    ensures { result ≡ is_word_in_any_case name.now bytes.now }
+{
+    bytes.eq_ignore_ascii_case(name.as_bytes())
+}
+
+// Whether a token is what the form has there.
+fn is_fitting(slot: &Slot, lexeme: Lexeme, bytes: &[u8]) -> bool
+    ensures { result ≡ fits (slot_of slot.now) lexeme bytes.now }
+{
+    match (slot, lexeme) {
+        (Slot::Word(name), Lexeme::Word) => is_same_word(bytes, name),
+        (Slot::Digits, Lexeme::Word) => word_number(bytes).is_some(),
+        (Slot::Opening, Lexeme::Open) => true,
+        (Slot::Closing, Lexeme::Close) => true,
+        _ => false,
+    }
+}
+
+// The byte at which the first token stands that the slots have no place for, or of none the text's end.
+fn misfit_in(slots: &[Slot], text: &[u8], tokens: &[Token]) -> Option<u32>
+    requires few { length slots.now < 100 }
+    requires short { length text.now ≤ FILE_LIMIT + 1 }
+    requires order { AreInOrder 0 (length text.now) tokens.now }
+    ensures { result ≡ misfit text.now (map slot_of slots.now) tokens.now }
+{
+    'slots: for (at, slot) in slots.iter().enumerate() {
+        let Some(token) = token_at(tokens, at) else {
+            return Some(text.len() as u32);
+        };
+        if !is_fitting(slot, token.lexeme, token_bytes(text, &token)) {
+            return Some(token.span.start);
+        }
+    }
+    match token_at(tokens, slots.len()) {
+        Some(token) => Some(token.span.start),
+        None => None,
+    }
+}
+
+// The same against the form.
+fn first_misfit(text: &[u8], tokens: &[Token]) -> Option<u32>
+    requires short { length text.now ≤ FILE_LIMIT + 1 }
+    requires order { AreInOrder 0 (length text.now) tokens.now }
+    ensures { result ≡ misfit text.now form tokens.now }
+{
+    misfit_in(&FORM, text, tokens)
+}
+
+// The number at a place of the form.
+fn number_in(text: &[u8], tokens: &[Token], at: usize) -> u64
+    requires { AreInOrder 0 (length text.now) tokens.now }
+    ensures is { result ≡ number_at text.now tokens.now at }
+    ensures small { result ≤ 1000 }
+{
+    match token_at(tokens, at) {
+        Some(token) => word_number(token_bytes(text, &token)).unwrap_or(0),
+        None => 0,
+    }
+}
+
+// A fault with its line and column.
+fn fault(text: &[u8], kind: ModelKind, place: u32) -> ModelFault
+    ensures { result ≡ fault_at text.now kind place }
+{
+    let (line, column) = line_column(text, place);
+    ModelFault { kind, line, column }
+}
+
+/// The model that a text is, of which there are all bytes or one more than the limit.
+#[tactic(auto, unfolding(crate::specs::ModelForm::model_says))]
+pub fn read_model(alloc: Global, text: &[u8]) -> Result<Walkers, ModelRefusal>
+    requires { length text.now ≤ FILE_LIMIT + 1 }
+    ensures says { ModelGives (model_says text.now) result }
+    ensures few { IfOk result (λ model. model.births ≤ 1000) }
+    ensures near { IfOk result (λ model. model.distance ≤ 1000) }
+{
+    let tokens = match scan(alloc, text) {
+        Ok(tokens) => tokens,
+        Err(ScanRefusal::Fault { kind, place }) => {
+            return Err(ModelRefusal::Fault(fault(text, ModelKind::Scan(kind), place)));
+        }
+        Err(ScanRefusal::NoMemory) => return Err(ModelRefusal::NoMemory),
+    };
+    let tokens = tokens.as_slice();
+    match first_misfit(text, tokens) {
+        Some(place) => Err(ModelRefusal::Fault(fault(text, ModelKind::NotBuilt, place))),
+        None => Ok(Walkers {
+            births: number_in(text, tokens, BIRTHS_AT),
+            distance: number_in(text, tokens, DISTANCE_AT),
+        }),
+    }
+}
