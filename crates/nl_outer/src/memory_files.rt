@@ -93,10 +93,7 @@ impl Files for MemFiles {
         ensures after_want { IsErrOf result ReadFail.NoMemory → self.new ≡ after_read self.old }
     {
         self.calls = self.calls.saturating_add(1);
-        let place = match Str::of(alloc, path.as_bytes()) {
-            Ok(place) => place,
-            Err(NoMemory) => return Err(ReadFail::NoMemory),
-        };
+        let place = Str::of(alloc, path.as_bytes())?;
         let is_listed = self.failing.contains(&self.calls);
         match folder::content(&self.files, path) {
             Some(bytes) if !is_listed => folder::first_bytes(alloc, bytes, most),
