@@ -106,3 +106,6 @@ fn read_on<F: Read>(alloc: Global, file: &mut F, most: u64) -> Result<Vec<u8>, R
     }
     Err(ReadFail::Failed)
 }
+
+#[cfg(test)]
+mod tests;

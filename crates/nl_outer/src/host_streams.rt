@@ -14,25 +14,19 @@ struct Stream<W: Write + Drop> {
     faults: u64,
 }
 
-impl<W: Write + Drop> Model for Stream<W> {
-    ghost use Rattle.std.specs.Prelude.{ℕ};
-
-    ghost Value = { ℕ };
-
-    ghost view = { λ s. s.faults };
-}
-
 impl<W: Write + Drop> Stream<W> {
     fn new(to: W) -> Stream<W>
-        ensures { result ≡ 0 }
+        ensures { result.faults ≡ 0 }
     {
         Stream { to, faults: 0 }
     }
 
     fn put(&mut self, bytes: &[u8]) -> Result<(), WriteFail>
-        ensures ok { OnOk result (self.new ≡ self.old) }
-        ensures err { OnErr result (self.new ≡ counted self.old) }
-        ensures later { self.old ≤ self.new }
+        ensures whole { OnOk result (Appends (W.contents self.old.to) (W.contents self.new.to) bytes.now) }
+        ensures part { (kept : ℕ) × Appends (W.contents self.old.to) (W.contents self.new.to) (take kept bytes.now) }
+        ensures ok { OnOk result (self.new.faults ≡ self.old.faults) }
+        ensures err { OnErr result (self.new.faults ≡ counted self.old.faults) }
+        ensures later { self.old.faults ≤ self.new.faults }
     {
         if write_whole(&mut self.to, bytes) {
             return Ok(());
@@ -74,7 +68,7 @@ impl<W: Write + Drop> Model for HostOut<W> {
 
     ghost Value = { ℕ };
 
-    ghost view = { λ s. s.stream };
+    ghost view = { λ s. s.stream.faults };
 }
 
 impl<W: Write + Drop> HostOut<W> {
@@ -113,7 +107,7 @@ impl<W: Write + Drop> Model for HostErr<W> {
 
     ghost Value = { ℕ };
 
-    ghost view = { λ s. s.stream };
+    ghost view = { λ s. s.stream.faults };
 }
 
 impl<W: Write + Drop> HostErr<W> {
@@ -140,3 +134,6 @@ impl<W: Write + Drop> Sink for HostErr<W> {
         self.stream.put(bytes)
     }
 }
+
+#[cfg(test)]
+mod tests;

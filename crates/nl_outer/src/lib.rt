@@ -17,3 +17,6 @@ pub use host_streams::{HostErr, HostOut};
 pub use memory_files::MemFiles;
 pub use memory_sink::MemSink;
 pub use sinks::{Sink, WriteFail};
+
+#[cfg(test)]
+mod tests;
