@@ -16,7 +16,8 @@ struct Stream<W: Write + Drop> {
 
 impl<W: Write + Drop> Stream<W> {
     fn new(to: W) -> Stream<W>
-        ensures { result.faults ≡ 0 }
+        ensures writer { result.to ≡ to }
+        ensures faults { result.faults ≡ 0 }
     {
         Stream { to, faults: 0 }
     }
@@ -64,17 +65,18 @@ pub struct HostOut<W: Write + Drop> {
 }
 
 impl<W: Write + Drop> Model for HostOut<W> {
-    ghost use Rattle.std.specs.Prelude.{ℕ};
+    ghost use Rattle.nl_outer.specs.Host.{StreamState};
 
-    ghost Value = { ℕ };
+    ghost Value = { StreamState };
 
-    ghost view = { λ s. s.stream.faults };
+    ghost view = { λ s. record { contents = W.contents s.stream.to; faults = s.stream.faults } };
 }
 
 impl<W: Write + Drop> HostOut<W> {
     /// Standard output over this writer, with no faults so far.
     pub fn new(to: W) -> HostOut<W>
-        ensures { result ≡ 0 }
+        ensures contents { result.contents ≡ W.contents to }
+        ensures faults { result.faults ≡ 0 }
     {
         HostOut {
             stream: Stream::new(to),
@@ -83,14 +85,18 @@ impl<W: Write + Drop> HostOut<W> {
 }
 
 impl<W: Write + Drop> Sink for HostOut<W> {
-    ghost faults = { λ s. s };
+    ghost faults = { λ s. s.faults };
 
     ghost written = { λ _. None };
 
     fn put(&mut self, bytes: &[u8]) -> Result<(), WriteFail>
-        ensures whole { OnOk result (self.new ≡ self.old) }
-        ensures cause { OnErr result (self.new ≡ counted self.old) }
-        ensures later { self.old ≤ self.new }
+        ensures ok { OnOk result (self.new.faults ≡ self.old.faults) }
+        ensures err { OnErr result (self.new.faults ≡ counted self.old.faults) }
+        ensures later { self.old.faults ≤ self.new.faults }
+
+        // Where the writer tells its bytes: all of the piece went there, or where that failed a prefix.
+        ensures whole { OnOk result (Appends self.old.contents self.new.contents bytes.now) }
+        ensures part { (kept : ℕ) × Appends self.old.contents self.new.contents (take kept bytes.now) }
     {
         self.stream.put(bytes)
     }
@@ -103,17 +109,18 @@ pub struct HostErr<W: Write + Drop> {
 }
 
 impl<W: Write + Drop> Model for HostErr<W> {
-    ghost use Rattle.std.specs.Prelude.{ℕ};
+    ghost use Rattle.nl_outer.specs.Host.{StreamState};
 
-    ghost Value = { ℕ };
+    ghost Value = { StreamState };
 
-    ghost view = { λ s. s.stream.faults };
+    ghost view = { λ s. record { contents = W.contents s.stream.to; faults = s.stream.faults } };
 }
 
 impl<W: Write + Drop> HostErr<W> {
     /// Standard error over this writer, with no faults so far.
     pub fn new(to: W) -> HostErr<W>
-        ensures { result ≡ 0 }
+        ensures contents { result.contents ≡ W.contents to }
+        ensures faults { result.faults ≡ 0 }
     {
         HostErr {
             stream: Stream::new(to),
@@ -122,14 +129,18 @@ impl<W: Write + Drop> HostErr<W> {
 }
 
 impl<W: Write + Drop> Sink for HostErr<W> {
-    ghost faults = { λ s. s };
+    ghost faults = { λ s. s.faults };
 
     ghost written = { λ _. None };
 
     fn put(&mut self, bytes: &[u8]) -> Result<(), WriteFail>
-        ensures whole { OnOk result (self.new ≡ self.old) }
-        ensures cause { OnErr result (self.new ≡ counted self.old) }
-        ensures later { self.old ≤ self.new }
+        ensures ok { OnOk result (self.new.faults ≡ self.old.faults) }
+        ensures err { OnErr result (self.new.faults ≡ counted self.old.faults) }
+        ensures later { self.old.faults ≤ self.new.faults }
+
+        // Where the writer tells its bytes: all of the piece went there, or where that failed a prefix.
+        ensures whole { OnOk result (Appends self.old.contents self.new.contents bytes.now) }
+        ensures part { (kept : ℕ) × Appends self.old.contents self.new.contents (take kept bytes.now) }
     {
         self.stream.put(bytes)
     }
