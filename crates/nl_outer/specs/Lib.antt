@@ -1,4 +1,5 @@
 pub mod Bytes
 pub mod Faults
 pub mod Folder
+pub mod Host
 pub mod Memory

@@ -1,9 +1,10 @@
 //! Files that are read whole.
+ghost use Rattle.nl_outer.specs.declared.files.ReadFail.TheVariants as ReadFail;
 ghost use Rattle.std.specs.Prelude.{◌≡◌, ℕ, ◌+◌, ◌≤◌, List, Bool, true, length, Option, Some, IfOk, IfSome, IsErrOf};
 ghost use Rattle.nl_outer.specs.Faults.{Rose};
 
-use nl_fixed::Str;
-use std::alloc::Global;
+use nl_fixed::{NoMemory, Str};
+use std::alloc::{AllocError, Global};
 
 /// A file with its path.
 #[derive(Drop)]
@@ -17,6 +18,22 @@ pub struct StoredFile {
 pub enum ReadFail {
     Failed,
     NoMemory,
+}
+
+impl From<NoMemory> for ReadFail {
+    ghost from_gives = { λ _ fail. fail ≡ ReadFail.NoMemory };
+
+    fn from(_refused: NoMemory) -> ReadFail {
+        ReadFail::NoMemory
+    }
+}
+
+impl From<AllocError> for ReadFail {
+    ghost from_gives = { λ _ fail. fail ≡ ReadFail.NoMemory };
+
+    fn from(_refused: AllocError) -> ReadFail {
+        ReadFail::NoMemory
+    }
 }
 
 /// Where files are read from.

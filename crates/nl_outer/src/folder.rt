@@ -34,8 +34,5 @@ pub(crate) fn first_bytes(alloc: Global, bytes: &[u8], most: u64) -> Result<Vec<
         Ok(most) => if most < len { most + 1 } else { len },
         Err(_) => len,
     };
-    match bytes[..end].to_vec(alloc) {
-        Ok(first) => Ok(first),
-        Err(_) => Err(ReadFail::NoMemory),
-    }
+    Ok(bytes[..end].to_vec(alloc)?)
 }

@@ -1,5 +1,5 @@
 //! Files in memory, with faults where they are asked for.
-ghost use Rattle.std.specs.Prelude.{◌≡◌, ◌+◌, ◌≤◌, true, false, length, Some, IfOk, OnOk, OnErr, IsErrOf};
+ghost use Rattle.std.specs.Prelude.{◌≡◌, ◌+◌, ◌≤◌, true, length, Some, IfOk, OnOk, OnErr, IsErrOf, IsTrue, IsFalse};
 ghost use Rattle.nl_outer.specs.Faults.{Rose};
 
 use crate::files::{Files, ReadFail, StoredFile};
@@ -83,9 +83,9 @@ impl Files for MemFiles {
         ensures place { IsErrOf result ReadFail.Failed → self.new.last_fault ≡ path.now }
         ensures later { self.old.faults ≤ self.new.faults }
 
-        // A fault comes exactly where this read is listed or no file has the path, unless memory wants first.
-        ensures is_fault { IsErrOf result ReadFail.Failed → read_fails self.old path.now ≡ true }
-        ensures is_none { OnOk result (read_fails self.old path.now ≡ false) }
+        // A fault comes exactly where this read is listed or no file has the path, unless memory is wanting.
+        ensures only_where { IsErrOf result ReadFail.Failed → IsTrue (read_fails self.old path.now) }
+        ensures exactly { OnOk result (IsFalse (read_fails self.old path.now)) }
 
         // What is left: the files as they were, one more call, and where it failed one more fault.
         ensures after { OnOk result (self.new ≡ after_read self.old) }
@@ -93,10 +93,7 @@ impl Files for MemFiles {
         ensures after_want { IsErrOf result ReadFail.NoMemory → self.new ≡ after_read self.old }
     {
         self.calls = self.calls.saturating_add(1);
-        let place = match Str::of(alloc, path.as_bytes()) {
-            Ok(place) => place,
-            Err(NoMemory) => return Err(ReadFail::NoMemory),
-        };
+        let place = Str::of(alloc, path.as_bytes())?;
         let is_listed = self.failing.contains(&self.calls);
         match folder::content(&self.files, path) {
             Some(bytes) if !is_listed => folder::first_bytes(alloc, bytes, most),

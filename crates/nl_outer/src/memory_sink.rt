@@ -1,5 +1,5 @@
 //! A sink in memory, with faults where they are asked for.
-ghost use Rattle.std.specs.Prelude.{◌≡◌, ◌≤◌, ◌↔◌, true, Some, IfOk, OnOk, OnErr, IsErr};
+ghost use Rattle.std.specs.Prelude.{◌≡◌, ◌≤◌, ◌↔◌, Some, IfOk, OnOk, OnErr, IsErr, IsTrue};
 ghost use Rattle.nl_outer.specs.Bytes.{Appended, PartAppended};
 ghost use Rattle.nl_outer.specs.Faults.{Rose};
 ghost use Rattle.nl_outer.specs.Memory.{listed_kept};
@@ -86,7 +86,7 @@ impl Sink for MemSink {
         ensures later { self.old.faults ≤ self.new.faults }
 
         // It fails exactly where it is listed or passes the room. What fits is appended, at most what it is to keep.
-        ensures fails { IsErr result ↔ (put_fails self.old bytes.now ≡ true) }
+        ensures fails { IsErr result ↔ IsTrue (put_fails self.old bytes.now) }
         ensures after { self.new ≡ after_put self.old bytes.now }
     {
         self.calls = self.calls.saturating_add(1);
