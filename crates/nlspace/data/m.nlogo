@@ -1,0 +1,7 @@
+to setup
+  cro 3
+end
+
+to go
+  ask turtles [ fd 1 ]
+end
