@@ -4,6 +4,7 @@
 pub mod lists;
 pub mod memory;
 pub mod number;
+pub mod sine;
 pub mod span;
 pub mod text;
 

@@ -1,0 +1,2 @@
+pub mod SineTable
+pub mod Angles
