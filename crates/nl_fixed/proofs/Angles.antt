@@ -1,40 +1,27 @@
 -- Angles rounded to whole degrees, and whole degrees mod 360.
-use Rattle.std.proofs.Common.{◌≡◌, ℕ, zero, suc, ◌+◌, ◌-◌, ◌*◌, ◌/◌, ◌%◌, ◌<◌, ◌≤◌, refl, sym, ap, ◌∙◌, subst, arith}
+use Rattle.std.proofs.Common.{◌≡◌, ℕ, zero, suc, ◌+◌, ◌-◌, ◌*◌, ◌/◌, ◌%◌, ◌<◌, ◌≤◌, refl, sym, ap, ◌∙◌, subst, arith, lit<}
 use Rattle.std.proofs.lemmas.Int.{ints}
 use Rattle.std.specs.Prelude.{ℤ, pos, negsuc, ◌+ℤ◌, ◌-ℤ◌, ◌*ℤ◌, ◌≤ℤ◌, ◌<ℤ◌, neg_ℤ, unsigned_abs}
 use Rattle.std.specs.Int.{int_div_euclid, int_rem_euclid}
 use Rattle.nl_fixed.specs.Numbers.{one, rounded_quotient}
+use Rattle.nl_fixed.proofs.Integers.{rounded_low, rounded_high, rounded_only}
 use Rattle.nl_fixed.specs.Sines.{degrees, nearest_degree, in_turn}
 
 -- ---- rounding
 
-halves_is : (z r : ℤ) → (r *ℤ pos 2000000) ≤ℤ z → z <ℤ ((r *ℤ pos 2000000) +ℤ pos 2000000) → int_div_euclid z (pos 2000000) ≡ r
-halves_is (pos a) (pos r) low high = omega (arith, ints)
-halves_is (pos a) (negsuc r) low high = omega (arith, ints)
-halves_is (negsuc a) (pos r) low high = omega (arith, ints)
-halves_is (negsuc a) (negsuc r) low high = omega (arith, ints)
-
-halves_low : (z : ℤ) → (int_div_euclid z (pos 2000000) *ℤ pos 2000000) ≤ℤ z
-halves_low (pos a) = omega (arith, ints)
-halves_low (negsuc a) = omega (arith, ints)
-
-halves_high : (z : ℤ) → z <ℤ ((int_div_euclid z (pos 2000000) *ℤ pos 2000000) +ℤ pos 2000000)
-halves_high (pos a) = omega (arith, ints)
-halves_high (negsuc a) = omega (arith, ints)
-
--- the whole degree within half a degree below and less than half a degree above
-pub nearest_degree_is : (angle r : ℤ) → degrees r ≤ℤ (angle +ℤ pos 500000) → (angle +ℤ pos 500000) <ℤ (degrees r +ℤ pos 1000000) → nearest_degree angle ≡ r
-unfolding nearest_degree rounded_quotient
-nearest_degree_is angle r low high =
-    halves_is (pos 2 *ℤ angle +ℤ pos 1000000) r (omega (arith, ints)) (omega (arith, ints))
-
+-- the nearest whole degree is at most half a degree above the angle, and less than half a degree below it; no other is
 pub nearest_degree_low : (angle : ℤ) → degrees (nearest_degree angle) ≤ℤ (angle +ℤ pos 500000)
-unfolding nearest_degree rounded_quotient
-nearest_degree_low angle = omega (arith, ints, halves_low (pos 2 *ℤ angle +ℤ pos 1000000))
+unfolding nearest_degree
+nearest_degree_low angle = omega (arith, ints, rounded_high angle one (lit< tt))
 
-pub nearest_degree_high : (angle : ℤ) → (angle +ℤ pos 500000) <ℤ (degrees (nearest_degree angle) +ℤ pos 1000000)
-unfolding nearest_degree rounded_quotient
-nearest_degree_high angle = omega (arith, ints, halves_high (pos 2 *ℤ angle +ℤ pos 1000000))
+pub nearest_degree_high : (angle : ℤ) → (angle +ℤ pos 500000) <ℤ (degrees (nearest_degree angle) +ℤ pos one)
+unfolding nearest_degree
+nearest_degree_high angle = omega (arith, ints, rounded_low angle one (lit< tt))
+
+pub nearest_degree_is : (angle d : ℤ) → degrees d ≤ℤ (angle +ℤ pos 500000) → (angle +ℤ pos 500000) <ℤ (degrees d +ℤ pos one) → nearest_degree angle ≡ d
+unfolding nearest_degree
+nearest_degree_is angle d low high =
+    sym (rounded_only angle one d (lit< tt) (omega (arith, ints)) (omega (arith, ints)))
 
 -- whole degrees are their own nearest ones
 pub nearest_degree-degrees : (d : ℤ) → nearest_degree (degrees d) ≡ d
@@ -43,7 +30,7 @@ nearest_degree-degrees d = nearest_degree_is (degrees d) d (omega (arith, ints))
 pub nearest_degree-add : (angle d : ℤ) → nearest_degree (angle +ℤ degrees d) ≡ nearest_degree angle +ℤ d
 nearest_degree-add angle d =
     let low : degrees (nearest_degree angle) ≤ℤ (angle +ℤ pos 500000) = nearest_degree_low angle in
-    let high : (angle +ℤ pos 500000) <ℤ (degrees (nearest_degree angle) +ℤ pos 1000000) = nearest_degree_high angle in
+    let high : (angle +ℤ pos 500000) <ℤ (degrees (nearest_degree angle) +ℤ pos one) = nearest_degree_high angle in
     nearest_degree_is (angle +ℤ degrees d) (nearest_degree angle +ℤ d) (omega (arith, ints)) (omega (arith, ints))
 
 -- ---- turns

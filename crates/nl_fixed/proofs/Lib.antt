@@ -1,2 +1,3 @@
-pub mod SineTable
 pub mod Angles
+pub mod Integers
+pub mod SineTable
