@@ -27,7 +27,7 @@ table_passes : is_table SINES ≡ true
 unfolding is_table same climbs sines
 table_passes = refl
 
-both : (a b : Bool) → (a && b) ≡ true → (a ≡ true) × (b ≡ true)
+pub both : (a b : Bool) → (a && b) ≡ true → (a ≡ true) × (b ≡ true)
 both true b h = (refl, h)
 both false b h = cc
 

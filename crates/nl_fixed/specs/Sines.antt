@@ -56,9 +56,28 @@ tangent_of angle = quotient_of (sine_of angle) (cosine_of angle)
 
 -- ---- the arctangent
 
+-- every number below n passes a test
+unfoldable pub every : (ℕ → Bool) → ℕ → Bool
+every test zero = true
+every test (suc n) = test n && every test n
+
+-- the least number from k on that passes a test, among n numbers; k + n where none does
+unfoldable pub least_from : (ℕ → Bool) → ℕ → ℕ → ℕ
+least_from test k zero = k
+least_from test k (suc n) = if test k then k else least_from test (suc k) n
+
 -- how far the point (x, y) reaches in the direction of d degrees, with 0 along y and 90 along x
 unfoldable pub reach : ℤ → ℤ → ℕ → ℤ
 reach x y d = (x *ℤ sine_of (degrees (pos d))) +ℤ (y *ℤ cosine_of (degrees (pos d)))
+
+-- (x, y) reaches nowhere farther than in the direction of d
+abbrev pub is_greatest : ℤ → ℤ → ℕ → Bool
+is_greatest x y d = every (λ e. int_le (reach x y e) (reach x y d)) 360
+
+-- the angle of a point seen from 0 0: the least whole degree in whose direction it reaches farthest
+unfoldable pub heading_of : ℤ → ℤ → Result ℤ NumFault
+heading_of (pos zero) (pos zero) = Err Domain
+heading_of x y = Ok (degrees (pos (least_from (is_greatest x y) 0 360)))
 
 -- d is the least whole degree from 0 to 359 in whose direction (x, y) reaches farthest
 pub record IsArctangent (x y : ℤ) (d : ℕ) : Type 0 where
