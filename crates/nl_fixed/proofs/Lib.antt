@@ -1,1 +1,3 @@
 pub mod Integers
+pub mod Signs
+pub mod Wide
