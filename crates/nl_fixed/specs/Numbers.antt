@@ -29,7 +29,7 @@ abbrev pub number_at : ℤ → Option ℤ
 number_at count = if in_range count then Some count else None
 
 -- a result of so many millionths: out of range it is Overflow
-abbrev pub as_number : ℤ → Result ℤ NumFault
+unfoldable pub as_number : ℤ → Result ℤ NumFault
 as_number count = if in_range count then Ok count else Err Overflow
 
 -- what comes of a result and of a next step, which is taken only where the result is no fault

@@ -1,6 +1,7 @@
 //! The base of every crate: want of memory, texts, places in a text, lists of texts, and fixed-point numbers.
 #![tactic(auto)]
 
+pub mod arithmetic;
 pub mod lists;
 pub mod memory;
 pub mod number;
