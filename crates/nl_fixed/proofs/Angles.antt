@@ -4,7 +4,7 @@ use Rattle.std.proofs.lemmas.Int.{ints}
 use Rattle.std.specs.Prelude.{ℤ, pos, negsuc, ◌+ℤ◌, ◌-ℤ◌, ◌*ℤ◌, ◌≤ℤ◌, ◌<ℤ◌, neg_ℤ, unsigned_abs}
 use Rattle.std.specs.Int.{int_div_euclid, int_rem_euclid}
 use Rattle.nl_fixed.specs.Numbers.{one, rounded_quotient}
-use Rattle.nl_fixed.proofs.Integers.{rounded_low, rounded_high, rounded_only}
+use Rattle.nl_fixed.proofs.Integers.{floor_low, floor_high, rounded_low, rounded_high, rounded_only}
 use Rattle.nl_fixed.specs.Sines.{degrees, nearest_degree, in_turn}
 
 -- ---- rounding
@@ -68,3 +68,10 @@ in_turn-sub a d h =
     let split : d ≡ (k *ℤ pos 360) +ℤ pos (in_turn d) = in_turn_split d in
     let below : in_turn d < 360 = in_turn_below d in
     in_turn_is (pos a -ℤ d) (pos ((a + (360 - in_turn d)) / 360) -ℤ k -ℤ pos 1) ((a + (360 - in_turn d)) % 360) (omega arith) (omega (arith, ints, split, below))
+
+-- the nearest whole degree is the floor of the angle and a half
+pub nearest_degree-floor : (angle : ℤ) → int_div_euclid (angle +ℤ pos 500000) (pos 1000000) ≡ nearest_degree angle
+nearest_degree-floor angle =
+    sym (nearest_degree_is angle (int_div_euclid (angle +ℤ pos 500000) (pos 1000000))
+      (omega (arith, ints, floor_low (angle +ℤ pos 500000) one (lit< tt)))
+      (omega (arith, ints, floor_high (angle +ℤ pos 500000) one (lit< tt))))

@@ -2,7 +2,8 @@
 use Rattle.std.proofs.Common.{◌≡◌, ◌≢◌, ℕ, zero, suc, ◌+◌, ◌-◌, ◌<◌, ◌≤◌, Bool, true, false, ◌&&◌, cond, refl, sym, ap, ◌∙◌, subst, arith, inl, inr, ⊎_elim, ◌⊎◌}
 use Rattle.std.proofs.lemmas.Bool.{cases_lt}
 use Rattle.std.proofs.lemmas.Int.{ints, by_lt_z}
-use Rattle.std.specs.Prelude.{ℤ, pos, negsuc, ◌≤ℤ◌, ◌<ℤ◌, int_le, Ok}
+use Rattle.std.specs.Prelude.{ℤ, pos, negsuc, ◌≤ℤ◌, ◌<ℤ◌, int_le, int_lt, Ok, Err}
+use Rattle.nl_fixed.specs.declared.number.NumFault.TheVariants.{Domain}
 use Rattle.nl_fixed.specs.Sines.{degrees, reach, every, least_from, is_greatest, heading_of, IsArctangent, ArctangentsAgree}
 use Rattle.nl_fixed.proofs.Turns.{last_or_below, every-at}
 
@@ -38,6 +39,19 @@ best_new x y n d best more = record {
     (λ (l : e ≡ n). rw l (omega (arith, ints))) (last_or_below e n (omega arith));
   first = λ e h. let le : reach x y e ≤ℤ reach x y d = best.greatest e h in omega (arith, ints, le, more);
 }
+
+-- the loop's step, by the code's test
+pub step_new : (x y old here : ℤ) (n d : ℕ) → IsBestBelow x y n d → old ≡ reach x y d → here ≡ reach x y n → int_lt old here ≡ true → IsBestBelow x y (n + 1) n
+step_new x y old here n d best was is more =
+    by_lt_z old here
+    (λ (above : old <ℤ here). best_new x y n d best (omega (arith, ints, was, is, above)))
+    (λ (under : here ≤ℤ old). absurd (let fails : int_lt old here ≡ false = grind (arith, ints) in cc))
+
+pub step_kept : (x y old here : ℤ) (n d : ℕ) → IsBestBelow x y n d → old ≡ reach x y d → here ≡ reach x y n → int_lt old here ≡ false → IsBestBelow x y (n + 1) d
+step_kept x y old here n d best was is less =
+    by_lt_z old here
+    (λ (above : old <ℤ here). absurd (let holds : int_lt old here ≡ true = grind (arith, ints) in cc))
+    (λ (under : here ≤ℤ old). best_kept x y n d best (omega (arith, ints, was, is, under)))
 
 pub best_all : (x y : ℤ) (d : ℕ) → IsBestBelow x y 360 d → IsArctangent x y d
 best_all x y d best = record { below = best.below; greatest = best.greatest; first = best.first }
@@ -110,3 +124,7 @@ heading_of-is (pos zero) (pos (suc y)) d this other = ap (λ n. Ok (degrees (pos
 heading_of-is (pos zero) (negsuc y) d this other = ap (λ n. Ok (degrees (pos n))) (least-is_arctangent (pos zero) (negsuc y) d this)
 heading_of-is (pos (suc x)) y d this other = ap (λ n. Ok (degrees (pos n))) (least-is_arctangent (pos (suc x)) y d this)
 heading_of-is (negsuc x) y d this other = ap (λ n. Ok (degrees (pos n))) (least-is_arctangent (negsuc x) y d this)
+
+pub heading_of-zero : (x y : ℤ) → x ≡ pos 0 → y ≡ pos 0 → Err Domain ≡ heading_of x y
+unfolding heading_of
+heading_of-zero x y is_x is_y = rw (is_x, is_y) refl

@@ -1,7 +1,9 @@
 pub mod Angles
 pub mod Directions
 pub mod Integers
-pub mod SineTable
+pub mod Reaches
 pub mod Signs
+pub mod SineTable
+pub mod Tangents
 pub mod Turns
 pub mod Wide

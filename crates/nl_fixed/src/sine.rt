@@ -1,7 +1,12 @@
 //! Sines, cosines, tangents and the arctangent, over a table of whole degrees.
-ghost use Rattle.std.specs.Prelude.{◌≡◌, ◌≤◌, ◌<◌, ◌*◌, ◌+◌, ℕ, length, pos, neg_ℤ, ◌≤ℤ◌};
+ghost use Rattle.std.specs.Prelude.{◌≡◌, ◌≢◌, ◌≤◌, ◌<◌, ◌*◌, ◌+◌, ℕ, length, pos, neg_ℤ, ◌≤ℤ◌, MatchResult};
 ghost use Rattle.std.specs.List.Sorted.{IsStrictlyIncreasing};
-ghost use Rattle.nl_fixed.specs.Sines.{sines, half_turn_sine, turn_sine};
+ghost use Rattle.nl_fixed.specs.Sines.{sines, half_turn_sine, turn_sine, degrees, nearest_degree, in_turn, sine_of, cosine_of, tangent_of, reach, heading_of, IsUnit, IsArctangent, SinesAreUnits, CosinesAreUnits, SinesRepeat, SinesAreOdd, SinesAreMirrored, CosinesAreSines, CosinesAreEven, ArctangentsAgree};
+
+use crate::number::{Num, NumFault, ONE};
+
+/// How many millionths make a half.
+const HALF: i64 = 500_000;
 
 /// The sines of 0 to 90 degrees, in millionths.
 #[rattlefmt::skip]
@@ -45,12 +50,121 @@ fn half_turn_sine_at(degree: u32) -> u32
 fn turn_sine_at(degree: u32) -> i64
     requires { degree < 360 }
     ensures value { result ≡ turn_sine degree }
-    ensures least { neg_ℤ (pos 1000000) ≤ℤ result }
-    ensures most { result ≤ℤ pos 1000000 }
+    ensures unit { IsUnit result }
 {
     if degree <= 180 {
         i64::from(half_turn_sine_at(degree))
     } else {
         -i64::from(half_turn_sine_at(degree - 180))
     }
+}
+
+/// The whole degree nearest to an angle, a half upwards, and taken mod 360. The angle may be that of a number or its
+/// difference to 90 degrees.
+fn degree_of(angle: i64) -> u32
+    requires low { neg_ℤ (pos 9000000000090000000) ≤ℤ angle }
+    requires high { angle ≤ℤ pos 9000000000090000000 }
+    ensures value { result ≡ in_turn (nearest_degree angle) }
+    ensures below { result < 360 }
+{
+    (angle + HALF).div_euclid(ONE).rem_euclid(360) as u32
+}
+
+/// The sine of an angle, which may be that of a number or its difference to 90 degrees.
+fn sine_at(angle: i64) -> Num
+    requires low { neg_ℤ (pos 9000000000090000000) ≤ℤ angle }
+    requires high { angle ≤ℤ pos 9000000000090000000 }
+    ensures value { result ≡ sine_of angle }
+    ensures unit { IsUnit result }
+{
+    Num {
+        count: turn_sine_at(degree_of(angle)),
+    }
+}
+
+/// How far the point (x, y) reaches in the direction of a whole degree below 360.
+fn reach_at(x: Num, y: Num, degree: u32) -> i128
+    requires { degree < 360 }
+    ensures { result ≡ reach x y degree }
+{
+    let across = i128::from(x.count) * i128::from(turn_sine_at(degree));
+    let along = i128::from(y.count) * i128::from(turn_sine_at((450 - degree) % 360));
+    across + along
+}
+
+/// The least whole degree from 0 to 359 in whose direction the point (x, y) reaches farthest.
+fn direction_of(x: Num, y: Num) -> u32
+    ensures { IsArctangent x y result }
+{
+    let mut best = 0;
+    let mut farthest = reach_at(x, y, 0);
+    for degree in 1..360 {
+        let here = reach_at(x, y, degree);
+        if farthest < here {
+            best = degree;
+            farthest = here;
+        }
+    }
+    best
+}
+
+impl Num {
+    /// The sine of an angle in degrees, by the table at the nearest whole degree, a half upwards.
+    pub fn sin(self) -> Num
+        ensures value { result ≡ sine_of self }
+        ensures unit { IsUnit result }
+    {
+        sine_at(self.count)
+    }
+
+    /// The cosine of an angle in degrees: the sine of 90 degrees minus the angle. That difference is rounded to whole
+    /// degrees, and not the angle, so the cosine of 0.5 is 1.
+    pub fn cos(self) -> Num
+        ensures value { result ≡ cosine_of self }
+        ensures unit { IsUnit result }
+    {
+        sine_at(90 * ONE - self.count)
+    }
+
+    /// The tangent of an angle in degrees: its sine by its cosine, rounded to the nearest millionth. `ZeroDivide` where
+    /// the cosine is 0; no tangent is out of range.
+    pub fn tan(self) -> Result<Num, NumFault>
+        ensures value { result ≡ tangent_of self }
+        ensures outcome { MatchResult result (λ _. cosine_of self ≢ pos 0) (λ fault. (fault ≡ NumFault.ZeroDivide) × (cosine_of self ≡ pos 0)) }
+    {
+        self.sin().div(self.cos())
+    }
+
+    /// The arctangent: the angle in degrees of the point (x, y) seen from 0 0, clockwise from the direction of y. Of the
+    /// whole degrees in whose direction the point reaches farthest it is the least. `Domain` for the point 0 0.
+    pub fn atan(x: Num, y: Num) -> Result<Num, NumFault>
+        ensures value { result ≡ heading_of x y }
+        ensures direction { MatchResult result (λ angle. (d : ℕ) × (angle ≡ degrees (pos d)) × IsArctangent x y d) (λ fault. (fault ≡ NumFault.Domain) × (x ≡ pos 0) × (y ≡ pos 0)) }
+    {
+        if x.count == 0 && y.count == 0 {
+            return Err(NumFault::Domain);
+        }
+        Ok(Num {
+            count: i64::from(direction_of(x, y)) * ONE,
+        })
+    }
+}
+
+/// The laws of sines and cosines: they lie from -1 to 1, a whole turn changes nothing, and at whole degrees the sine is
+/// odd and is that of what is left to 180 degrees, and the cosine is even and the sine of 90 degrees more.
+pub fn sine_laws()
+    ensures sine_unit { SinesAreUnits }
+    ensures cosine_unit { CosinesAreUnits }
+    ensures repeated { SinesRepeat }
+    ensures odd { SinesAreOdd }
+    ensures mirrored { SinesAreMirrored }
+    ensures even { CosinesAreEven }
+    ensures shifted { CosinesAreSines }
+{
+}
+
+/// A point has one arctangent at most.
+pub fn arctangent_law()
+    ensures { ArctangentsAgree }
+{
 }
