@@ -73,5 +73,5 @@ in_turn-sub a d h =
 pub nearest_degree-floor : (angle : ℤ) → int_div_euclid (angle +ℤ pos 500000) (pos 1000000) ≡ nearest_degree angle
 nearest_degree-floor angle =
     sym (nearest_degree_is angle (int_div_euclid (angle +ℤ pos 500000) (pos 1000000))
-      (omega (arith, ints, floor_low (angle +ℤ pos 500000) one (lit< tt)))
-      (omega (arith, ints, floor_high (angle +ℤ pos 500000) one (lit< tt))))
+    (omega (arith, ints, floor_low (angle +ℤ pos 500000) one (lit< tt)))
+    (omega (arith, ints, floor_high (angle +ℤ pos 500000) one (lit< tt))))

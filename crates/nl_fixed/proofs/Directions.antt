@@ -27,7 +27,7 @@ pub best_kept : (x y : ℤ) (n d : ℕ) → IsBestBelow x y n d → reach x y n 
 best_kept x y n d best less = record {
   below = let h : d < n = best.below in omega arith;
   greatest = λ e h.
-    ⊎_elim (λ (l : e < n). best.greatest e l) (λ (l : e ≡ n). rw l less) (last_or_below e n (omega arith));
+      ⊎_elim (λ (l : e < n). best.greatest e l) (λ (l : e ≡ n). rw l less) (last_or_below e n (omega arith));
   first = best.first;
 }
 
@@ -35,8 +35,8 @@ pub best_new : (x y : ℤ) (n d : ℕ) → IsBestBelow x y n d → reach x y d <
 best_new x y n d best more = record {
   below = omega arith;
   greatest = λ e h.
-    ⊎_elim (λ (l : e < n). let le : reach x y e ≤ℤ reach x y d = best.greatest e l in omega (arith, ints, le, more))
-    (λ (l : e ≡ n). rw l (omega (arith, ints))) (last_or_below e n (omega arith));
+      ⊎_elim (λ (l : e < n). let le : reach x y e ≤ℤ reach x y d = best.greatest e l in omega (arith, ints, le, more))
+      (λ (l : e ≡ n). rw l (omega (arith, ints))) (last_or_below e n (omega arith));
   first = λ e h. let le : reach x y e ≤ℤ reach x y d = best.greatest e h in omega (arith, ints, le, more);
 }
 
@@ -61,13 +61,13 @@ pub arctangents_agree : ArctangentsAgree
 arctangents_agree x y d e this other =
     ⊎_elim
     (λ (l : d < e). let less : reach x y d <ℤ reach x y e = other.first d l in
-      let most : reach x y e ≤ℤ reach x y d = this.greatest e other.below in
-      absurd (omega (arith, ints, less, most)))
+    let most : reach x y e ≤ℤ reach x y d = this.greatest e other.below in
+    absurd (omega (arith, ints, less, most)))
     (λ (l : e ≤ d). ⊎_elim
-      (λ (m : e < d). let less : reach x y e <ℤ reach x y d = this.first e m in
-        let most : reach x y d ≤ℤ reach x y e = other.greatest d this.below in
-        absurd (omega (arith, ints, less, most)))
-      (λ (m : d ≤ e). omega arith) (below_or_not e d))
+    (λ (m : e < d). let less : reach x y e <ℤ reach x y d = this.first e m in
+    let most : reach x y d ≤ℤ reach x y e = other.greatest d this.below in
+    absurd (omega (arith, ints, less, most)))
+    (λ (m : d ≤ e). omega arith) (below_or_not e d))
     (below_or_not d e)
 
 -- ---- the least number that passes a test
@@ -94,12 +94,12 @@ least_from-is test k zero d from below passes fails = absurd (omega arith)
 least_from-is test k (suc n) d from below passes fails =
     ⊎_elim
     (λ (l : k < d).
-      let here : test k ≡ false = fails k (omega arith) l in
-      rw here (least_from-is test (suc k) n d (omega arith) (omega arith) passes (λ e h less. fails e (omega arith) less)))
+    let here : test k ≡ false = fails k (omega arith) l in
+    rw here (least_from-is test (suc k) n d (omega arith) (omega arith) passes (λ e h less. fails e (omega arith) less)))
     (λ (l : d ≤ k).
-      let same : d ≡ k = omega arith in
-      let here : test k ≡ true = rw same at passes in
-      rw here (sym same))
+    let same : d ≡ k = omega arith in
+    let here : test k ≡ true = rw same at passes in
+    rw here (sym same))
     (below_or_not k d)
 
 int_le-true : (a b : ℤ) → a ≤ℤ b → int_le a b ≡ true
@@ -112,9 +112,9 @@ least-is_arctangent : (x y : ℤ) (d : ℕ) → IsArctangent x y d → least_fro
 least-is_arctangent x y d this =
     least_from-is (is_greatest x y) 0 360 d (omega arith) (let h : d < 360 = this.below in omega arith)
     (every-true (λ e. int_le (reach x y e) (reach x y d)) 360
-      (λ e h. int_le-true (reach x y e) (reach x y d) (this.greatest e h)))
+    (λ e h. int_le-true (reach x y e) (reach x y d) (this.greatest e h)))
     (λ e low less. every-false (λ f. int_le (reach x y f) (reach x y e)) 360 d this.below
-      (int_le-false (reach x y d) (reach x y e) (this.first e less)))
+    (int_le-false (reach x y d) (reach x y e) (this.first e less)))
 
 -- the heading of a point but 0 0 is its arctangent
 pub heading_of-is : (x y : ℤ) (d : ℕ) → IsArctangent x y d → ((x ≡ pos 0) × (y ≡ pos 0) → ⊥) → heading_of x y ≡ Ok (degrees (pos d))

@@ -17,7 +17,7 @@ word_abs (negsuc n) h = omega (arith, h.sfits)
 product_abs : (x s : ℤ) → FitsSigned w64 x → IsUnit s → unsigned_abs (x *ℤ s) ≤ 9223372036854775808000000
 product_abs x s fits unit =
     let within : unsigned_abs x * unsigned_abs s ≤ 9223372036854775808 * 1000000 =
-        mul-le (unsigned_abs x) (unsigned_abs s) 9223372036854775808 1000000 (word_abs x fits) (unit_abs s unit) in
+    mul-le (unsigned_abs x) (unsigned_abs s) 9223372036854775808 1000000 (word_abs x fits) (unit_abs s unit) in
     omega (arith, within, unsigned_abs-mul x s)
 
 abs-add : (a b : ℤ) → unsigned_abs (a +ℤ b) ≤ unsigned_abs a + unsigned_abs b

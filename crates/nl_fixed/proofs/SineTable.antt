@@ -75,9 +75,9 @@ passes_is : (table : List ℕ) → is_table table ≡ true → IsTable table
 unfolding is_table
 passes_is table h =
     let front : ((same table sines && nat_eq (length table) 91) ≡ true) × (climbs 1000000 table ≡ true) =
-        both (same table sines && nat_eq (length table) 91) (climbs 1000000 table) h in
+    both (same table sines && nat_eq (length table) 91) (climbs 1000000 table) h in
     let pair : (same table sines ≡ true) × (nat_eq (length table) 91 ≡ true) =
-        both (same table sines) (nat_eq (length table) 91) front.0 in
+    both (same table sines) (nat_eq (length table) 91) front.0 in
     let agrees : table ≡ sines = same_is table sines pair.0 in
     let counted : length table ≡ 91 = eqb-true (length table) 91 pair.1 in
     record {
@@ -110,7 +110,7 @@ pub half_turn_sine_bound : (d : ℕ) → half_turn_sine d ≤ 1000000
 unfolding half_turn_sine
 half_turn_sine_bound d =
     elim (nat_le d 90) as (λ b. cond b (get_or sines d 0) (get_or sines (180 - d) 0) ≤ 1000000)
-        [ true ↦ sines_bound d | false ↦ sines_bound (180 - d) ]
+    [ true ↦ sines_bound d | false ↦ sines_bound (180 - d) ]
 
 pub half_turn_sine_low : (d : ℕ) → d ≤ 90 → half_turn_sine d ≡ get_or sines d 0
 unfolding half_turn_sine

@@ -27,15 +27,15 @@ tangent_outcome (Err fault) s (pos zero) unit_s unit_c is = (cc, refl)
 tangent_outcome (Ok t) s (pos (suc c)) unit_s unit_c is = λ e. cc
 tangent_outcome (Err fault) s (pos (suc c)) unit_s unit_c is =
     let fits : as_number (rounded_quotient (s *ℤ pos one) (suc c)) ≡ Ok (rounded_quotient (s *ℤ pos one) (suc c)) =
-        as_number-fits (rounded_quotient (s *ℤ pos one) (suc c))
-        (rounded_size (s *ℤ pos one) (suc c) (omega (arith, ints, unit_s.0, unit_s.1)) (omega (arith, ints, unit_c.1))) in
+    as_number-fits (rounded_quotient (s *ℤ pos one) (suc c))
+    (rounded_size (s *ℤ pos one) (suc c) (omega (arith, ints, unit_s.0, unit_s.1)) (omega (arith, ints, unit_c.1))) in
     let none : Err fault ≡ Ok (rounded_quotient (s *ℤ pos one) (suc c)) = is ∙ fits in
     cc
 tangent_outcome (Ok t) s (negsuc c) unit_s unit_c is = λ e. cc
 tangent_outcome (Err fault) s (negsuc c) unit_s unit_c is =
     let fits : as_number (rounded_quotient (neg_ℤ (s *ℤ pos one)) (suc c)) ≡ Ok (rounded_quotient (neg_ℤ (s *ℤ pos one)) (suc c)) =
-        as_number-fits (rounded_quotient (neg_ℤ (s *ℤ pos one)) (suc c))
-        (rounded_size (neg_ℤ (s *ℤ pos one)) (suc c) (omega (arith, ints, unit_s.0, unit_s.1)) (omega (arith, ints, unit_c.0))) in
+    as_number-fits (rounded_quotient (neg_ℤ (s *ℤ pos one)) (suc c))
+    (rounded_size (neg_ℤ (s *ℤ pos one)) (suc c) (omega (arith, ints, unit_s.0, unit_s.1)) (omega (arith, ints, unit_c.0))) in
     let none : Err fault ≡ Ok (rounded_quotient (neg_ℤ (s *ℤ pos one)) (suc c)) = is ∙ fits in
     cc
 

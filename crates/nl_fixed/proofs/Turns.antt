@@ -76,7 +76,7 @@ turn_sine_unit r =
     let low : half_turn_sine r ≤ 1000000 = half_turn_sine_bound r in
     let high : half_turn_sine (r - 180) ≤ 1000000 = half_turn_sine_bound (r - 180) in
     elim (nat_le r 180) as (λ b. IsUnit (cond b (pos (half_turn_sine r)) (neg_ℤ (pos (half_turn_sine (r - 180))))))
-        [ true ↦ (omega (arith, ints), omega (arith, ints)) | false ↦ (omega (arith, ints), omega (arith, ints)) ]
+    [ true ↦ (omega (arith, ints), omega (arith, ints)) | false ↦ (omega (arith, ints), omega (arith, ints)) ]
 
 pub sines_are_units : SinesAreUnits
 unfolding sine_of
@@ -95,7 +95,7 @@ pub sines_are_odd : SinesAreOdd
 sines_are_odd d =
     let turned : neg_ℤ d ≡ pos 0 -ℤ d = omega (arith, ints) in
     let there : in_turn (neg_ℤ d) ≡ (360 - in_turn d) % 360 =
-        ap in_turn turned ∙ in_turn-sub 0 d (omega arith) ∙ ap (λ n. n % 360) (zero-add (360 - in_turn d)) in
+    ap in_turn turned ∙ in_turn-sub 0 d (omega arith) ∙ ap (λ n. n % 360) (zero-add (360 - in_turn d)) in
     sine_of-degrees (neg_ℤ d) ∙ ap turn_sine there ∙ turn_sine-odd (in_turn d) (in_turn_below d)
     ∙ ap neg_ℤ (sym (sine_of-degrees d))
 
@@ -121,10 +121,10 @@ pub reach-is : (x y : ℤ) (d : ℕ) → d < 360 → reach x y d ≡ (x *ℤ tur
 unfolding reach
 reach-is x y d h =
     let across : sine_of (degrees (pos d)) ≡ turn_sine d =
-        sine_of-degrees (pos d) ∙ ap turn_sine (in_turn-pos d h) in
+    sine_of-degrees (pos d) ∙ ap turn_sine (in_turn-pos d h) in
     let here : in_turn (pos d) ≡ d = in_turn-pos d h in
     let there : (90 + (360 - in_turn (pos d))) % 360 ≡ (450 - d) % 360 = omega arith in
     let along : cosine_of (degrees (pos d)) ≡ turn_sine ((450 - d) % 360) =
-        cosine_of-degrees (pos d) ∙ sine_of-degrees (pos 90 -ℤ pos d)
-        ∙ ap turn_sine (in_turn-sub 90 (pos d) (omega arith) ∙ there) in
+    cosine_of-degrees (pos d) ∙ sine_of-degrees (pos 90 -ℤ pos d)
+    ∙ ap turn_sine (in_turn-sub 90 (pos d) (omega arith) ∙ there) in
     cc

@@ -85,6 +85,13 @@ pub record IsArctangent (x y : ℤ) (d : ℕ) : Type 0 where
   pub greatest : (e : ℕ) → e < 360 → reach x y e ≤ℤ reach x y d
   pub first : (e : ℕ) → e < d → reach x y e <ℤ reach x y d
 
+-- the angle is that of a whole degree, which is the arctangent
+abbrev pub IsHeading : ℤ → ℤ → ℤ → Type 0
+IsHeading x y angle = (d : ℕ) × (angle ≡ degrees (pos d)) × IsArctangent x y d
+
+abbrev pub IsOrigin : ℤ → ℤ → Type 0
+IsOrigin x y = (x ≡ pos 0) × (y ≡ pos 0)
+
 -- ---- laws
 
 -- sines and cosines lie from -1 to 1

@@ -1,7 +1,12 @@
 //! Sines, cosines, tangents and the arctangent, over a table of whole degrees.
-ghost use Rattle.std.specs.Prelude.{◌≡◌, ◌≢◌, ◌≤◌, ◌<◌, ◌*◌, ◌+◌, ℕ, length, pos, neg_ℤ, ◌≤ℤ◌, MatchResult};
+//!
+//! Angles are in degrees, as in the NetLogo Dictionary, and an arctangent runs clockwise from the direction of y. That
+//! only whole degrees count, the table's entries and the choice among directions that reach equally far are this
+//! project's own.
+ghost use Rattle.std.specs.Prelude.{◌≡◌, ◌≢◌, ◌≤◌, ◌<◌, ◌*◌, ◌+◌, length, pos, unsigned_abs, IfOk, MatchResult};
+ghost use Rattle.nl_fixed.specs.Numbers.{one, limit};
 ghost use Rattle.std.specs.List.Sorted.{IsStrictlyIncreasing};
-ghost use Rattle.nl_fixed.specs.Sines.{sines, half_turn_sine, turn_sine, degrees, nearest_degree, in_turn, sine_of, cosine_of, tangent_of, reach, heading_of, IsUnit, IsArctangent, SinesAreUnits, CosinesAreUnits, SinesRepeat, SinesAreOdd, SinesAreMirrored, CosinesAreSines, CosinesAreEven, ArctangentsAgree};
+ghost use Rattle.nl_fixed.specs.Sines.{sines, half_turn_sine, turn_sine, nearest_degree, in_turn, sine_of, cosine_of, tangent_of, reach, heading_of, IsUnit, IsArctangent, IsHeading, IsOrigin, SinesAreUnits, CosinesAreUnits, SinesRepeat, SinesAreOdd, SinesAreMirrored, CosinesAreSines, CosinesAreEven, ArctangentsAgree};
 
 use crate::number::{Num, NumFault, ONE};
 
@@ -23,7 +28,7 @@ const SINES: [u32; 91] = [
     1_000_000,
 ];
 
-/// The sines of 0 to 90 degrees, in millionths.
+/// The sines of 0 to 90 degrees, in millionths: the entry at d is that of d degrees.
 pub fn sine_table() -> &'static [u32; 91]
     ensures table { result.now ≡ sines }
     ensures entries { length sines ≡ 91 }
@@ -36,7 +41,7 @@ pub fn sine_table() -> &'static [u32; 91]
 fn half_turn_sine_at(degree: u32) -> u32
     requires { degree ≤ 180 }
     ensures value { result ≡ half_turn_sine degree }
-    ensures most { result ≤ 1000000 }
+    ensures most { result ≤ one }
 {
     let table = sine_table();
     if degree <= 90 {
@@ -62,8 +67,7 @@ fn turn_sine_at(degree: u32) -> i64
 /// The whole degree nearest to an angle, a half upwards, and taken mod 360. The angle may be that of a number or its
 /// difference to 90 degrees.
 fn degree_of(angle: i64) -> u32
-    requires low { neg_ℤ (pos 9000000000090000000) ≤ℤ angle }
-    requires high { angle ≤ℤ pos 9000000000090000000 }
+    requires { unsigned_abs angle ≤ limit + 90 * one }
     ensures value { result ≡ in_turn (nearest_degree angle) }
     ensures below { result < 360 }
 {
@@ -72,8 +76,7 @@ fn degree_of(angle: i64) -> u32
 
 /// The sine of an angle, which may be that of a number or its difference to 90 degrees.
 fn sine_at(angle: i64) -> Num
-    requires low { neg_ℤ (pos 9000000000090000000) ≤ℤ angle }
-    requires high { angle ≤ℤ pos 9000000000090000000 }
+    requires { unsigned_abs angle ≤ limit + 90 * one }
     ensures value { result ≡ sine_of angle }
     ensures unit { IsUnit result }
 {
@@ -127,10 +130,11 @@ impl Num {
     }
 
     /// The tangent of an angle in degrees: its sine by its cosine, rounded to the nearest millionth. `ZeroDivide` where
-    /// the cosine is 0; no tangent is out of range.
+    /// the cosine is 0.
     pub fn tan(self) -> Result<Num, NumFault>
         ensures value { result ≡ tangent_of self }
-        ensures outcome { MatchResult result (λ _. cosine_of self ≢ pos 0) (λ fault. (fault ≡ NumFault.ZeroDivide) × (cosine_of self ≡ pos 0)) }
+        // so no tangent is out of range
+        ensures zero_divide { MatchResult result (λ _. cosine_of self ≢ pos 0) (λ fault. (fault ≡ NumFault.ZeroDivide) × (cosine_of self ≡ pos 0)) }
     {
         self.sin().div(self.cos())
     }
@@ -139,7 +143,8 @@ impl Num {
     /// whole degrees in whose direction the point reaches farthest it is the least. `Domain` for the point 0 0.
     pub fn atan(x: Num, y: Num) -> Result<Num, NumFault>
         ensures value { result ≡ heading_of x y }
-        ensures direction { MatchResult result (λ angle. (d : ℕ) × (angle ≡ degrees (pos d)) × IsArctangent x y d) (λ fault. (fault ≡ NumFault.Domain) × (x ≡ pos 0) × (y ≡ pos 0)) }
+        ensures heading { IfOk result (λ angle. IsHeading x y angle) }
+        ensures domain { MatchResult result (λ _. ¬ IsOrigin x y) (λ fault. (fault ≡ NumFault.Domain) × IsOrigin x y) }
     {
         if x.count == 0 && y.count == 0 {
             return Err(NumFault::Domain);
@@ -160,11 +165,87 @@ pub fn sine_laws()
     ensures mirrored { SinesAreMirrored }
     ensures even { CosinesAreEven }
     ensures shifted { CosinesAreSines }
-{
-}
+{}
 
 /// A point has one arctangent at most.
 pub fn arctangent_law()
     ensures { ArctangentsAgree }
-{
+{}
+
+#[cfg(test)]
+mod tests {
+    use super::*;
+    use std::test::Fail;
+
+    #[test]
+    fn sines_cosines_and_tangents_by_the_table(rt: HostRuntime) -> Result<(), Fail> {
+        // An angle with its sine, its cosine and, where it has one, its tangent.
+        let rows = [
+            (0, 0, 1_000_000, Some(0)),
+            (30_000_000, 500_000, 866_025, Some(577_351)),
+            (45_000_000, 707_107, 707_107, Some(1_000_000)),
+            (60_000_000, 866_025, 500_000, Some(1_732_050)),
+            (90_000_000, 1_000_000, 0, None),
+            (181_000_000, -17_452, -999_848, Some(17_455)),
+            (270_000_000, -1_000_000, 0, None),
+            (-90_000_000, -1_000_000, 0, None),
+            (500_000, 17_452, 1_000_000, Some(17_452)),
+            (-500_000, 0, 999_848, Some(0)),
+            (-500_001, -17_452, 999_848, Some(-17_455)),
+            (359_500_000, 0, 999_848, Some(0)),
+            (9_000_000_000_000_000_000, 0, 1_000_000, Some(0)),
+            (-9_000_000_000_000_000_000, 0, 1_000_000, Some(0)),
+            (-8_999_999_999_999_500_000, 17_452, 1_000_000, Some(17_452)),
+        ];
+        for (angle, sine, cosine, tangent) in rows {
+            let number = Num::new(angle).ok_or("out of range")?;
+            assert_eq!(rt; number.sin().millionths(), sine, "the sine of {angle}");
+            assert_eq!(rt; number.cos().millionths(), cosine, "the cosine of {angle}");
+            let found = number.tan().map(Num::millionths);
+            assert_eq!(rt;
+                found,
+                tangent.ok_or(NumFault::ZeroDivide),
+                "the tangent of {angle}"
+            );
+        }
+        Ok(())
+    }
+
+    #[test]
+    fn headings_are_the_least_of_the_farthest_directions(rt: HostRuntime) -> Result<(), Fail> {
+        // A point with its heading in degrees; 0 0 has none. The point 12449 12233 reaches as far at 45 as at 46.
+        let rows = [
+            (0, 0, None),
+            (0, 1_000_000, Some(0)),
+            (1_000_000, 0, Some(90)),
+            (1_000_000, -1_000_000, Some(135)),
+            (0, -1_000_000, Some(180)),
+            (-1_000_000, 0, Some(270)),
+            (3_000_000, 4_000_000, Some(37)),
+            (12_449, 12_233, Some(45)),
+            (-12_449, -12_233, Some(225)),
+            (
+                9_000_000_000_000_000_000,
+                9_000_000_000_000_000_000,
+                Some(45),
+            ),
+            (
+                -9_000_000_000_000_000_000,
+                9_000_000_000_000_000_000,
+                Some(315),
+            ),
+            (-1, -9_000_000_000_000_000_000, Some(180)),
+        ];
+        for (x, y, degree) in rows {
+            let across = Num::new(x).ok_or("out of range")?;
+            let along = Num::new(y).ok_or("out of range")?;
+            let found = Num::atan(across, along).map(|heading| heading.millionths() / ONE);
+            assert_eq!(rt;
+                found,
+                degree.ok_or(NumFault::Domain),
+                "the heading of {x} {y}"
+            );
+        }
+        Ok(())
+    }
 }

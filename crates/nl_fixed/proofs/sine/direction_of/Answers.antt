@@ -10,14 +10,14 @@ pub loop-degree-preserved : goal.loop-degree-preserved
 loop-degree-preserved c =
     let here : to_z w128 (of_z w128 c.reach_at-here.result) ≡ reach c.args.x c.args.y c.loop-degree.degree = omega (arith, ints) in
     elim c.if-farthest-here.branch [
-      then-farthest-here w ↦
-        record {
-          best = rw w.best-is (step_new _ _ _ _ _ _ c.loop-degree.invariant.best c.loop-degree.invariant.farthest here w.if-farthest-here.true);
-          farthest = rw (w.best-is, w.farthest-is) here;
-        }
+      | then-farthest-here w ↦
+          record {
+            best = rw w.best-is (step_new _ _ _ _ _ _ c.loop-degree.invariant.best c.loop-degree.invariant.farthest here w.if-farthest-here.true);
+            farthest = rw (w.best-is, w.farthest-is) here;
+          }
       | else-farthest-here w ↦
-        record {
-          best = rw w.best-is (step_kept _ _ _ _ _ _ c.loop-degree.invariant.best c.loop-degree.invariant.farthest here w.if-farthest-here.false);
-          farthest = rw (w.best-is, w.farthest-is) c.loop-degree.invariant.farthest;
-        }
+          record {
+            best = rw w.best-is (step_kept _ _ _ _ _ _ c.loop-degree.invariant.best c.loop-degree.invariant.farthest here w.if-farthest-here.false);
+            farthest = rw (w.best-is, w.farthest-is) c.loop-degree.invariant.farthest;
+          }
     ]

@@ -10,5 +10,5 @@ returns-clause-value c =
     c.div.ensures ∙ ap (λ s. quotient_of s c.cos.result) c.sin.ensures.value
     ∙ ap (quotient_of (sine_of c.args.self)) c.cos.ensures.value
 
-pub returns-clause-outcome : goal.returns-clause-outcome
-returns-clause-outcome c = tangent_of-outcome c.div.result c.args.self (returns-clause-value c)
+pub returns-clause-zero_divide : goal.returns-clause-zero_divide
+returns-clause-zero_divide c = tangent_of-outcome c.div.result c.args.self (returns-clause-value c)
