@@ -1,3 +1,6 @@
 pub mod Integers
+pub mod PowerLemmas
+pub mod RootLemmas
+pub mod RoundingLemmas
 pub mod Signs
 pub mod Wide
