@@ -1,4 +1,6 @@
 pub mod Integers
+pub mod LawProofs
+pub mod PlacesLemmas
 pub mod PowerLemmas
 pub mod RootLemmas
 pub mod RoundingLemmas

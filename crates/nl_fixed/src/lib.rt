@@ -2,6 +2,7 @@
 #![tactic(auto)]
 
 pub mod arithmetic;
+pub mod laws;
 pub mod lists;
 pub mod memory;
 pub mod number;
