@@ -122,11 +122,15 @@ unfoldable pub root_of : ℤ → Result ℤ NumFault
 root_of (pos count) = as_number (pos (whole_root (count * one)))
 root_of (negsuc count) = Err Domain
 
--- ---- rounding to whole numbers and to places
+-- ---- rounding to places and to whole numbers
+
+-- to the nearest multiple of so many millionths, a half upwards
+unfoldable pub nearest_multiple : ℤ → ℕ → ℤ
+nearest_multiple count step = rounded_quotient count step *ℤ pos step
 
 -- to the nearest whole number, a half upwards
-unfoldable pub round_of : ℤ → ℤ
-round_of count = rounded_quotient count one *ℤ pos one
+abbrev pub round_of : ℤ → ℤ
+round_of count = nearest_multiple count one
 
 -- to the greatest whole number that is not above
 unfoldable pub floor_of : ℤ → ℤ
@@ -139,10 +143,6 @@ ceiling_of count = neg_ℤ (floor_of (neg_ℤ count))
 -- toward 0
 unfoldable pub int_of : ℤ → ℤ
 int_of count = cut_quotient count (pos one) *ℤ pos one
-
--- to the nearest multiple of so many millionths, a half upwards
-unfoldable pub nearest_multiple : ℤ → ℕ → ℤ
-nearest_multiple count step = rounded_quotient count step *ℤ pos step
 
 -- to so many decimal places: with 6 or more nothing is lost, and a negative number of places rounds to tens,
 -- hundreds and so on, up to 10^12

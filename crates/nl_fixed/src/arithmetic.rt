@@ -5,7 +5,7 @@ ghost use Rattle.nl_fixed.specs.Numbers.{IsInRange, as_number, limit, rounded_qu
 use crate::number::{Num, NumFault, ONE};
 
 /// `ONE`, at the width of the steps between.
-const WIDE_ONE: i128 = 1_000_000;
+pub(crate) const WIDE_ONE: i128 = 1_000_000;
 
 /// The number of so many millionths, which may be any count.
 #[tactic(auto, unfolding(crate::specs::Numbers::as_number))]

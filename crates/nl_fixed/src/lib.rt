@@ -2,9 +2,12 @@
 #![tactic(auto)]
 
 pub mod arithmetic;
+pub mod laws;
 pub mod lists;
 pub mod memory;
 pub mod number;
+pub mod powers;
+pub mod rounding;
 pub mod sine;
 pub mod span;
 pub mod text;
@@ -12,5 +15,6 @@ pub mod text;
 pub use lists::{Cells, Names};
 pub use memory::NoMemory;
 pub use number::{Num, NumFault};
+pub use powers::whole_root;
 pub use span::Span;
 pub use text::Str;
