@@ -4,7 +4,7 @@ use Rattle.std.proofs.lemmas.Int.{ints}
 use Rattle.std.proofs.lemmas.Bool.{eqb-true}
 use Rattle.std.specs.Prelude.{ℤ, pos, negsuc, ◌+ℤ◌, ◌-ℤ◌, ◌*ℤ◌, ◌≤ℤ◌, ◌<ℤ◌, neg_ℤ, nat_eq, nat_le}
 use Rattle.nl_fixed.specs.Numbers.{one}
-use Rattle.nl_fixed.specs.Sines.{sines, half_turn_sine, turn_sine, degrees, nearest_degree, in_turn, sine_of, cosine_of, reach, IsUnit, SinesAreUnits, CosinesAreUnits, SinesRepeat, SinesAreOdd, SinesAreMirrored, CosinesAreSines, CosinesAreEven, every}
+use Rattle.nl_fixed.specs.Sines.{sines, half_turn_sine, turn_sine, degrees, nearest_degree, in_turn, sine_of, cosine_of, reach, IsUnit, SinesAreUnits, CosinesAreUnits, SinesRepeat, CosinesRepeat, SinesAreOdd, SinesAreMirrored, CosinesAreSines, CosinesAreEven, every}
 use Rattle.nl_fixed.proofs.SineTable.{both, half_turn_sine_bound, turn_sine_low, turn_sine_high}
 use Rattle.nl_fixed.proofs.Angles.{nearest_degree-degrees, nearest_degree-add, in_turn_below, in_turn-pos, in_turn-repeat, in_turn-sub}
 
@@ -90,6 +90,13 @@ pub sines_repeat : SinesRepeat
 unfolding sine_of
 sines_repeat angle =
     ap turn_sine (ap in_turn (nearest_degree-add angle (pos 360)) ∙ in_turn-repeat (nearest_degree angle))
+
+pub cosines_repeat : CosinesRepeat
+unfolding cosine_of
+cosines_repeat angle =
+    let less : ℤ = degrees (pos 90) -ℤ (angle +ℤ degrees (pos 360)) in
+    let turned : degrees (pos 90) -ℤ angle ≡ less +ℤ degrees (pos 360) = omega (arith, ints) in
+    sym (ap sine_of turned ∙ sines_repeat less)
 
 pub sines_are_odd : SinesAreOdd
 sines_are_odd d =

@@ -108,6 +108,9 @@ CosinesAreUnits = (angle : ℤ) → IsUnit (cosine_of angle)
 abbrev pub SinesRepeat : Type 0
 SinesRepeat = (angle : ℤ) → sine_of (angle +ℤ degrees (pos 360)) ≡ sine_of angle
 
+abbrev pub CosinesRepeat : Type 0
+CosinesRepeat = (angle : ℤ) → cosine_of (angle +ℤ degrees (pos 360)) ≡ cosine_of angle
+
 -- the sine of a whole degree and that of its negative are opposite
 abbrev pub SinesAreOdd : Type 0
 SinesAreOdd = (d : ℤ) → sine_of (degrees (neg_ℤ d)) ≡ neg_ℤ (sine_of (degrees d))

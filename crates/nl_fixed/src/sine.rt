@@ -6,7 +6,7 @@
 ghost use Rattle.std.specs.Prelude.{◌≡◌, ◌≢◌, ◌≤◌, ◌<◌, ◌*◌, ◌+◌, length, pos, unsigned_abs, IfOk, MatchResult};
 ghost use Rattle.nl_fixed.specs.Numbers.{one, limit};
 ghost use Rattle.std.specs.List.Sorted.{IsStrictlyIncreasing};
-ghost use Rattle.nl_fixed.specs.Sines.{sines, half_turn_sine, turn_sine, nearest_degree, in_turn, sine_of, cosine_of, tangent_of, reach, heading_of, IsUnit, IsArctangent, IsHeading, IsOrigin, SinesAreUnits, CosinesAreUnits, SinesRepeat, SinesAreOdd, SinesAreMirrored, CosinesAreSines, CosinesAreEven, ArctangentsAgree};
+ghost use Rattle.nl_fixed.specs.Sines.{sines, half_turn_sine, turn_sine, nearest_degree, in_turn, sine_of, cosine_of, tangent_of, reach, heading_of, IsUnit, IsArctangent, IsHeading, IsOrigin, SinesAreUnits, CosinesAreUnits, SinesRepeat, CosinesRepeat, SinesAreOdd, SinesAreMirrored, CosinesAreSines, CosinesAreEven, ArctangentsAgree};
 
 use crate::number::{Num, NumFault, ONE};
 
@@ -155,22 +155,35 @@ impl Num {
     }
 }
 
-/// The laws of sines and cosines: they lie from -1 to 1, a whole turn changes nothing, and at whole degrees the sine is
-/// odd and is that of what is left to 180 degrees, and the cosine is even and the sine of 90 degrees more.
-pub fn sine_laws()
-    ensures sine_unit { SinesAreUnits }
-    ensures cosine_unit { CosinesAreUnits }
-    ensures repeated { SinesRepeat }
+/// Sines and cosines lie from -1 to 1. This function and those below do nothing: the contract of each is a law.
+pub fn sines_are_within_one()
+    ensures sine { SinesAreUnits }
+    ensures cosine { CosinesAreUnits }
+{
+}
+
+/// A whole turn changes no sine and no cosine.
+pub fn sines_repeat()
+    ensures sine { SinesRepeat }
+    ensures cosine { CosinesRepeat }
+{
+}
+
+/// At whole degrees the sine is odd and is that of what is left to 180 degrees, and the cosine is even and is the sine
+/// of 90 degrees more.
+pub fn sines_are_symmetric()
     ensures odd { SinesAreOdd }
     ensures mirrored { SinesAreMirrored }
     ensures even { CosinesAreEven }
     ensures shifted { CosinesAreSines }
-{}
+{
+}
 
 /// A point has one arctangent at most.
-pub fn arctangent_law()
+pub fn arctangents_agree()
     ensures { ArctangentsAgree }
-{}
+{
+}
 
 #[cfg(test)]
 mod tests {
