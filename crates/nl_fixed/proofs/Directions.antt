@@ -1,10 +1,10 @@
 -- The direction in which a point reaches farthest, found degree by degree.
-use Rattle.std.proofs.Common.{◌≡◌, ◌≢◌, ℕ, zero, suc, ◌+◌, ◌-◌, ◌<◌, ◌≤◌, Bool, true, false, ◌&&◌, cond, refl, sym, ap, ◌∙◌, subst, arith, inl, inr, ⊎_elim, ◌⊎◌}
+use Rattle.std.proofs.Common.{◌≡◌, ℕ, zero, suc, add-one, subst, ◌+◌, ◌<◌, ◌≤◌, Bool, true, false, refl, sym, ap, arith, ⊎_elim, ◌⊎◌}
 use Rattle.std.proofs.lemmas.Bool.{cases_lt}
 use Rattle.std.proofs.lemmas.Int.{ints, by_lt_z}
 use Rattle.std.specs.Prelude.{ℤ, pos, negsuc, ◌≤ℤ◌, ◌<ℤ◌, int_le, int_lt, Ok, Err}
 use Rattle.nl_fixed.specs.declared.number.NumFault.TheVariants.{Domain}
-use Rattle.nl_fixed.specs.Sines.{degrees, reach, every, least_from, is_greatest, heading_of, IsArctangent, ArctangentsAgree}
+use Rattle.nl_fixed.specs.Sines.{degrees, reach, every, least_from, is_greatest, heading_of, IsArctangent, ArctangentsAgree, HeadingsAreArctangents}
 use Rattle.nl_fixed.proofs.Turns.{last_or_below, every-at}
 
 below_or_not : (m n : ℕ) → (m < n) ⊎ (n ≤ m)
@@ -128,3 +128,21 @@ heading_of-is (negsuc x) y d this other = ap (λ n. Ok (degrees (pos n))) (least
 pub heading_of-zero : (x y : ℤ) → x ≡ pos 0 → y ≡ pos 0 → Err Domain ≡ heading_of x y
 unfolding heading_of
 heading_of-zero x y is_x is_y = rw (is_x, is_y) refl
+
+one_more : (x y : ℤ) (n d : ℕ) → IsBestBelow x y (n + 1) d → IsBestBelow x y (suc n) d
+one_more x y n d best = let P : ℕ → Type 0 = λ m. IsBestBelow x y m d in subst P (add-one n) best
+
+best_exists : (x y : ℤ) (n : ℕ) → (d : ℕ) × IsBestBelow x y (suc n) d
+best_exists x y zero = (0, best_start x y)
+best_exists x y (suc n) =
+    let so_far : (d : ℕ) × IsBestBelow x y (suc n) d = best_exists x y n in
+    by_lt_z (reach x y so_far.0) (reach x y (suc n))
+    (λ above. (suc n, one_more x y (suc n) (suc n) (best_new x y (suc n) so_far.0 so_far.1 above)))
+    (λ under. (so_far.0, one_more x y (suc n) so_far.0 (best_kept x y (suc n) so_far.0 so_far.1 under)))
+
+-- every point has an arctangent, and the heading of a point but 0 0 is that
+pub headings_are_arctangents : HeadingsAreArctangents
+headings_are_arctangents x y other =
+    let best : (d : ℕ) × IsBestBelow x y 360 d = best_exists x y 359 in
+    let this : IsArctangent x y best.0 = best_all x y best.0 best.1 in
+    (degrees (pos best.0), heading_of-is x y best.0 this other, (best.0, refl, this))

@@ -4,7 +4,6 @@ pub mod Integers
 pub mod LawProofs
 pub mod PlacesLemmas
 pub mod PowerLemmas
-pub mod Reaches
 pub mod RootLemmas
 pub mod RoundingLemmas
 pub mod Signs

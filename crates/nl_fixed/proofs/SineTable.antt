@@ -1,10 +1,11 @@
--- What computed tests over the whole table of sines, and over a whole turn, show.
-use Rattle.std.proofs.Common.{◌≡◌, ◌≢◌, ℕ, zero, suc, ◌+◌, ◌-◌, ◌%◌, ◌<◌, ◌≤◌, Bool, true, false, ◌&&◌, cond, List, [], ◌∷◌, length, get_or, refl, sym, ap, ◌∙◌, subst, arith, rules, eqb, leb, ltb, T, inl, inr, ⊎_elim, add-one}
+-- What one computed test over the whole table of sines shows.
+use Rattle.std.proofs.Common.{◌≡◌, ℕ, zero, suc, ◌-◌, ◌<◌, ◌≤◌, Bool, true, false, ◌&&◌, cond, List, [], ◌∷◌, length, get_or, refl, arith, add-one}
 use Rattle.std.proofs.lemmas.Bool.{eqb-true, leb-true, ltb-true}
 use Rattle.std.proofs.lemmas.Bool.Decides.{nat_tests}
-use Rattle.std.specs.Prelude.{ℤ, pos, negsuc, ◌≤ℤ◌, neg_ℤ, slice_index, nat_le, nat_lt, nat_eq, int_le, IsTrue}
+use Rattle.std.specs.Prelude.{pos, neg_ℤ, nat_le, nat_lt, nat_eq}
 use Rattle.std.specs.List.Sorted.{IsStrictlyIncreasing}
 use Rattle.nl_fixed.specs.declared.sine.TheConstants.{SINES}
+use Rattle.nl_fixed.specs.Numbers.{one}
 use Rattle.nl_fixed.specs.Sines.{sines, half_turn_sine, turn_sine}
 
 -- the numbers ascend strictly and none is above the bound
@@ -13,15 +14,16 @@ climbs bound [] = true
 climbs bound (x ∷ []) = nat_le x bound
 climbs bound (x ∷ y ∷ rest) = nat_lt x y && climbs bound (y ∷ rest)
 
--- one test of the whole table: its entries are those of the code, there are 91, and they ascend strictly up to 1
+-- two lists have the same entries
 same : List ℕ → List ℕ → Bool
 same [] [] = true
 same (x ∷ xs) (y ∷ ys) = nat_eq x y && same xs ys
 same _ _ = false
 
+-- the test: the entries are those of the definition, there are 91, and they ascend strictly up to 1
 is_table : List ℕ → Bool
 unfolding sines
-is_table table = same table sines && nat_eq (length table) 91 && climbs 1000000 table
+is_table table = same table sines && nat_eq (length table) 91 && climbs one table
 
 table_passes : is_table SINES ≡ true
 unfolding is_table same climbs sines
@@ -69,13 +71,13 @@ climbs-increasing bound (x ∷ y ∷ rest) (suc k) h within =
 record IsTable (table : List ℕ) : Type 0 where
   agrees : table ≡ sines
   entries : length sines ≡ 91
-  climbing : climbs 1000000 sines ≡ true
+  climbing : climbs one sines ≡ true
 
 passes_is : (table : List ℕ) → is_table table ≡ true → IsTable table
 unfolding is_table
 passes_is table h =
-    let front : ((same table sines && nat_eq (length table) 91) ≡ true) × (climbs 1000000 table ≡ true) =
-    both (same table sines && nat_eq (length table) 91) (climbs 1000000 table) h in
+    let front : ((same table sines && nat_eq (length table) 91) ≡ true) × (climbs one table ≡ true) =
+    both (same table sines && nat_eq (length table) 91) (climbs one table) h in
     let pair : (same table sines ≡ true) × (nat_eq (length table) 91 ≡ true) =
     both (same table sines) (nat_eq (length table) 91) front.0 in
     let agrees : table ≡ sines = same_is table sines pair.0 in
@@ -96,20 +98,20 @@ SINES-is = whole_table.agrees
 pub length-sines : length sines ≡ 91
 length-sines = whole_table.entries
 
-sines_climb : climbs 1000000 sines ≡ true
+sines_climb : climbs one sines ≡ true
 sines_climb = whole_table.climbing
 
 pub sines_increase : IsStrictlyIncreasing sines
-sines_increase k within = rw add-one (climbs-increasing 1000000 sines k sines_climb (omega arith))
+sines_increase k within = rw add-one (climbs-increasing one sines k sines_climb (omega arith))
 
 -- no sine is above 1
-pub sines_bound : (k : ℕ) → get_or sines k 0 ≤ 1000000
-sines_bound k = climbs-bound 1000000 sines k sines_climb
+pub sines_bound : (k : ℕ) → get_or sines k 0 ≤ one
+sines_bound k = climbs-bound one sines k sines_climb
 
-pub half_turn_sine_bound : (d : ℕ) → half_turn_sine d ≤ 1000000
+pub half_turn_sine_bound : (d : ℕ) → half_turn_sine d ≤ one
 unfolding half_turn_sine
 half_turn_sine_bound d =
-    elim (nat_le d 90) as (λ b. cond b (get_or sines d 0) (get_or sines (180 - d) 0) ≤ 1000000)
+    elim (nat_le d 90) as (λ b. cond b (get_or sines d 0) (get_or sines (180 - d) 0) ≤ one)
     [ true ↦ sines_bound d | false ↦ sines_bound (180 - d) ]
 
 pub half_turn_sine_low : (d : ℕ) → d ≤ 90 → half_turn_sine d ≡ get_or sines d 0

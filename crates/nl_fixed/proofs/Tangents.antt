@@ -1,10 +1,10 @@
 -- The quotient of a sine by a cosine is no number out of range.
-use Rattle.std.proofs.Common.{◌≡◌, ◌≢◌, ℕ, zero, suc, ◌+◌, ◌*◌, ◌<◌, ◌≤◌, Bool, true, false, cond, Result, Ok, Err, refl, sym, ap, ◌∙◌, arith}
+use Rattle.std.proofs.Common.{◌≡◌, ◌≢◌, ℕ, zero, suc, ◌+◌, ◌*◌, ◌≤◌, Result, Ok, Err, refl, ◌∙◌, arith}
 use Rattle.std.proofs.lemmas.Int.{ints}
 use Rattle.std.proofs.lemmas.Bool.Decides.{nat_tests}
 use Rattle.std.specs.Prelude.{ℤ, pos, negsuc, ◌+ℤ◌, ◌*ℤ◌, neg_ℤ, unsigned_abs, MatchResult}
 use Rattle.nl_fixed.specs.declared.number.NumFault.{NumFault}
-use Rattle.nl_fixed.specs.declared.number.NumFault.TheVariants.{ZeroDivide, Overflow, Domain}
+use Rattle.nl_fixed.specs.declared.number.NumFault.TheVariants.{ZeroDivide}
 use Rattle.nl_fixed.specs.Numbers.{one, limit, as_number, rounded_quotient, floor_of_ratio, quotient_of}
 use Rattle.nl_fixed.specs.Sines.{IsUnit, sine_of, cosine_of, tangent_of}
 use Rattle.nl_fixed.proofs.Signs.{floor_of_ratio_size}

@@ -1,11 +1,10 @@
 -- The symmetries of the sine, by tests over one whole turn.
-use Rattle.std.proofs.Common.{◌≡◌, ℕ, zero, suc, ◌+◌, ◌-◌, ◌%◌, ◌<◌, ◌≤◌, Bool, true, false, ◌&&◌, refl, sym, ap, ◌∙◌, subst, arith, inl, inr, ⊎_elim, ◌⊎◌, add-one, zero-add, cond}
+use Rattle.std.proofs.Common.{◌≡◌, ℕ, zero, suc, ◌+◌, ◌-◌, ◌%◌, ◌<◌, ◌≤◌, Bool, true, false, refl, sym, ap, ◌∙◌, arith, ⊎_elim, ◌⊎◌, zero-add, cond}
 use Rattle.std.proofs.lemmas.Int.{ints}
 use Rattle.std.proofs.lemmas.Bool.{eqb-true}
-use Rattle.std.specs.Prelude.{ℤ, pos, negsuc, ◌+ℤ◌, ◌-ℤ◌, ◌*ℤ◌, ◌≤ℤ◌, ◌<ℤ◌, neg_ℤ, nat_eq, nat_le}
-use Rattle.nl_fixed.specs.Numbers.{one}
+use Rattle.std.specs.Prelude.{ℤ, pos, negsuc, ◌+ℤ◌, ◌-ℤ◌, ◌*ℤ◌, neg_ℤ, nat_eq, nat_le}
 use Rattle.nl_fixed.specs.Sines.{sines, half_turn_sine, turn_sine, degrees, nearest_degree, in_turn, sine_of, cosine_of, reach, IsUnit, SinesAreUnits, CosinesAreUnits, SinesRepeat, CosinesRepeat, SinesAreOdd, SinesAreMirrored, CosinesAreSines, CosinesAreEven, every}
-use Rattle.nl_fixed.proofs.SineTable.{both, half_turn_sine_bound, turn_sine_low, turn_sine_high}
+use Rattle.nl_fixed.proofs.SineTable.{both, half_turn_sine_bound}
 use Rattle.nl_fixed.proofs.Angles.{nearest_degree-degrees, nearest_degree-add, in_turn_below, in_turn-pos, in_turn-repeat, in_turn-sub}
 
 -- ---- tests of every number below a bound

@@ -1,6 +1,6 @@
 -- Sines, cosines, tangents and the arctangent, over a table of whole degrees. An angle is a count of millionths of a
 -- degree, a sine or a cosine a count of millionths; whole degrees are numbers of their own.
-use Rattle.std.specs.Prelude.{◌≡◌, ℕ, zero, suc, ◌-◌, ◌<◌, ℤ, pos, negsuc, ◌+ℤ◌, ◌-ℤ◌, ◌*ℤ◌, ◌≤ℤ◌, ◌<ℤ◌, neg_ℤ, unsigned_abs, int_le, Bool, true, ◌&&◌, nat_le, if◌then◌else◌, List, [], ◌∷◌, slice_index, Result, Ok, Err}
+use Rattle.std.specs.Prelude.{◌≡◌, ℕ, zero, suc, ◌-◌, ◌<◌, ℤ, pos, ◌+ℤ◌, ◌-ℤ◌, ◌*ℤ◌, ◌≤ℤ◌, ◌<ℤ◌, neg_ℤ, unsigned_abs, int_le, Bool, true, ◌&&◌, nat_le, if◌then◌else◌, List, [], ◌∷◌, slice_index, Result, Ok, Err}
 use Rattle.std.specs.Int.{int_rem_euclid}
 use Rattle.nl_fixed.specs.declared.number.NumFault.{NumFault}
 use Rattle.nl_fixed.specs.declared.number.NumFault.TheVariants.{Domain}
@@ -44,13 +44,15 @@ nearest_degree angle = rounded_quotient angle one
 unfoldable pub in_turn : ℤ → ℕ
 in_turn d = unsigned_abs (int_rem_euclid d (pos 360))
 
+-- the sine of the nearest whole degree
 unfoldable pub sine_of : ℤ → ℤ
 sine_of angle = turn_sine (in_turn (nearest_degree angle))
 
--- the difference to 90 degrees is rounded, and not the angle
+-- the cosine: the difference to 90 degrees is rounded, and not the angle
 unfoldable pub cosine_of : ℤ → ℤ
 cosine_of angle = sine_of (degrees (pos 90) -ℤ angle)
 
+-- the tangent: the quotient, which has no answer where the cosine is 0
 unfoldable pub tangent_of : ℤ → Result ℤ NumFault
 tangent_of angle = quotient_of (sine_of angle) (cosine_of angle)
 
@@ -130,3 +132,7 @@ CosinesAreEven = (d : ℤ) → cosine_of (degrees (neg_ℤ d)) ≡ cosine_of (de
 -- a point has one arctangent at most
 abbrev pub ArctangentsAgree : Type 0
 ArctangentsAgree = (x y : ℤ) (d e : ℕ) → IsArctangent x y d → IsArctangent x y e → d ≡ e
+
+-- every point but 0 0 has a heading, and it is that of its arctangent
+abbrev pub HeadingsAreArctangents : Type 0
+HeadingsAreArctangents = (x y : ℤ) → ¬ IsOrigin x y → (angle : ℤ) × (heading_of x y ≡ Ok angle) × IsHeading x y angle

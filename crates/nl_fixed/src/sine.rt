@@ -3,10 +3,10 @@
 //! Angles are in degrees, as in the NetLogo Dictionary, and an arctangent runs clockwise from the direction of y. That
 //! only whole degrees count, the table's entries and the choice among directions that reach equally far are this
 //! project's own.
-ghost use Rattle.std.specs.Prelude.{◌≡◌, ◌≢◌, ◌≤◌, ◌<◌, ◌*◌, ◌+◌, length, pos, unsigned_abs, IfOk, MatchResult};
+ghost use Rattle.std.specs.Prelude.{◌≡◌, ◌≢◌, ◌≤◌, ◌<◌, ◌*◌, ◌+◌, length, pos, ◌*ℤ◌, unsigned_abs, IfOk, MatchResult};
 ghost use Rattle.nl_fixed.specs.Numbers.{one, limit};
 ghost use Rattle.std.specs.List.Sorted.{IsStrictlyIncreasing};
-ghost use Rattle.nl_fixed.specs.Sines.{sines, half_turn_sine, turn_sine, nearest_degree, in_turn, sine_of, cosine_of, tangent_of, reach, heading_of, IsUnit, IsArctangent, IsHeading, IsOrigin, SinesAreUnits, CosinesAreUnits, SinesRepeat, CosinesRepeat, SinesAreOdd, SinesAreMirrored, CosinesAreSines, CosinesAreEven, ArctangentsAgree};
+ghost use Rattle.nl_fixed.specs.Sines.{sines, half_turn_sine, turn_sine, nearest_degree, in_turn, sine_of, cosine_of, tangent_of, reach, heading_of, IsUnit, IsArctangent, IsHeading, IsOrigin, SinesAreUnits, CosinesAreUnits, SinesRepeat, CosinesRepeat, SinesAreOdd, SinesAreMirrored, CosinesAreSines, CosinesAreEven, ArctangentsAgree, HeadingsAreArctangents};
 
 use crate::number::{Num, NumFault, ONE};
 
@@ -85,14 +85,21 @@ fn sine_at(angle: i64) -> Num
     }
 }
 
+/// A number times a sine, unrounded.
+fn scaled(number: Num, sine: i64) -> i128
+    requires { IsUnit sine }
+    ensures value { result ≡ number *ℤ sine }
+    ensures size { unsigned_abs result ≤ limit * one }
+{
+    i128::from(number.count) * i128::from(sine)
+}
+
 /// How far the point (x, y) reaches in the direction of a whole degree below 360.
 fn reach_at(x: Num, y: Num, degree: u32) -> i128
     requires { degree < 360 }
     ensures { result ≡ reach x y degree }
 {
-    let across = i128::from(x.count) * i128::from(turn_sine_at(degree));
-    let along = i128::from(y.count) * i128::from(turn_sine_at((450 - degree) % 360));
-    across + along
+    scaled(x, turn_sine_at(degree)) + scaled(y, turn_sine_at((450 - degree) % 360))
 }
 
 /// The least whole degree from 0 to 359 in whose direction the point (x, y) reaches farthest.
@@ -134,7 +141,8 @@ impl Num {
     pub fn tan(self) -> Result<Num, NumFault>
         ensures value { result ≡ tangent_of self }
         // so no tangent is out of range
-        ensures zero_divide { MatchResult result (λ _. cosine_of self ≢ pos 0) (λ fault. (fault ≡ NumFault.ZeroDivide) × (cosine_of self ≡ pos 0)) }
+        ensures zero_divide { MatchResult result (λ _. cosine_of self ≢ pos 0)
+            (λ fault. (fault ≡ NumFault.ZeroDivide) × (cosine_of self ≡ pos 0)) }
     {
         self.sin().div(self.cos())
     }
@@ -144,7 +152,8 @@ impl Num {
     pub fn atan(x: Num, y: Num) -> Result<Num, NumFault>
         ensures value { result ≡ heading_of x y }
         ensures heading { IfOk result (λ angle. IsHeading x y angle) }
-        ensures domain { MatchResult result (λ _. ¬ IsOrigin x y) (λ fault. (fault ≡ NumFault.Domain) × IsOrigin x y) }
+        ensures domain { MatchResult result (λ _. ¬ IsOrigin x y)
+            (λ fault. (fault ≡ NumFault.Domain) × IsOrigin x y) }
     {
         if x.count == 0 && y.count == 0 {
             return Err(NumFault::Domain);
@@ -159,15 +168,13 @@ impl Num {
 pub fn sines_are_within_one()
     ensures sine { SinesAreUnits }
     ensures cosine { CosinesAreUnits }
-{
-}
+{}
 
 /// A whole turn changes no sine and no cosine.
 pub fn sines_repeat()
     ensures sine { SinesRepeat }
     ensures cosine { CosinesRepeat }
-{
-}
+{}
 
 /// At whole degrees the sine is odd and is that of what is left to 180 degrees, and the cosine is even and is the sine
 /// of 90 degrees more.
@@ -176,14 +183,13 @@ pub fn sines_are_symmetric()
     ensures mirrored { SinesAreMirrored }
     ensures even { CosinesAreEven }
     ensures shifted { CosinesAreSines }
-{
-}
+{}
 
-/// A point has one arctangent at most.
-pub fn arctangents_agree()
-    ensures { ArctangentsAgree }
-{
-}
+/// A point has one arctangent, and it is the heading of every point but 0 0.
+pub fn headings_are_arctangents()
+    ensures one_at_most { ArctangentsAgree }
+    ensures heading { HeadingsAreArctangents }
+{}
 
 #[cfg(test)]
 mod tests {

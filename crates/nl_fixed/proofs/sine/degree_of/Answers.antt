@@ -1,6 +1,6 @@
-use Rattle.std.proofs.Common.{◌≡◌, arith, sym, ap, ◌∙◌, to_z, of_z}
+use Rattle.std.proofs.Common.{◌≡◌, arith, ap, ◌∙◌, to_z, of_z}
 use Rattle.std.proofs.lemmas.Int.{ints}
-use Rattle.std.specs.Prelude.{ℤ, pos, ◌+ℤ◌, unsigned_abs}
+use Rattle.std.specs.Prelude.{pos, ◌+ℤ◌, unsigned_abs}
 use Rattle.std.specs.Int.{w64, int_div_euclid, int_rem_euclid}
 use Rattle.nl_fixed.specs.Sines.{in_turn, nearest_degree}
 use Rattle.nl_fixed.proofs.Angles.{nearest_degree-floor}

@@ -1,7 +1,5 @@
-use Rattle.std.proofs.Common.{◌≡◌, arith, ap, ◌∙◌, sym, to_z, of_z, pos, ◌*ℤ◌, ℤ, Ok}
+use Rattle.std.proofs.Common.{arith, ap, ◌∙◌, sym, Ok}
 use Rattle.std.proofs.lemmas.Int.{ints}
-use Rattle.std.specs.Int.{w64}
-use Rattle.nl_fixed.specs.Sines.{heading_of}
 use Rattle.nl_fixed.proofs.Directions.{heading_of-zero, heading_of-is}
 use Rattle.nl_fixed.proofs.number.Num.atan.Goals as goal
 use Rattle.nl_fixed.proofs.number.Num.atan.Goals.{else-x-eq0-via-then-x-eq0+else-y-eq0, else-x-eq0-via-else-x-eq0}

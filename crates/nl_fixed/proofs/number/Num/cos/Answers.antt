@@ -1,6 +1,5 @@
-use Rattle.std.proofs.Common.{◌≡◌, arith, ap, ◌∙◌, to_z, of_z, pos, ◌-ℤ◌}
+use Rattle.std.proofs.Common.{arith, ap, ◌∙◌}
 use Rattle.std.proofs.lemmas.Int.{ints}
-use Rattle.std.specs.Int.{w64}
 use Rattle.nl_fixed.specs.Sines.{sine_of, cosine_of}
 use Rattle.nl_fixed.proofs.number.Num.cos.Goals as goal
 

@@ -1,6 +1,6 @@
-use Rattle.std.proofs.Common.{◌≡◌, ap, ◌∙◌}
+use Rattle.std.proofs.Common.{ap, ◌∙◌}
 use Rattle.nl_fixed.specs.Numbers.{quotient_of}
-use Rattle.nl_fixed.specs.Sines.{sine_of, cosine_of, tangent_of}
+use Rattle.nl_fixed.specs.Sines.{sine_of, tangent_of}
 use Rattle.nl_fixed.proofs.Tangents.{tangent_of-outcome}
 use Rattle.nl_fixed.proofs.number.Num.tan.Goals as goal
 
