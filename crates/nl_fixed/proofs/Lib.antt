@@ -1,5 +1,5 @@
 pub mod Integers
-pub mod LawProofs
+pub mod NumberLawProofs
 pub mod PlacesLemmas
 pub mod PowerLemmas
 pub mod RootLemmas
