@@ -1,7 +1,7 @@
 pub mod Angles
 pub mod Directions
 pub mod Integers
-pub mod LawProofs
+pub mod NumberLawProofs
 pub mod PlacesLemmas
 pub mod PowerLemmas
 pub mod RootLemmas

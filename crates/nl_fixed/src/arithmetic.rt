@@ -1,11 +1,11 @@
 //! Sum, difference, product, quotient, `mod` and `remainder`.
-ghost use Rattle.std.specs.Prelude.{◌≡◌, ◌≢◌, ◌<◌, ◌≤◌, ◌*◌, pos, unsigned_abs};
+ghost use Rattle.std.specs.Prelude.{◌≡◌, ◌≢◌, ◌<◌, ◌≤◌, ◌*◌, ◌↔◌, pos, unsigned_abs, IsErr};
 ghost use Rattle.nl_fixed.specs.Numbers.{IsInRange, as_number, limit, rounded_quotient, floor_of_ratio, sum_of, difference_of, product_of, quotient_of, modulo_of, remainder_of};
 
 use crate::number::{Num, NumFault, ONE};
 
 /// `ONE`, at the width of the steps between.
-pub(crate) const WIDE_ONE: i128 = 1_000_000;
+const WIDE_ONE: i128 = 1_000_000;
 
 /// The number of so many millionths, which may be any count.
 #[tactic(auto, unfolding(crate::specs::Numbers::as_number))]
@@ -43,31 +43,29 @@ pub(crate) fn floored(a: i64, b: i64) -> i64
 }
 
 impl Num {
-    /// The sum.
-    #[tactic(auto, unfolding(crate::specs::Numbers::sum_of))]
+    /// The sum. Overflow where it is out of range.
     pub fn add(self, other: Num) -> Result<Num, NumFault>
         ensures { result ≡ sum_of self other }
     {
         number_of(i128::from(self.count) + i128::from(other.count))
     }
 
-    /// The first number minus the second.
-    #[tactic(auto, unfolding(crate::specs::Numbers::difference_of))]
+    /// The number minus the other. Overflow where that is out of range.
     pub fn sub(self, other: Num) -> Result<Num, NumFault>
         ensures { result ≡ difference_of self other }
     {
         number_of(i128::from(self.count) - i128::from(other.count))
     }
 
-    /// The product, rounded to the nearest millionth, a half upwards.
-    #[tactic(auto, unfolding(crate::specs::Numbers::product_of))]
+    /// The product, rounded to the nearest millionth, a half upwards. Overflow where that is out of range.
     pub fn mul(self, other: Num) -> Result<Num, NumFault>
         ensures { result ≡ product_of self other }
     {
         number_of(rounded(i128::from(self.count) * i128::from(other.count), ONE as u64))
     }
 
-    /// The quotient, rounded to the nearest millionth, a half upwards.
+    /// The quotient, rounded to the nearest millionth, a half upwards. ZeroDivide where the other is 0, and Overflow
+    /// where the quotient is out of range.
     pub fn div(self, other: Num) -> Result<Num, NumFault>
         ensures { result ≡ quotient_of self other }
     {
@@ -79,10 +77,11 @@ impl Num {
         number_of(rounded(dividend, other.count.unsigned_abs()))
     }
 
-    /// What is left of the number after the greatest whole multiple of the other that is not above it, or for a
-    /// negative one not below it: it has the other's sign.
+    /// The number minus the other times the floor of their quotient: what is left has the other's sign, and is
+    /// nearer to 0 than the other. ZeroDivide where the other is 0.
     pub fn modulo(self, other: Num) -> Result<Num, NumFault>
-        ensures { result ≡ modulo_of self other }
+        ensures value { result ≡ modulo_of self other }
+        ensures zero_divide { IsErr result ↔ (other ≡ pos 0) }
     {
         if other.count == 0 {
             return Err(NumFault::ZeroDivide);
@@ -91,9 +90,11 @@ impl Num {
         number_of(i128::from(self.count) - i128::from(other.count) * i128::from(times))
     }
 
-    /// What is left after the division by the other, cut toward 0: it has the number's own sign.
+    /// The number minus the other times their quotient cut toward 0: what is left has the number's own sign, and is
+    /// nearer to 0 than the other. ZeroDivide where the other is 0.
     pub fn remainder(self, other: Num) -> Result<Num, NumFault>
-        ensures { result ≡ remainder_of self other }
+        ensures value { result ≡ remainder_of self other }
+        ensures zero_divide { IsErr result ↔ (other ≡ pos 0) }
     {
         if other.count == 0 {
             return Err(NumFault::ZeroDivide);

@@ -4,10 +4,10 @@
 pub mod arithmetic;
 #[cfg(test)]
 mod arithmetic_tests;
-pub mod laws;
 pub mod lists;
 pub mod memory;
 pub mod number;
+pub mod number_laws;
 pub mod powers;
 pub mod rounding;
 pub mod sine;

@@ -1,6 +1,6 @@
 //! Fixed-point numbers: whole counts of millionths.
 ghost use Rattle.std.specs.Prelude.{◌≡◌, pos, ◌*ℤ◌};
-ghost use Rattle.nl_fixed.specs.Numbers.{number_at, one};
+ghost use Rattle.nl_fixed.specs.Numbers.{IsInRange, number_at, one};
 
 use std::marker::Model;
 
@@ -32,13 +32,16 @@ impl Model for Num {
 /// Why an operation on numbers has no answer.
 #[derive(Clone, Copy, Debug, PartialEq, Eq)]
 pub enum NumFault {
+    /// A result is out of range.
     Overflow,
+    /// A divisor is 0.
     ZeroDivide,
+    /// The operation has no meaning at these numbers.
     Domain,
 }
 
 impl Num {
-    /// The number of so many millionths.
+    /// The number of so many millionths, or None where it is out of range.
     pub fn new(millionths: i64) -> Option<Num>
         ensures { result ≡ number_at millionths }
     {
@@ -49,7 +52,7 @@ impl Num {
         }
     }
 
-    /// The whole number n.
+    /// The whole number n, or None where it is out of range.
     pub fn whole(n: i64) -> Option<Num>
         ensures { result ≡ number_at (n *ℤ pos one) }
     {
@@ -58,7 +61,8 @@ impl Num {
 
     /// How many millionths the number is.
     pub fn millionths(self) -> i64
-        ensures { result ≡ self }
+        ensures value { result ≡ self }
+        ensures bound { IsInRange result }
     {
         self.count
     }

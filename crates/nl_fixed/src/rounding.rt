@@ -1,6 +1,6 @@
 //! Rounding to whole numbers and to places, and changes of sign.
-ghost use Rattle.std.specs.Prelude.{◌≡◌, ◌<◌, ◌≤◌, pos, neg_ℤ, unsigned_abs, IfErr};
-ghost use Rattle.nl_fixed.specs.Numbers.{IsInRange, limit, nearest_multiple, round_of, floor_of, ceiling_of, int_of, precision_of};
+ghost use Rattle.std.specs.Prelude.{◌≡◌, ◌<◌, ◌≤◌, ◌↔◌, pos, neg_ℤ, ◌<ℤ◌, unsigned_abs, IsErr};
+ghost use Rattle.nl_fixed.specs.Numbers.{IsInRange, one, limit, cut_quotient, nearest_multiple, round_of, floor_of, ceiling_of, int_of, precision_of};
 
 use crate::arithmetic::{number_of, rounded};
 use crate::number::{Num, NumFault, ONE};
@@ -68,10 +68,10 @@ impl Num {
 
     /// The number rounded to so many decimal places, a half upwards: the places are cut toward 0 to a whole number,
     /// with 6 or more nothing is lost, and a negative number of places, down to -12, rounds to tens, hundreds and so
-    /// on.
+    /// on. Domain where the places are fewer than -12.
     pub fn precision(self, places: Num) -> Result<Num, NumFault>
         ensures value { result ≡ precision_of self places }
-        ensures only_domain { IfErr result (λ fault. fault ≡ NumFault.Domain) }
+        ensures domain { IsErr result ↔ (cut_quotient places (pos one) <ℤ neg_ℤ (pos 12)) }
     {
         let places = places.count / ONE;
         if places < -12 {

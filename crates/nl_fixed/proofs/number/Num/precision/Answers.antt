@@ -2,6 +2,7 @@ use Rattle.std.proofs.Common.{◌≤◌, ◌≡◌, pos, ◌-ℤ◌, unsigned_ab
 use Rattle.std.specs.Int.{w64, w128}
 use Rattle.std.proofs.lemmas.Int.{ints, to_z-of_z}
 use Rattle.nl_fixed.specs.Numbers.{one, as_number, nearest_multiple}
+use Rattle.nl_fixed.proofs.NumberLawProofs.{no_fault}
 use Rattle.nl_fixed.proofs.PlacesLemmas.{precision_few, precision_many, precision_between, ten_above_zero, ten_narrow, nearest_power_in_range, as_number_inside}
 use Rattle.nl_fixed.proofs.number.Num.precision.Goals as goal
 
@@ -29,12 +30,12 @@ returns-clause-value c =
     ∙ ap as_number (to_z-of_z w128 _ (record { sfits = c.nearest_multiple.type_inv }) ∙ multiple)
     ∙ precision_between _ _ (int_div c.args.places (pos one)) _ n refl (omega (arith, ints)) (omega (arith, ints)) steps c.pow-step.ensures
 
-pub returns-clause-only_domain : goal.returns-clause-only_domain
-returns-clause-only_domain c =
+pub returns-clause-domain : goal.returns-clause-domain
+returns-clause-domain c =
     let count : to_z w64 (of_z w64 c.self.inside.count) ≡ c.args.self = omega (arith, ints) in
     let n = unsigned_abs (to_z w64 (of_z w64 (pos 6 -ℤ to_z w64 (of_z w64 (int_div (to_z w64 (of_z w64 c.places.inside.count)) (pos 1000000)))))) in
     let least : n ≤ 18 = omega (arith, ints) in
     let multiple = c.nearest_multiple.ensures ∙ ap (λ x. nearest_multiple x c.pow-step.result) count ∙ ap (nearest_multiple c.args.self) c.pow-step.ensures in
     let inside = nearest_power_in_range c.args.self n least (omega (arith, ints)) in
     let is = c.number_of.ensures ∙ ap as_number (to_z-of_z w128 _ (record { sfits = c.nearest_multiple.type_inv }) ∙ multiple) ∙ as_number_inside _ inside in
-    rw is tt
+    no_fault _ _ (rw is refl) (λ few. omega (arith, ints))

@@ -1,5 +1,5 @@
-use Rattle.nl_fixed.proofs.LawProofs.{modulo_divides, modulo_has_answer}
-use Rattle.nl_fixed.proofs.laws.modulo_divides.Goals as goal
+use Rattle.nl_fixed.proofs.NumberLawProofs.{modulo_divides, modulo_has_answer}
+use Rattle.nl_fixed.proofs.number_laws.modulo_divides.Goals as goal
 
 pub returns-clause-rest : goal.returns-clause-rest
 returns-clause-rest c = modulo_divides

@@ -1,5 +1,5 @@
-use Rattle.nl_fixed.proofs.LawProofs.{whole_root_is_greatest, root_is_greatest, root_has_answer}
-use Rattle.nl_fixed.proofs.laws.roots_are_greatest.Goals as goal
+use Rattle.nl_fixed.proofs.NumberLawProofs.{whole_root_is_greatest, root_is_greatest, root_has_answer}
+use Rattle.nl_fixed.proofs.number_laws.roots_are_greatest.Goals as goal
 
 pub returns-clause-whole : goal.returns-clause-whole
 returns-clause-whole c = whole_root_is_greatest

@@ -1,5 +1,5 @@
-use Rattle.nl_fixed.proofs.LawProofs.{remainder_divides, remainder_has_answer}
-use Rattle.nl_fixed.proofs.laws.remainder_divides.Goals as goal
+use Rattle.nl_fixed.proofs.NumberLawProofs.{remainder_divides, remainder_has_answer}
+use Rattle.nl_fixed.proofs.number_laws.remainder_divides.Goals as goal
 
 pub returns-clause-rest : goal.returns-clause-rest
 returns-clause-rest c = remainder_divides

@@ -1,5 +1,5 @@
-use Rattle.nl_fixed.proofs.LawProofs.{power_of_zero, power_of_next, power_of_negative}
-use Rattle.nl_fixed.proofs.laws.powers_are_products.Goals as goal
+use Rattle.nl_fixed.proofs.NumberLawProofs.{power_of_zero, power_of_next, power_of_negative}
+use Rattle.nl_fixed.proofs.number_laws.powers_are_products.Goals as goal
 
 pub returns-clause-zero : goal.returns-clause-zero
 returns-clause-zero c = power_of_zero

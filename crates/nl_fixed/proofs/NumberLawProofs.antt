@@ -1,5 +1,5 @@
 -- The laws of the arithmetic.
-use Rattle.std.proofs.Common.{ℕ, zero, suc, ◌+◌, ◌*◌, ◌/◌, ◌<◌, ◌≤◌, ◌≡◌, ◌≢◌, Bool, true, false, inl, inr, ℤ, pos, negsuc, ◌+ℤ◌, ◌-ℤ◌, ◌*ℤ◌, neg_ℤ, ◌≤ℤ◌, ◌<ℤ◌, unsigned_abs, int_rem, Result, Ok, Err, IsOk, cond, ◌∙◌, sym, ap, refl, arith, add-one}
+use Rattle.std.proofs.Common.{ℕ, zero, suc, ◌+◌, ◌*◌, ◌/◌, ◌<◌, ◌≤◌, ◌≡◌, ◌≢◌, Bool, true, false, inl, inr, ℤ, pos, negsuc, ◌+ℤ◌, ◌-ℤ◌, ◌*ℤ◌, neg_ℤ, ◌≤ℤ◌, ◌<ℤ◌, unsigned_abs, int_rem, Result, Ok, Err, IsOk, IsErr, ◌↔◌, cond, ◌∙◌, sym, ap, refl, arith, add-one}
 use Rattle.std.proofs.lemmas.Int.{ints, quot-rem, rem_below}
 use Rattle.std.proofs.lemmas.Bool.{cases_lt}
 use Rattle.std.proofs.Math.Nat.{mul-div_cancel, mul-le-mul}
@@ -228,3 +228,8 @@ roundings_are_around count = record {
   round_low = (round_around count).0;
   round_high = (round_around count).1;
 }
+
+-- ---- an outcome that is an answer is no fault
+pub no_fault : (r : Result ℤ NumFault) (P : Type 0) → IsOk r → ¬ P → IsErr r ↔ P
+no_fault (Ok count) P is never = (λ e. cc, λ p. absurd (never p))
+no_fault (Err fault) P is never = cc
