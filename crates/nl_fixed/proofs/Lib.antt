@@ -1,0 +1,13 @@
+pub mod Angles
+pub mod Directions
+pub mod Integers
+pub mod NumberLawProofs
+pub mod PlacesLemmas
+pub mod PowerLemmas
+pub mod RootLemmas
+pub mod RoundingLemmas
+pub mod Signs
+pub mod SineTable
+pub mod Tangents
+pub mod Turns
+pub mod Wide
