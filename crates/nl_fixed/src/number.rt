@@ -3,6 +3,7 @@ ghost use Rattle.std.specs.Prelude.{◌≡◌, pos, ◌*ℤ◌};
 ghost use Rattle.nl_fixed.specs.Numbers.{IsInRange, number_at, one};
 
 use std::marker::Model;
+use thiserror::Error;
 
 /// A number: a whole count of millionths from -9*10^18 to 9*10^18, seen by contracts as that count.
 #[derive(Clone, Copy, PartialEq, Eq, PartialOrd, Ord, Debug)]
@@ -30,13 +31,13 @@ impl Model for Num {
 }
 
 /// Why an operation on numbers has no answer.
-#[derive(Clone, Copy, Debug, PartialEq, Eq)]
+#[derive(Clone, Copy, Debug, PartialEq, Eq, Error)]
 pub enum NumFault {
-    /// A result is out of range.
+    #[error("the result is out of range")]
     Overflow,
-    /// A divisor is 0.
+    #[error("the divisor is 0")]
     ZeroDivide,
-    /// The operation has no meaning at these numbers.
+    #[error("the operation has no meaning at these numbers")]
     Domain,
 }
 
