@@ -1,8 +1,10 @@
+pub mod Digits
 pub mod Integers
 pub mod NumberLawProofs
 pub mod PlacesLemmas
 pub mod PowerLemmas
 pub mod RootLemmas
 pub mod RoundingLemmas
+pub mod Scaled
 pub mod Signs
 pub mod Wide

@@ -11,6 +11,7 @@ pub mod number_laws;
 pub mod powers;
 pub mod rounding;
 pub mod span;
+pub mod spelling;
 pub mod text;
 
 pub use lists::{Cells, Names};

@@ -1,0 +1,194 @@
+//! How numbers are written: the number that a word writes, and the text of a number.
+ghost use Rattle.std.specs.Prelude.{◌++◌, ◌≡◌, ℕ, ◌+◌, ◌+ℤ◌, ◌-ℤ◌, ◌*◌, ◌*ℤ◌, ◌^◌, ◌<◌, ◌≤◌, pos, ◌≤ℤ◌, neg_ℤ, ◌&&◌, true, Bool, unsigned_abs, Some, None, if◌then◌else◌, length, IfSome};
+ghost use Rattle.std.specs.Option.{option_map};
+ghost use Rattle.std.specs.Str.Parse.{digits_value_after, digits_value};
+ghost use Rattle.nl_fixed.specs.Numbers.{as_number, rounded_quotient};
+ghost use Rattle.nl_fixed.specs.Spelling.{most_digits, leading_digits, behind_digits, all_digits, is_one_or_two, signed_exponent, exponent_of, exponent_value, signed, times_power_of_ten, decimal_value, value_of, ended, unsigned_parts, read_of};
+
+use crate::number::{Num, NumFault};
+
+/// How many digits may stand before the exponent.
+const MOST_DIGITS: usize = 30;
+
+/// The greatest count of millionths.
+const LIMIT: u128 = 9_000_000_000_000_000_000;
+
+/// How many digits a word begins with.
+fn leading_digit_count(word: &[u8]) -> usize
+    ensures { result ≡ length (leading_digits word.now) }
+{
+    word.iter()
+        .take_while(|byte| byte.is_ascii_digit())
+        .count()
+}
+
+/// Splits a word behind the digits that it begins with.
+fn split_digits(word: &[u8]) -> (&[u8], &[u8])
+    ensures digits { result.0.now ≡ leading_digits word.now }
+    ensures rest { result.1.now ≡ behind_digits word.now }
+    ensures all_are { all_digits result.0.now ≡ true }
+{
+    word.split_at(leading_digit_count(word))
+}
+
+/// The number that a number's digits and further ones write together.
+fn append_digits(number: u128, digits: &[u8]) -> u128
+    requires are_digits { all_digits digits.now ≡ true }
+    requires fits { (number + 1) * 10 ^ length digits.now ≤ 10 ^ 30 }
+    ensures value { result ≡ digits_value_after 10 number digits.now }
+    ensures below { result + 1 ≤ (number + 1) * 10 ^ length digits.now }
+{
+    let mut appended = number;
+    for byte in digits {
+        appended = appended * 10 + u128::from(*byte - b'0');
+    }
+    appended
+}
+
+/// The number that one or two digits write.
+fn one_or_two_digits(digits: &[u8]) -> Option<i32>
+    ensures small { IfSome result (λ n. (pos 0 ≤ℤ n) × (n ≤ℤ pos 99)) }
+    ensures value { result ≡ (if all_digits digits.now && is_one_or_two (length digits.now) then Some (pos (digits_value 10 digits.now)) else None) }
+{
+    match digits {
+        [ones] if ones.is_ascii_digit() => Some(i32::from(*ones - b'0')),
+        [tens, ones] if tens.is_ascii_digit() && ones.is_ascii_digit() => {
+            Some(i32::from(*tens - b'0') * 10 + i32::from(*ones - b'0'))
+        }
+        _ => None,
+    }
+}
+
+/// The exponent that these bytes are, behind its letter.
+fn read_signed(written: &[u8]) -> Option<i32>
+    ensures small { IfSome result (λ n. (neg_ℤ (pos 99) ≤ℤ n) × (n ≤ℤ pos 99)) }
+    ensures value { (letter : ℕ) → result ≡ option_map exponent_value (signed_exponent letter written.now) }
+{
+    match written {
+        [b'-', digits @ ..] => one_or_two_digits(digits).map(|exponent| -exponent),
+        [b'+', digits @ ..] => one_or_two_digits(digits),
+        digits => one_or_two_digits(digits),
+    }
+}
+
+/// The exponent that the whole of these bytes is; it is 0 where there are none.
+fn read_exponent(bytes: &[u8]) -> Option<i32>
+    ensures small { IfSome result (λ n. (neg_ℤ (pos 99) ≤ℤ n) × (n ≤ℤ pos 99)) }
+    ensures value { result ≡ option_map exponent_value (exponent_of bytes.now) }
+{
+    match bytes {
+        [] => Some(0),
+        [b'e' | b'E', written @ ..] => read_signed(written),
+        _ => None,
+    }
+}
+
+/// The number of so many millionths, which may be any count.
+#[tactic(auto, unfolding(crate::specs::Numbers::as_number))]
+fn number_of(count: i128) -> Result<Num, NumFault>
+    ensures { result ≡ as_number count }
+{
+    match i64::try_from(count) {
+        Ok(count) => Num::new(count).ok_or(NumFault::Overflow),
+        Err(_) => Err(NumFault::Overflow),
+    }
+}
+
+/// A power of ten with at most 31 zeros.
+fn power_of_ten(zeros: u32) -> i128
+    requires { zeros ≤ 31 }
+    ensures value { result ≡ pos (10 ^ zeros) }
+    ensures above { pos 1 ≤ℤ result }
+    ensures below { result ≤ℤ pos (10 ^ 31) }
+{
+    10u128.pow(zeros) as i128
+}
+
+/// The whole number nearest to n / 10^places, a half upwards.
+fn divided(n: i128, places: u32) -> i128
+    requires { unsigned_abs n < 10 ^ 30 }
+    ensures { result ≡ rounded_quotient n (10 ^ places) }
+{
+    // Thirty digits are less than a half behind a point and a zero.
+    if places > 31 {
+        return 0;
+    }
+    let unit = power_of_ten(places);
+    (2 * n + unit).div_euclid(2 * unit)
+}
+
+/// The number of n * 10^places millionths.
+fn multiplied(n: i128, places: u32) -> Result<Num, NumFault>
+    ensures { result ≡ as_number (n *ℤ pos (10 ^ places)) }
+{
+    if n == 0 {
+        return number_of(0);
+    }
+    // Beyond these bounds the product is out of range, and within them it fits.
+    if places > 18 || n.unsigned_abs() > LIMIT {
+        return Err(NumFault::Overflow);
+    }
+    number_of(n * power_of_ten(places))
+}
+
+/// The number of n * 10^power millionths, rounded to the nearest one, a half upwards.
+#[tactic(auto, unfolding(crate::specs::Spelling::times_power_of_ten))]
+fn scaled(n: i128, power: i32) -> Result<Num, NumFault>
+    requires { unsigned_abs n < 10 ^ 30 }
+    ensures { result ≡ as_number (times_power_of_ten n power) }
+{
+    if power < 0 {
+        number_of(divided(n, power.unsigned_abs()))
+    } else {
+        multiplied(n, power.unsigned_abs())
+    }
+}
+
+/// A number of at most thirty digits, with its sign.
+fn with_sign(negative: bool, digits: u128) -> i128
+    requires { digits < 10 ^ 30 }
+    ensures value { result ≡ signed negative digits }
+    ensures small { unsigned_abs result < 10 ^ 30 }
+{
+    let digits = digits as i128;
+    if negative { -digits } else { digits }
+}
+
+/// The whole number that all the digits before an exponent write.
+fn all_digits_together(whole: &[u8], fraction: &[u8]) -> u128
+    requires whole_digits { all_digits whole.now ≡ true }
+    requires fraction_digits { all_digits fraction.now ≡ true }
+    requires few { length whole.now + length fraction.now ≤ most_digits }
+    ensures value { result ≡ digits_value 10 (whole.now ++ fraction.now) }
+    ensures small { result < 10 ^ 30 }
+{
+    append_digits(append_digits(0, whole), fraction)
+}
+
+/// The power of ten that makes millionths of a whole number whose last digits stand behind the point.
+fn power_to_millionths(exponent: i32, places: usize) -> i32
+    requires exponent { (neg_ℤ (pos 99) ≤ℤ exponent) × (exponent ≤ℤ pos 99) }
+    requires few { places ≤ most_digits }
+    ensures { result ≡ (pos 6 +ℤ exponent) -ℤ pos places }
+{
+    6 + exponent - places as i32
+}
+
+/// The number that a word's digits write, those before its point and those behind it, with its exponent.
+fn decimal_value(
+    negative: bool,
+    whole: &[u8],
+    fraction: &[u8],
+    exponent: i32,
+) -> Result<Num, NumFault>
+    requires whole_digits { all_digits whole.now ≡ true }
+    requires fraction_digits { all_digits fraction.now ≡ true }
+    requires exponent { (neg_ℤ (pos 99) ≤ℤ exponent) × (exponent ≤ℤ pos 99) }
+    ensures { result ≡ decimal_value negative whole.now fraction.now exponent }
+{
+    if whole.len() > MOST_DIGITS || fraction.len() > MOST_DIGITS - whole.len() {
+        return Err(NumFault::Overflow);
+    }
+    let digits = with_sign(negative, all_digits_together(whole, fraction));
+    scaled(digits, power_to_millionths(exponent, fraction.len()))
+}
