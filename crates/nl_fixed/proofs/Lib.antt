@@ -8,3 +8,4 @@ pub mod RoundingLemmas
 pub mod Scaled
 pub mod Signs
 pub mod Wide
+pub mod Words

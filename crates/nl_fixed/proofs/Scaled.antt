@@ -45,6 +45,7 @@ divided_is n u r q e f = rw e at f
 -- ---- a product by a power of ten
 
 pub out_of_range : (z : ℤ) → limit < unsigned_abs z → Err Overflow ≡ as_number z
+unfolding as_number
 out_of_range z far = grind (arith, nat_tests)
 
 pub multiplied_far : (n : ℤ) (places : ℕ) → 0 < unsigned_abs n → 18 < places → Err Overflow ≡ as_number (n *ℤ pos (10 ^ places))

@@ -83,9 +83,9 @@ behind_digits bs = drop (prefix_len is_ascii_digit bs) bs
 -- an exponent with this letter and sign, and digits as given
 abbrev pub exponent_with : ℕ → Option ℕ → List ℕ → Option (Option Exponent)
 exponent_with letter sign ds =
-  if all_digits ds && is_one_or_two (length ds)
-  then Some (Some (record { letter = letter; sign = sign; digits = ds }))
-  else None
+    if all_digits ds && is_one_or_two (length ds)
+    then Some (Some (record { letter = letter; sign = sign; digits = ds }))
+    else None
 
 abbrev pub signed_exponent : ℕ → List ℕ → Option (Option Exponent)
 signed_exponent letter [] = None
@@ -99,16 +99,16 @@ exponent_of (c ∷ cs) = if is_exponent_letter c then signed_exponent c cs else 
 -- the parts, where what stands behind the digits is an exponent
 abbrev pub ended : Bool → List ℕ → Bool → List ℕ → List ℕ → Option Parts
 ended minus whole point fraction rest =
-  if nat_lt 0 (length whole + length fraction)
-  then option_map (λ e. record { minus = minus; whole = whole; point = point; fraction = fraction; exponent = e }) (exponent_of rest)
-  else None
+    if nat_lt 0 (length whole + length fraction)
+    then option_map (λ e. record { minus = minus; whole = whole; point = point; fraction = fraction; exponent = e }) (exponent_of rest)
+    else None
 
 abbrev pub pointed : Bool → List ℕ → List ℕ → Option Parts
 pointed minus whole [] = ended minus whole false [] []
 pointed minus whole (c ∷ cs) =
-  if c == decimal_point
-  then ended minus whole true (leading_digits cs) (behind_digits cs)
-  else ended minus whole false [] (c ∷ cs)
+    if c == decimal_point
+    then ended minus whole true (leading_digits cs) (behind_digits cs)
+    else ended minus whole false [] (c ∷ cs)
 
 abbrev pub unsigned_parts : Bool → List ℕ → Option Parts
 unsigned_parts minus bs = pointed minus (leading_digits bs) (behind_digits bs)
@@ -148,9 +148,9 @@ most_digits = 30
 -- writes n * 10^(exponent - digits behind the point); a million times that is the count
 abbrev pub decimal_value : Bool → List ℕ → List ℕ → ℤ → Result ℤ NumFault
 decimal_value minus whole fraction exponent =
-  if nat_le (length whole + length fraction) most_digits
-  then as_number (times_power_of_ten (signed minus (digits_value 10 (whole ++ fraction))) (pos 6 +ℤ exponent -ℤ pos (length fraction)))
-  else Err Overflow
+    if nat_le (length whole + length fraction) most_digits
+    then as_number (times_power_of_ten (signed minus (digits_value 10 (whole ++ fraction))) (pos 6 +ℤ exponent -ℤ pos (length fraction)))
+    else Err Overflow
 
 abbrev pub value_of : Parts → Result ℤ NumFault
 value_of p = decimal_value p.minus p.whole p.fraction (exponent_value p.exponent)

@@ -3,23 +3,19 @@ ghost use Rattle.std.specs.Prelude.{◌++◌, ◌≡◌, ℕ, ◌+◌, ◌+ℤ�
 ghost use Rattle.std.specs.Option.{option_map};
 ghost use Rattle.std.specs.Str.Parse.{digits_value_after, digits_value};
 ghost use Rattle.nl_fixed.specs.Numbers.{as_number, rounded_quotient};
-ghost use Rattle.nl_fixed.specs.Spelling.{most_digits, leading_digits, behind_digits, all_digits, is_one_or_two, signed_exponent, exponent_of, exponent_value, signed, times_power_of_ten, decimal_value, value_of, ended, unsigned_parts, read_of};
+ghost use Rattle.nl_fixed.specs.Spelling.{most_digits, leading_digits, behind_digits, all_digits, is_one_or_two, signed_exponent, exponent_of, exponent_value, signed, times_power_of_ten, decimal_value, value_of, ended, pointed, unsigned_parts, read_of};
 
-use crate::number::{Num, NumFault};
+use crate::arithmetic::number_of;
+use crate::number::{LIMIT, Num, NumFault};
 
 /// How many digits may stand before the exponent.
 const MOST_DIGITS: usize = 30;
-
-/// The greatest count of millionths.
-const LIMIT: u128 = 9_000_000_000_000_000_000;
 
 /// How many digits a word begins with.
 fn leading_digit_count(word: &[u8]) -> usize
     ensures { result ≡ length (leading_digits word.now) }
 {
-    word.iter()
-        .take_while(|byte| byte.is_ascii_digit())
-        .count()
+    word.iter().take_while(|byte| byte.is_ascii_digit()).count()
 }
 
 /// Splits a word behind the digits that it begins with.
@@ -83,17 +79,6 @@ fn read_exponent(bytes: &[u8]) -> Option<i32>
     }
 }
 
-/// The number of so many millionths, which may be any count.
-#[tactic(auto, unfolding(crate::specs::Numbers::as_number))]
-fn number_of(count: i128) -> Result<Num, NumFault>
-    ensures { result ≡ as_number count }
-{
-    match i64::try_from(count) {
-        Ok(count) => Num::new(count).ok_or(NumFault::Overflow),
-        Err(_) => Err(NumFault::Overflow),
-    }
-}
-
 /// A power of ten with at most 31 zeros.
 fn power_of_ten(zeros: u32) -> i128
     requires { zeros ≤ 31 }
@@ -125,7 +110,7 @@ fn multiplied(n: i128, places: u32) -> Result<Num, NumFault>
         return number_of(0);
     }
     // Beyond these bounds the product is out of range, and within them it fits.
-    if places > 18 || n.unsigned_abs() > LIMIT {
+    if places > 18 || n.unsigned_abs() > LIMIT as u128 {
         return Err(NumFault::Overflow);
     }
     number_of(n * power_of_ten(places))
@@ -191,4 +176,61 @@ fn decimal_value(
     }
     let digits = with_sign(negative, all_digits_together(whole, fraction));
     scaled(digits, power_to_millionths(exponent, fraction.len()))
+}
+
+/// What a word writes whose digits are split off, where the rest is an exponent or nothing.
+fn read_ended(
+    negative: bool,
+    whole: &[u8],
+    fraction: &[u8],
+    rest: &[u8],
+) -> Option<Result<Num, NumFault>>
+    requires whole_digits { all_digits whole.now ≡ true }
+    requires fraction_digits { all_digits fraction.now ≡ true }
+    ensures { (point : Bool) → result ≡ option_map value_of (ended negative whole.now point fraction.now rest.now) }
+{
+    if whole.is_empty() && fraction.is_empty() {
+        return None;
+    }
+    let exponent = read_exponent(rest)?;
+    Some(decimal_value(negative, whole, fraction, exponent))
+}
+
+/// What a word writes of which the digits before the point are split off.
+fn read_pointed(negative: bool, whole: &[u8], behind: &[u8]) -> Option<Result<Num, NumFault>>
+    requires { all_digits whole.now ≡ true }
+    ensures { result ≡ option_map value_of (pointed negative whole.now behind.now) }
+{
+    match behind {
+        [b'.', behind_point @ ..] => {
+            let (fraction, rest) = split_digits(behind_point);
+            read_ended(negative, whole, fraction, rest)
+        }
+        _ => read_ended(negative, whole, &[], behind),
+    }
+}
+
+/// What a word writes behind its minus sign, if it has one.
+fn read_unsigned(negative: bool, word: &[u8]) -> Option<Result<Num, NumFault>>
+    ensures { result ≡ option_map value_of (unsigned_parts negative word.now) }
+{
+    let (whole, behind) = split_digits(word);
+    read_pointed(negative, whole, behind)
+}
+
+impl Num {
+    /// The number that a word writes, rounded to the nearest millionth, a half upwards, or None where the word isn't
+    /// a number. A number is an optional `-`; then digits, or digits with a point before, among or behind them; then
+    /// optionally `e` or `E`, an optional sign, and one or two digits. More than thirty digits before the exponent
+    /// are Overflow, whatever they are, as is a value out of range.
+    ///
+    /// The word is read once, and nothing is computed from a digit past the thirtieth.
+    pub fn read(word: &[u8]) -> Option<Result<Num, NumFault>>
+        ensures { result ≡ read_of word.now }
+    {
+        match word {
+            [b'-', magnitude @ ..] => read_unsigned(true, magnitude),
+            _ => read_unsigned(false, word),
+        }
+    }
 }
