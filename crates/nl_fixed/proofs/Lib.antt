@@ -7,5 +7,6 @@ pub mod RootLemmas
 pub mod RoundingLemmas
 pub mod Scaled
 pub mod Signs
+pub mod Texts
 pub mod Wide
 pub mod Words

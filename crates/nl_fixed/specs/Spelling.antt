@@ -161,21 +161,21 @@ read_of word = option_map value_of (parts_of word)
 
 -- ---- the text of a number
 
--- the last so many decimal digits
-abbrev pub last_digits : ℕ → ℕ → List ℕ
-last_digits zero n = []
-last_digits (suc k) n = last_digits k (n / 10) ++ (48 + n % 10) ∷ []
+-- a number below 10^k with k digits, where it has fewer with zeros before them
+unfoldable pub padded_digits : ℕ → ℕ → List ℕ
+padded_digits zero n = []
+padded_digits (suc k) n = (48 + n / 10 ^ k) ∷ padded_digits k (n % 10 ^ k)
 
 abbrev pub is_zero_digit : ℕ → Bool
 is_zero_digit c = c == 48
 
-abbrev pub without_trailing_zeros : List ℕ → List ℕ
+unfoldable pub without_trailing_zeros : List ℕ → List ℕ
 without_trailing_zeros [] = []
 without_trailing_zeros (d ∷ ds) = if list_all is_zero_digit (d ∷ ds) then [] else d ∷ without_trailing_zeros ds
 
 -- so many millionths, fewer than a million: a point and six digits, but for the zeros at their end, or nothing at all
 abbrev pub fraction_text : ℕ → List ℕ
-fraction_text m = if m == 0 then [] else decimal_point ∷ without_trailing_zeros (last_digits 6 m)
+fraction_text m = if m == 0 then [] else decimal_point ∷ without_trailing_zeros (padded_digits 6 m)
 
 -- a number of so many millionths
 abbrev pub magnitude_text : ℕ → List ℕ

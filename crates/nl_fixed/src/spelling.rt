@@ -1,15 +1,21 @@
 //! How numbers are written: the number that a word writes, and the text of a number.
-ghost use Rattle.std.specs.Prelude.{◌++◌, ◌≡◌, ℕ, ◌+◌, ◌+ℤ◌, ◌-ℤ◌, ◌*◌, ◌*ℤ◌, ◌^◌, ◌<◌, ◌≤◌, pos, ◌≤ℤ◌, neg_ℤ, ◌&&◌, true, Bool, unsigned_abs, Some, None, if◌then◌else◌, length, IfSome};
+ghost use Rattle.std.specs.Prelude.{◌++◌, ◌≡◌, ℕ, ◌+◌, ◌+ℤ◌, ◌-ℤ◌, ◌*◌, ◌*ℤ◌, ◌^◌, ◌<◌, ◌≤◌, pos, ◌≤ℤ◌, neg_ℤ, ◌&&◌, true, Bool, unsigned_abs, Some, None, if◌then◌else◌, length, IfSome, IfOk, OnOk};
 ghost use Rattle.std.specs.Option.{option_map};
 ghost use Rattle.std.specs.Str.Parse.{digits_value_after, digits_value};
 ghost use Rattle.nl_fixed.specs.Numbers.{as_number, rounded_quotient};
-ghost use Rattle.nl_fixed.specs.Spelling.{most_digits, leading_digits, behind_digits, all_digits, is_one_or_two, signed_exponent, exponent_of, exponent_value, signed, times_power_of_ten, decimal_value, value_of, ended, pointed, unsigned_parts, read_of};
+ghost use Rattle.nl_fixed.specs.Spelling.{most_digits, leading_digits, behind_digits, all_digits, is_one_or_two, signed_exponent, exponent_of, exponent_value, signed, times_power_of_ten, decimal_value, value_of, ended, pointed, unsigned_parts, read_of, fraction_text, number_text};
 
 use crate::arithmetic::number_of;
+use crate::memory::NoMemory;
 use crate::number::{LIMIT, Num, NumFault};
+use crate::text::Str;
+use std::alloc::Global;
 
 /// How many digits may stand before the exponent.
 const MOST_DIGITS: usize = 30;
+
+/// How many millionths make 1.
+const MILLION: u64 = 1_000_000;
 
 /// How many digits a word begins with.
 fn leading_digit_count(word: &[u8]) -> usize
@@ -233,4 +239,36 @@ impl Num {
             _ => read_unsigned(false, word),
         }
     }
+    /// The number's text: a minus sign where it is negative, the whole part, and where there is a fraction a point
+    /// and its digits, with no zeros at their end.
+    pub fn text(self, alloc: Global) -> Result<Str, NoMemory>
+        ensures { IfOk result (λ text. text ≡ number_text self) }
+    {
+        let magnitude = self.count.unsigned_abs();
+        let sign = if self.count < 0 { "-" } else { "" };
+        let whole = magnitude / MILLION;
+        let mut text = format!(in alloc; "{sign}{whole}")?.into_bytes();
+        push_fraction(&mut text, magnitude % MILLION)?;
+        Ok(Str::of_vec(text))
+    }
+}
+
+/// Appends a point and the digits of so many millionths, if there are any.
+fn push_fraction(text: &mut Vec<u8>, millionths: u64) -> Result<(), NoMemory>
+    requires { millionths < 1000000 }
+    ensures { OnOk result (text.new.items ≡ text.old.items ++ fraction_text millionths) }
+{
+    if millionths == 0 {
+        return Ok(());
+    }
+    text.push(b'.')?;
+    let mut rest = millionths;
+    let mut places = 6;
+    while rest > 0 {
+        places -= 1;
+        let unit = 10u64.pow(places);
+        text.push(b'0' + (rest / unit) as u8)?;
+        rest %= unit;
+    }
+    Ok(())
 }
