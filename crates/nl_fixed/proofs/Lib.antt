@@ -1,4 +1,5 @@
 pub mod Digits
+pub mod Forms
 pub mod Integers
 pub mod NumberLawProofs
 pub mod PlacesLemmas
