@@ -6,6 +6,7 @@ pub mod PlacesLemmas
 pub mod PowerLemmas
 pub mod RootLemmas
 pub mod RoundingLemmas
+pub mod ReadBack
 pub mod Scaled
 pub mod Signs
 pub mod Texts
