@@ -9,6 +9,7 @@ pub mod RoundingLemmas
 pub mod ReadBack
 pub mod Scaled
 pub mod Signs
+pub mod SpellingLawProofs
 pub mod Texts
 pub mod Wide
 pub mod Words

@@ -1,3 +1,4 @@
 pub mod NumberLaws
 pub mod Numbers
 pub mod Spelling
+pub mod SpellingLaws
