@@ -140,6 +140,10 @@ unfoldable pub times_power_of_ten : ℤ → ℤ → ℤ
 times_power_of_ten n (pos k) = n *ℤ pos (10 ^ k)
 times_power_of_ten n (negsuc k) = rounded_quotient n (10 ^ suc k)
 
+-- a count has so many decimal places
+abbrev pub decimal_places : ℕ
+decimal_places = 6
+
 -- so many digits may stand before the exponent
 abbrev pub most_digits : ℕ
 most_digits = 30
@@ -149,7 +153,7 @@ most_digits = 30
 abbrev pub decimal_value : Bool → List ℕ → List ℕ → ℤ → Result ℤ NumFault
 decimal_value minus whole fraction exponent =
     if nat_le (length whole + length fraction) most_digits
-    then as_number (times_power_of_ten (signed minus (digits_value 10 (whole ++ fraction))) (pos 6 +ℤ exponent -ℤ pos (length fraction)))
+    then as_number (times_power_of_ten (signed minus (digits_value 10 (whole ++ fraction))) (pos decimal_places +ℤ exponent -ℤ pos (length fraction)))
     else Err Overflow
 
 abbrev pub value_of : Parts → Result ℤ NumFault
@@ -175,11 +179,11 @@ without_trailing_zeros (d ∷ ds) = if list_all is_zero_digit (d ∷ ds) then []
 
 -- so many millionths, fewer than a million: a point and six digits, but for the zeros at their end, or nothing at all
 abbrev pub fraction_text : ℕ → List ℕ
-fraction_text m = if m == 0 then [] else decimal_point ∷ without_trailing_zeros (padded_digits 6 m)
+fraction_text m = if m == 0 then [] else decimal_point ∷ without_trailing_zeros (padded_digits decimal_places m)
 
 -- a number of so many millionths
 abbrev pub magnitude_text : ℕ → List ℕ
-magnitude_text n = decimal (n / 1000000) ++ fraction_text (n % 1000000)
+magnitude_text n = decimal (n / one) ++ fraction_text (n % one)
 
 -- the text of the number with this count of millionths
 abbrev pub number_text : ℤ → List ℕ

@@ -8,4 +8,4 @@ pub returns : goal.returns
 returns c =
     let fits = c.ranges.exponent in
     decimal_value_is c.args.negative c.args.whole.now c.args.fraction.now c.args.exponent c.with_sign-digits.result c.power_to_millionths.result c.scaled.result (omega arith)
-    (c.with_sign-digits.ensures.value ∙ ap (signed c.args.negative) c.all_digits_together.ensures.value) (simp to_z-of_z at c.power_to_millionths.ensures) (grind (arith, to_z-of_z))
+    (c.with_sign-digits.ensures.value ∙ ap (signed c.args.negative) c.joined_digits.ensures.value) (simp to_z-of_z at c.power_to_millionths.ensures) (grind (arith, to_z-of_z))

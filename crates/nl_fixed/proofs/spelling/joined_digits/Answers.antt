@@ -1,7 +1,7 @@
 use Rattle.std.proofs.Common.{length, arith, ◌∙◌, sym, ap}
 use Rattle.std.specs.Str.Parse.{digits_value_after}
 use Rattle.nl_fixed.proofs.Digits.{digits_value_after-append, room_first, room_second}
-use Rattle.nl_fixed.proofs.spelling.all_digits_together.Goals as goal
+use Rattle.nl_fixed.proofs.spelling.joined_digits.Goals as goal
 
 pub append_digits-requires-clause-fits : goal.append_digits-requires-clause-fits
 append_digits-requires-clause-fits c = room_first (length c.args.whole.now) (omega arith)
