@@ -14,6 +14,9 @@ use std::alloc::Global;
 /// How many digits may stand before the exponent.
 const MOST_DIGITS: usize = 30;
 
+/// The most zeros of a power of ten that is itself a count in range.
+const MOST_ZEROS: u32 = 18;
+
 impl Num {
     /// The number that a word writes, rounded to the nearest millionth, a half upwards; None where the word hasn't
     /// the form of a number. That is an optional `-`; then digits, with a point before, among or behind them or
@@ -236,7 +239,7 @@ fn multiplied(n: i128, places: u32) -> Result<Num, NumFault>
         return number_of(0);
     }
     // Beyond these bounds the product is out of range, and within them it fits.
-    if places > 18 || n.unsigned_abs() > LIMIT as u128 {
+    if places > MOST_ZEROS || n.unsigned_abs() > LIMIT as u128 {
         return Err(NumFault::Overflow);
     }
     number_of(n * power_of_ten(places))
