@@ -8,6 +8,7 @@ pub mod RootLemmas
 pub mod RoundingLemmas
 pub mod ReadBack
 pub mod Scaled
+pub mod Shifts
 pub mod Signs
 pub mod SpellingLawProofs
 pub mod Texts
