@@ -1,3 +1,5 @@
 pub mod NumberLaws
 pub mod Numbers
 pub mod Sines
+pub mod Spelling
+pub mod SpellingLaws

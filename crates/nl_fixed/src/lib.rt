@@ -12,6 +12,10 @@ pub mod powers;
 pub mod rounding;
 pub mod sine;
 pub mod span;
+pub mod spelling;
+pub mod spelling_laws;
+#[cfg(test)]
+mod spelling_tests;
 pub mod text;
 
 pub use lists::{Cells, Names};
