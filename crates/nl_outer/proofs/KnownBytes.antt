@@ -14,11 +14,16 @@ Appends-more (Some xs) (Some ys) None piece done count fits before now = absurd 
 Appends-more (Some xs) (Some ys) (Some zs) piece done count fits before now =
     let rest = take count (take (length piece - done) (drop done piece)) in
     let joined : take done piece ++ rest ≡ take (done + count) piece =
-    ap (λ l. take done piece ++ l) (take-take count (length piece - done) (drop done piece) fits) ∙ sym (take-add done count piece) in
-    now ∙ ap (λ l. l ++ rest) before ∙ append_assoc xs (take done piece) rest ∙ ap (λ l. xs ++ l) joined
+    ap (λ l. take done piece ++ l) (take-take count (length piece - done) (drop done piece) fits)
+    ∙ sym (take-add done count piece) in
+    now
+    ∙ ap (λ l. l ++ rest) before
+    ∙ append_assoc xs (take done piece) rest
+    ∙ ap (λ l. xs ++ l) joined
 
 -- a write that took nothing
-pub Appends-kept : (old mid new : Option (List ℕ)) (bytes : List ℕ) → Appends old mid bytes → Keeps mid new → Appends old new bytes
+pub Appends-kept : (old mid new : Option (List ℕ)) (bytes : List ℕ)
+    → Appends old mid bytes → Keeps mid new → Appends old new bytes
 Appends-kept None mid new bytes before now = tt
 Appends-kept (Some xs) None new bytes before now = absurd before
 Appends-kept (Some xs) (Some ys) None bytes before now = absurd now

@@ -14,8 +14,9 @@ same_bytes a b = pointwise nat_eq a b
 -- the bytes of the file at a path
 abbrev pub content_of : List ℕ → Folder → Option (List ℕ)
 content_of path [] = None
-content_of path (file ∷ files) = if same_bytes path file.path then Some file.bytes else content_of path files
+content_of path (file ∷ files) =
+    if same_bytes path file.path then Some file.bytes else content_of path files
 
--- what a read of at most so many bytes gives: all of them, or one more than that
+-- what a read of a path gives: all bytes of the file, or one more than `most` where there are more than that
 unfoldable pub read_of : List ℕ → ℕ → Folder → Option (List ℕ)
 read_of path most folder = option_map (take (most + 1)) (content_of path folder)

@@ -14,7 +14,7 @@ no_faults = record { faults = 0; last_fault = [] }
 abbrev pub failed_at : HostFaults → List ℕ → HostFaults
 failed_at s path = record { faults = counted s.faults; last_fault = path }
 
--- what a stream shows: the bytes that its writer holds, where the writer tells them, and how many faults there were
+-- what a stream shows: how many faults there were, and the bytes that its writer holds, where it tells them
 pub record StreamState : Type 0 where
   pub contents : Option (List ℕ)
   pub faults : ℕ

@@ -6,7 +6,8 @@ use Rattle.nl_outer.specs.Faults.{counted}
 use Rattle.nl_outer.specs.Folder.{Folder, content_of}
 use Rattle.nl_outer.specs.declared.memory_sink.FailingPut.{FailingPut}
 
--- the files, the numbers of the reads that are to fail, how many reads there were, and the faults with the path of the last
+-- files in memory: what is there, the numbers of the reads that are to fail (the first is 1), how many reads
+-- there were, how many faults, and the path of the last one, empty before any
 pub record FilesState : Type 0 where
   pub files : Folder
   pub failing : List ℕ
@@ -37,7 +38,8 @@ after_read s = record s { calls = counted s.calls }
 abbrev pub after_failed_read : FilesState → List ℕ → FilesState
 after_failed_read s path = record s { calls = counted s.calls; faults = counted s.faults; last_fault = path }
 
--- the bytes, how many of them there may be, the puts that are to fail, how many puts there were, and the faults
+-- a sink in memory: its bytes, how many there may be, the puts that are to fail (the first is 1), how many puts
+-- there were, and how many faults
 pub record SinkState : Type 0 where
   pub bytes : List ℕ
   pub room : ℕ
@@ -72,4 +74,8 @@ put_len s piece =
 -- what the next put of this piece leaves
 abbrev pub after_put : SinkState → List ℕ → SinkState
 after_put s piece =
-    record s { bytes = s.bytes ++ take (put_len s piece) piece; calls = counted s.calls; faults = if put_fails s piece then counted s.faults else s.faults }
+    record s {
+      bytes = s.bytes ++ take (put_len s piece) piece;
+      calls = counted s.calls;
+      faults = if put_fails s piece then counted s.faults else s.faults;
+    }

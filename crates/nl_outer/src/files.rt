@@ -13,7 +13,7 @@ pub struct StoredFile {
     pub bytes: Str,
 }
 
-/// Why a read gave nothing.
+/// Why a read gave nothing: a fault, or want of memory.
 #[derive(Clone, Copy, Debug, PartialEq, Eq)]
 pub enum ReadFail {
     Failed,
@@ -38,8 +38,8 @@ impl From<AllocError> for ReadFail {
 
 /// Where files are read from.
 ///
-/// `faults` counts its faults; `last_fault` is the path of the last one, empty before any; `serves` tells which
-/// paths may be asked for; `folder` is what is there, where that is known.
+/// `faults` counts its faults; `last_fault` is the path of the last one, empty before any; `serves`
+/// tells which paths may be asked for; `folder` is what is there, where it tells that.
 pub trait Files {
     ghost use Rattle.nl_outer.specs.Folder.{Folder, read_of};
 
@@ -51,10 +51,12 @@ pub trait Files {
 
     ghost folder: { Self → Option Folder };
 
-    /// All bytes of a file, or its first `most + 1` where it is longer. A file that isn't there is a fault.
+    /// All bytes of a file, or its first `most + 1` where it is longer. A file that isn't there is a
+    /// fault.
     fn read_file(&mut self, alloc: Global, path: &str, most: u64) -> Result<Vec<u8>, ReadFail>
         requires { serves self.old path.now ≡ true }
-        ensures bytes { IfOk result (λ bytes. IfSome (folder self.old) (λ files. read_of path.now most files ≡ Some bytes.items)) }
+        ensures bytes { IfOk result (λ bytes. IfSome (folder self.old) (λ files.
+            read_of path.now most files ≡ Some bytes.items)) }
         ensures bound { IfOk result (λ bytes. length bytes.items ≤ most + 1) }
         ensures cause { IsErrOf result ReadFail.Failed → Rose (faults self.old) (faults self.new) }
         ensures place { IsErrOf result ReadFail.Failed → last_fault self.new ≡ path.now }

@@ -85,8 +85,9 @@ impl<'a, R: rt::Files> Files for HostFiles<'a, R> {
 fn read_on<F: Read>(alloc: Global, file: &mut F, most: u64) -> Result<Vec<u8>, ReadFail>
     ensures bound { IfOk result (λ bytes. length bytes.items ≤ most + 1) }
 
-    // Where the file tells its bytes: just those were read, and where they aren't too many the file has ended.
-    ensures given { IfOk result (λ bytes. Consumes (F.remaining file.old) (F.remaining file.new) bytes.items) }
+    // Where the file tells its bytes: just those were read, and if they aren't too many it has ended.
+    ensures given { IfOk result (λ bytes.
+        Consumes (F.remaining file.old) (F.remaining file.new) bytes.items) }
     ensures ended { IfOk result (λ bytes. length bytes.items ≤ most → IsAtEnd (F.remaining file.new)) }
 {
     let mut bytes = Vec::new(alloc);

@@ -24,7 +24,8 @@ impl<W: Write + Drop> Stream<W> {
 
     fn put(&mut self, bytes: &[u8]) -> Result<(), WriteFail>
         ensures whole { OnOk result (Appends (W.contents self.old.to) (W.contents self.new.to) bytes.now) }
-        ensures part { (kept : ℕ) × Appends (W.contents self.old.to) (W.contents self.new.to) (take kept bytes.now) }
+        ensures part { (kept : ℕ) ×
+            Appends (W.contents self.old.to) (W.contents self.new.to) (take kept bytes.now) }
         ensures ok { OnOk result (self.new.faults ≡ self.old.faults) }
         ensures err { OnErr result (self.new.faults ≡ counted self.old.faults) }
         ensures later { self.old.faults ≤ self.new.faults }

@@ -23,7 +23,13 @@ impl Model for MemFiles {
 
     ghost Value = { FilesState };
 
-    ghost view = { λ s. record { files = s.files.items; failing = s.failing.items; calls = s.calls; faults = s.faults; last_fault = s.last_fault } };
+    ghost view = { λ s. record {
+      files = s.files.items;
+      failing = s.failing.items;
+      calls = s.calls;
+      faults = s.faults;
+      last_fault = s.last_fault;
+    } };
 }
 
 impl MemFiles {

@@ -32,7 +32,13 @@ impl Model for MemSink {
 
     ghost Value = { SinkState };
 
-    ghost view = { λ s. record { bytes = s.bytes.items; room = s.room; failing = s.failing.items; calls = s.calls; faults = s.faults } };
+    ghost view = { λ s. record {
+      bytes = s.bytes.items;
+      room = s.room;
+      failing = s.failing.items;
+      calls = s.calls;
+      faults = s.faults;
+    } };
 
     ghost invariant = { λ s. (vec_len s.bytes ≤ s.room) × (s.room ≤ vec_capacity s.bytes) };
 }
@@ -54,8 +60,8 @@ impl MemSink {
         })
     }
 
-    /// Makes the put of this number fail, counted from 1, after it appended at most `kept` bytes of its piece.
-    /// Where a number is listed twice, the first listing counts.
+    /// Makes the put of this number fail, counted from 1, after it appended at most `kept` bytes of
+    /// its piece. Where a number is listed twice, the first listing counts.
     pub fn fail_call(&mut self, _alloc: Global, call: u64, kept: u64) -> Result<(), NoMemory>
         ensures ok { OnOk result (self.new ≡ with_failing_put self.old call kept) }
         ensures err { OnErr result (self.new ≡ self.old) }
@@ -85,7 +91,8 @@ impl Sink for MemSink {
         ensures cause { OnErr result (Rose self.old.faults self.new.faults) }
         ensures later { self.old.faults ≤ self.new.faults }
 
-        // It fails exactly where it is listed or passes the room. What fits is appended, at most what it is to keep.
+        // It fails exactly where it is listed or passes the room. What fits is appended, and of a
+        // listed put at most what it is to keep.
         ensures fails { IsErr result ↔ IsTrue (put_fails self.old bytes.now) }
         ensures after { self.new ≡ after_put self.old bytes.now }
     {

@@ -7,7 +7,9 @@ ghost use Rattle.nl_outer.specs.Faults.{Rose};
 #[derive(Clone, Copy, Debug, PartialEq, Eq)]
 pub struct WriteFail;
 
-/// Where bytes are put: `faults` counts its faults, and `written` are the bytes that it holds, where it tells them.
+/// Where bytes are put.
+///
+/// `faults` counts its faults, and `written` are the bytes that it holds, where it tells them.
 pub trait Sink {
     ghost faults: { Self → ℕ };
 
