@@ -8,3 +8,6 @@ pub mod words;
 pub use base::{ROWS, base_words};
 pub use entry::{Entry, Input, Kinds, Role};
 pub use words::Words;
+
+#[cfg(test)]
+mod tests;
