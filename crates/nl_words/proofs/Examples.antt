@@ -1,9 +1,9 @@
 -- The definitions at examples.
-use Rattle.std.proofs.Common.{◌≡◌, ℕ, Bool, true, false, List, [], ◌∷◌, Option, Some, None, length, slice_get, codes, refl}
+use Rattle.std.proofs.Common.{◌≡◌, true, false, [], ◌∷◌, None, length, slice_get, codes, refl}
 use Rattle.std.specs.List.{list_any, list_all}
-use Rattle.nl_words.specs.Row.{Row, row_named}
+use Rattle.nl_words.specs.Row.{row_named}
 use Rattle.nl_words.specs.Rows.{rows}
-use Rattle.nl_words.specs.Table.{is_number, is_name, is_before}
+use Rattle.nl_words.specs.Table.{is_number, is_name}
 
 numbers : list_all is_number (codes "0" ∷ codes "12" ∷ codes "-3." ∷ codes ".5" ∷ codes "-.5" ∷ codes "1e3" ∷ codes "1.5E-12" ∷ codes "2.e+07" ∷ []) ≡ true
 numbers = refl

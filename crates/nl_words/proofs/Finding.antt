@@ -1,7 +1,7 @@
 -- What a look-up by name gives in a list of rows whose names ascend.
-use Rattle.std.proofs.Common.{◌≡◌, ◌≢◌, ℕ, zero, suc, ◌+◌, ◌<◌, ◌≤◌, Bool, true, false, cond, List, [], ◌∷◌, map, length, get_or, Option, Some, None, Result, Ok, Err, MatchResult, IsTrue, All, bytes_eq, Ordering, sym, ap, subst, ◌∙◌, refl, arith, add-one, inl, inr, ◌⊎◌, ◌&&◌, ◌==◌, add-zero, zero-add, slice_get, option_map, IfSome, Bor}
+use Rattle.std.proofs.Common.{◌≡◌, ℕ, zero, suc, ◌+◌, ◌<◌, Bool, true, false, cond, List, [], ◌∷◌, map, length, get_or, Option, Some, None, Result, Ok, Err, MatchResult, All, bytes_eq, Ordering, sym, ap, subst, ◌∙◌, refl, arith, add-one, inl, inr, ◌&&◌, ◌==◌, add-zero, zero-add, slice_get, option_map, IfSome, Bor}
 use Rattle.std.specs.List.{list_all}
-use Rattle.std.specs.List.Sorted.{IsSearchInRange, IsBinarySearchResult, IsSortedBy, IsNonDecreasingBy}
+use Rattle.std.specs.List.Sorted.{IsSearchInRange, IsBinarySearchResult, IsNonDecreasingBy}
 use Rattle.std.specs.declared.cmp.Ordering.TheVariants.{Less, Equal, Greater}
 use Rattle.std.specs.Ordering.{is_lt, is_eq, nat_cmp, ordering_index, ordering_reverse}
 use Rattle.std.specs.Cmp.{first_so, second_so}

@@ -1,5 +1,5 @@
 -- What the table says of a word, as plain data, and the look-ups in a list of such rows.
-use Rattle.std.specs.Prelude.{ℕ, Bool, List, Option, find, bytes_eq}
+use Rattle.std.specs.Prelude.{ℕ, Bool, List, Option, find, slice_get, bytes_eq}
 use Rattle.nl_words.specs.declared.entry.Role.{Role}
 use Rattle.nl_words.specs.declared.entry.Input.{Input}
 use Rattle.nl_words.specs.declared.entry.Kinds.{Kinds}
@@ -21,3 +21,7 @@ row_of e = record { name = e.name.now; role = e.role; inputs = e.inputs.now; man
 -- the first row of this name
 abbrev pub row_named : List Row → List ℕ → Option Row
 row_named rows name = find (λ row. bytes_eq row.name name) rows
+
+-- the row at the place that a code names
+abbrev pub row_at : List Row → ℕ → Option Row
+row_at rows code = slice_get rows code

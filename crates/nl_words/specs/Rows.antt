@@ -11,7 +11,7 @@ use Rattle.nl_words.specs.declared.entry.Input.{Input}
 use Rattle.nl_words.specs.declared.entry.Input.TheVariants.{Value, Expression, Commands, MaybeCommands, Reporter, Variable, Fresh}
 use Rattle.nl_words.specs.declared.entry.Kinds.{Kinds}
 
--- a row without its place: role, name, inputs, whether in parentheses there may be any number of the last one, who runs it, what it gives
+-- a row without its place: role, name, inputs, whether there may be more or fewer of the last one, who runs it, what it gives
 abbrev word : Role → String → List Input → Bool → Kinds → Kinds → ℕ → Row
 word role text inputs many runs gives code = record { name = codes text; role = role; inputs = inputs; many = many; runs = runs; gives = gives; code = code }
 
@@ -21,7 +21,7 @@ command text inputs runs = word role.Command text inputs false runs none
 abbrev reporter : String → List Input → Kinds → Kinds → ℕ → Row
 reporter text inputs runs gives = word role.Reporter text inputs false runs gives
 
--- a reporter that in parentheses takes any number of its last input
+-- a reporter that may be given more or fewer of its last input, with parentheses round the whole
 abbrev open_reporter : String → List Input → Kinds → Kinds → ℕ → Row
 open_reporter text inputs runs gives = word role.Reporter text inputs true runs gives
 

@@ -53,7 +53,7 @@ macro_rules! many {
 }
 
 // A row: its code, its name, its role, its inputs, then who may run it, where not everyone may, and what its answer may hold, where that
-// is known. A star after the inputs says that in parentheses the word takes any number of the last one.
+// is known. A star after the inputs says that there may be more or fewer of the last one, with parentheses round the whole.
 macro_rules! table {
     ($($code:literal $name:literal $role:ident $(($level:literal))? [$($inputs:tt)*] $(by($($runner:ident)+))? $(gives($($given:ident)+))?;)*) => {
         [$(Entry {

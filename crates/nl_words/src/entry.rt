@@ -50,8 +50,9 @@ pub struct Kinds {
 
 /// The row of one word.
 ///
-/// `name` is in lower case. `many` says that in parentheses the word takes any number of its last input. `runs` has the kinds of agents
-/// that may run the word; it has all kinds where the word belongs to no agent, as a constant or a reserved word.
+/// `name` is in lower case. `many` says that the word may be given more or fewer of its last input, with parentheses round the whole.
+/// `runs` has the kinds of agents that may run the word; it has all kinds where the word belongs to no agent, as a constant or a
+/// reserved word.
 ///
 /// `gives` says what agents the value may hold, which is known only of some words. Turtles, patches or links alone are told for a word
 /// that gives such agents. All three are told for a word that gives agents of its own input of agents (the left side of an operator,

@@ -1,7 +1,7 @@
 //! A table of words, and the look-ups in it.
-ghost use Rattle.std.specs.Prelude.{◌≡◌, ◌<◌, ◌↔◌, option_map, slice_get, Some, IfSome, IsSome, All, IsTrue, map};
+ghost use Rattle.std.specs.Prelude.{◌≡◌, ◌<◌, ◌↔◌, option_map, Some, IfSome, IsSome, All, IsTrue, map};
 ghost use Rattle.std.specs.Option.{option_copied};
-ghost use Rattle.nl_words.specs.Row.{row_of, row_named};
+ghost use Rattle.nl_words.specs.Row.{row_of, row_named, row_at};
 ghost use Rattle.nl_words.specs.Table.{ascends};
 
 use crate::entry::Entry;
@@ -31,14 +31,14 @@ impl<const N: usize> Words<N> {
         ensures row { option_map row_of (option_copied result) ≡ row_named self.now name.now }
         ensures only { All (λ row. row.name ≡ name.now → option_map row_of (option_copied result) ≡ Some row) self.now }
         ensures name { IfSome result (λ entry. entry.now.name.now ≡ name.now) }
-        ensures place { IfSome result (λ entry. slice_get self.now entry.now.code ≡ Some (row_of entry.now)) }
+        ensures place { IfSome result (λ entry. row_at self.now entry.now.code ≡ Some (row_of entry.now)) }
     {
         search(self.rows, name)
     }
 
     /// The row with this code.
     pub fn row(&self, code: u16) -> Option<&Entry>
-        ensures row { option_map row_of (option_copied result) ≡ slice_get self.now code }
+        ensures row { option_map row_of (option_copied result) ≡ row_at self.now code }
         ensures code { IfSome result (λ entry. entry.now.code ≡ code) }
         ensures below { IsSome result ↔ (code < N) }
     {
