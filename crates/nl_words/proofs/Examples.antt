@@ -1,0 +1,34 @@
+-- The definitions at examples.
+use Rattle.std.proofs.Common.{◌≡◌, true, false, [], ◌∷◌, None, length, slice_get, codes, refl}
+use Rattle.std.specs.List.{list_any, list_all}
+use Rattle.nl_words.specs.Row.{row_named}
+use Rattle.nl_words.specs.Rows.{rows}
+use Rattle.nl_words.specs.Table.{is_number, is_name}
+
+numbers : list_all is_number (codes "0" ∷ codes "12" ∷ codes "-3." ∷ codes ".5" ∷ codes "-.5" ∷ codes "1e3" ∷ codes "1.5E-12" ∷ codes "2.e+07" ∷ []) ≡ true
+numbers = refl
+
+no_numbers : list_any is_number (codes "" ∷ codes "-" ∷ codes "." ∷ codes "e" ∷ codes "1e" ∷ codes "1e123" ∷ codes "--1" ∷ codes "1-" ∷ codes "1.2.3" ∷ codes "+1" ∷ codes "-.e5" ∷ codes "1e3x" ∷ []) ≡ false
+no_numbers = refl
+
+names : list_all is_name (codes "x-1" ∷ codes "-" ∷ codes "->" ∷ codes "<=" ∷ codes "any?" ∷ codes "1-" ∷ codes "a.b" ∷ []) ≡ true
+names = refl
+
+no_names : list_any is_name (codes "" ∷ codes "FD" ∷ codes "a b" ∷ codes "(" ∷ codes "12" ∷ codes "a,b" ∷ codes "a;b" ∷ []) ≡ false
+no_names = refl
+
+rows_number : length rows ≡ 334
+unfolding rows
+rows_number = refl
+
+ask_is_found : row_named rows (codes "ask") ≡ slice_get rows 15
+unfolding rows
+ask_is_found = refl
+
+front_is_not_found : row_named rows (codes "as") ≡ None
+unfolding rows
+front_is_not_found = refl
+
+later_words_are_not_found : row_named rows (codes "foreach") ≡ None
+unfolding rows
+later_words_are_not_found = refl

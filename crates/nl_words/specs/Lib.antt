@@ -1,0 +1,4 @@
+pub mod Kinds
+pub mod Row
+pub mod Rows
+pub mod Table

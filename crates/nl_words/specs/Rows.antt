@@ -1,0 +1,383 @@
+-- The built-in words, in the order of their bytes.
+-- Names, inputs and who may run a word are those of the NetLogo Dictionary, as far as this profile has them.
+-- The levels of operators and what a row tells of the agents in an answer are this project's own choice.
+use Rattle.std.specs.Prelude.{ℕ, ◌+◌, Bool, true, false, List, [], ◌∷◌, codes}
+use Prim.Native.String.{String}
+use Rattle.nl_words.specs.Kinds.{none, everyone, observers, turtles, patches, links, turtles_and_patches, turtles_and_links, agents, not_links}
+use Rattle.nl_words.specs.Row.{Row}
+use Rattle.nl_words.specs.declared.entry.Role.{Role}
+use Rattle.nl_words.specs.declared.entry.Role.TheVariants as role
+use Rattle.nl_words.specs.declared.entry.Input.{Input}
+use Rattle.nl_words.specs.declared.entry.Input.TheVariants.{Value, Expression, Commands, MaybeCommands, Reporter, Variable, Fresh}
+use Rattle.nl_words.specs.declared.entry.Kinds.{Kinds}
+
+-- a row without its place: role, name, inputs, whether there may be more or fewer of the last one, who runs it, what it gives
+abbrev word : Role → String → List Input → Bool → Kinds → Kinds → ℕ → Row
+word role text inputs many runs gives code = record { name = codes text; role = role; inputs = inputs; many = many; runs = runs; gives = gives; code = code }
+
+abbrev command : String → List Input → Kinds → ℕ → Row
+command text inputs runs = word role.Command text inputs false runs none
+
+abbrev reporter : String → List Input → Kinds → Kinds → ℕ → Row
+reporter text inputs runs gives = word role.Reporter text inputs false runs gives
+
+-- a reporter that may be given more or fewer of its last input, with parentheses round the whole
+abbrev open_reporter : String → List Input → Kinds → Kinds → ℕ → Row
+open_reporter text inputs runs gives = word role.Reporter text inputs true runs gives
+
+-- an operator of a level, with the inputs of both its sides
+abbrev operator : ℕ → String → List Input → Kinds → Kinds → ℕ → Row
+operator level text inputs runs gives = word (role.Operator level) text inputs false runs gives
+
+abbrev constant : String → ℕ → Row
+constant text = word role.Constant text [] false everyone none
+
+abbrev variable : String → Kinds → ℕ → Row
+variable text runs = word role.Variable text [] false runs none
+
+abbrev reserved : String → ℕ → Row
+reserved text = word role.Reserved text [] false everyone none
+
+-- each word with its place, counted from the first number
+abbrev numbered : ℕ → List (ℕ → Row) → List Row
+numbered place [] = []
+numbered place (word ∷ words) = word place ∷ numbered (place + 1) words
+
+unfoldable pub rows : List Row
+rows = numbered 0 (
+    operator 8 "!=" (Value ∷ Value ∷ []) everyone none
+    ∷ operator 5 "*" (Value ∷ Value ∷ []) everyone none
+    ∷ operator 6 "+" (Value ∷ Value ∷ []) everyone none
+    ∷ operator 6 "-" (Value ∷ Value ∷ []) everyone none
+    ∷ operator 5 "/" (Value ∷ Value ∷ []) everyone none
+    ∷ operator 7 "<" (Value ∷ Value ∷ []) everyone none
+    ∷ operator 7 "<=" (Value ∷ Value ∷ []) everyone none
+    ∷ operator 8 "=" (Value ∷ Value ∷ []) everyone none
+    ∷ operator 7 ">" (Value ∷ Value ∷ []) everyone none
+    ∷ operator 7 ">=" (Value ∷ Value ∷ []) everyone none
+    ∷ operator 4 "^" (Value ∷ Value ∷ []) everyone none
+    ∷ reporter "abs" (Value ∷ []) everyone none
+    ∷ reporter "all?" (Value ∷ Reporter ∷ []) everyone none
+    ∷ operator 9 "and" (Value ∷ Value ∷ []) everyone none
+    ∷ reporter "any?" (Value ∷ []) everyone none
+    ∷ command "ask" (Value ∷ Commands ∷ []) everyone
+    ∷ operator 1 "at-points" (Value ∷ Value ∷ []) not_links agents
+    ∷ reporter "atan" (Value ∷ Value ∷ []) everyone none
+    ∷ command "auto-plot-off" [] everyone
+    ∷ command "auto-plot-on" [] everyone
+    ∷ command "back" (Value ∷ []) turtles
+    ∷ reporter "base-colors" [] everyone none
+    ∷ reporter "behaviorspace-experiment-name" [] everyone none
+    ∷ reporter "behaviorspace-run-number" [] everyone none
+    ∷ reporter "bf" (Value ∷ []) everyone none
+    ∷ command "bk" (Value ∷ []) turtles
+    ∷ reporter "bl" (Value ∷ []) everyone none
+    ∷ constant "black"
+    ∷ constant "blue"
+    ∷ reporter "both-ends" [] links turtles
+    ∷ variable "breed" turtles_and_links
+    ∷ constant "brown"
+    ∷ reporter "but-first" (Value ∷ []) everyone none
+    ∷ reporter "but-last" (Value ∷ []) everyone none
+    ∷ reporter "butfirst" (Value ∷ []) everyone none
+    ∷ reporter "butlast" (Value ∷ []) everyone none
+    ∷ command "ca" [] observers
+    ∷ reporter "can-move?" (Value ∷ []) turtles none
+    ∷ command "cd" [] observers
+    ∷ reporter "ceiling" (Value ∷ []) everyone none
+    ∷ command "clear-all" [] observers
+    ∷ command "clear-all-plots" [] everyone
+    ∷ command "clear-drawing" [] observers
+    ∷ command "clear-globals" [] observers
+    ∷ command "clear-links" [] observers
+    ∷ command "clear-output" [] everyone
+    ∷ command "clear-patches" [] observers
+    ∷ command "clear-plot" [] everyone
+    ∷ command "clear-ticks" [] observers
+    ∷ command "clear-turtles" [] observers
+    ∷ variable "color" turtles_and_links
+    ∷ reporter "cos" (Value ∷ []) everyone none
+    ∷ reporter "count" (Value ∷ []) everyone none
+    ∷ command "cp" [] observers
+    ∷ command "create-link-from" (Value ∷ MaybeCommands ∷ []) turtles
+    ∷ command "create-link-to" (Value ∷ MaybeCommands ∷ []) turtles
+    ∷ command "create-link-with" (Value ∷ MaybeCommands ∷ []) turtles
+    ∷ command "create-links-from" (Value ∷ MaybeCommands ∷ []) turtles
+    ∷ command "create-links-to" (Value ∷ MaybeCommands ∷ []) turtles
+    ∷ command "create-links-with" (Value ∷ MaybeCommands ∷ []) turtles
+    ∷ command "create-ordered-turtles" (Value ∷ MaybeCommands ∷ []) observers
+    ∷ command "create-temporary-plot-pen" (Value ∷ []) everyone
+    ∷ command "create-turtles" (Value ∷ MaybeCommands ∷ []) observers
+    ∷ command "cro" (Value ∷ MaybeCommands ∷ []) observers
+    ∷ command "crt" (Value ∷ MaybeCommands ∷ []) observers
+    ∷ command "ct" [] observers
+    ∷ constant "cyan"
+    ∷ command "die" [] turtles_and_links
+    ∷ command "diffuse" (Variable ∷ Value ∷ []) observers
+    ∷ command "diffuse4" (Variable ∷ Value ∷ []) observers
+    ∷ reserved "directed-link-breed"
+    ∷ command "display" [] everyone
+    ∷ reporter "distance" (Value ∷ []) turtles_and_patches none
+    ∷ reporter "distancexy" (Value ∷ Value ∷ []) turtles_and_patches none
+    ∷ command "downhill" (Variable ∷ []) turtles
+    ∷ command "downhill4" (Variable ∷ []) turtles
+    ∷ reporter "dx" [] turtles none
+    ∷ reporter "dy" [] turtles none
+    ∷ reporter "e" [] everyone none
+    ∷ reporter "empty?" (Value ∷ []) everyone none
+    ∷ reserved "end"
+    ∷ variable "end1" links
+    ∷ variable "end2" links
+    ∷ command "face" (Value ∷ []) turtles
+    ∷ command "facexy" (Value ∷ Value ∷ []) turtles
+    ∷ constant "false"
+    ∷ command "fd" (Value ∷ []) turtles
+    ∷ reporter "first" (Value ∷ []) everyone none
+    ∷ reporter "floor" (Value ∷ []) everyone none
+    ∷ command "follow" (Value ∷ []) observers
+    ∷ command "follow-me" [] turtles
+    ∷ command "forward" (Value ∷ []) turtles
+    ∷ reporter "fput" (Value ∷ Value ∷ []) everyone none
+    ∷ reserved "globals"
+    ∷ constant "gray"
+    ∷ constant "green"
+    ∷ constant "grey"
+    ∷ command "hatch" (Value ∷ MaybeCommands ∷ []) turtles
+    ∷ variable "heading" turtles
+    ∷ variable "hidden?" turtles_and_links
+    ∷ command "hide-link" [] links
+    ∷ command "hide-turtle" [] turtles
+    ∷ command "histogram" (Value ∷ []) everyone
+    ∷ command "home" [] turtles
+    ∷ command "ht" [] turtles
+    ∷ command "if" (Value ∷ Commands ∷ []) everyone
+    ∷ command "ifelse" (Value ∷ Commands ∷ Commands ∷ []) everyone
+    ∷ reporter "ifelse-value" (Expression ∷ Reporter ∷ Reporter ∷ []) everyone none
+    ∷ operator 1 "in-cone" (Value ∷ Value ∷ Value ∷ []) turtles agents
+    ∷ reporter "in-link-from" (Value ∷ []) turtles links
+    ∷ reporter "in-link-neighbor?" (Value ∷ []) turtles none
+    ∷ reporter "in-link-neighbors" [] turtles turtles
+    ∷ operator 1 "in-radius" (Value ∷ Value ∷ []) turtles_and_patches agents
+    ∷ reporter "insert-item" (Value ∷ Value ∷ Value ∷ []) everyone none
+    ∷ reporter "int" (Value ∷ []) everyone none
+    ∷ reporter "is-agent?" (Value ∷ []) everyone none
+    ∷ reporter "is-agentset?" (Value ∷ []) everyone none
+    ∷ reporter "is-boolean?" (Value ∷ []) everyone none
+    ∷ reporter "is-directed-link?" (Value ∷ []) everyone none
+    ∷ reporter "is-link-set?" (Value ∷ []) everyone none
+    ∷ reporter "is-link?" (Value ∷ []) everyone none
+    ∷ reporter "is-list?" (Value ∷ []) everyone none
+    ∷ reporter "is-number?" (Value ∷ []) everyone none
+    ∷ reporter "is-patch-set?" (Value ∷ []) everyone none
+    ∷ reporter "is-patch?" (Value ∷ []) everyone none
+    ∷ reporter "is-string?" (Value ∷ []) everyone none
+    ∷ reporter "is-turtle-set?" (Value ∷ []) everyone none
+    ∷ reporter "is-turtle?" (Value ∷ []) everyone none
+    ∷ reporter "is-undirected-link?" (Value ∷ []) everyone none
+    ∷ reporter "item" (Value ∷ Value ∷ []) everyone none
+    ∷ command "jump" (Value ∷ []) turtles
+    ∷ variable "label" turtles_and_links
+    ∷ variable "label-color" turtles_and_links
+    ∷ reporter "last" (Value ∷ []) everyone none
+    ∷ command "left" (Value ∷ []) turtles
+    ∷ reporter "length" (Value ∷ []) everyone none
+    ∷ command "let" (Fresh ∷ Value ∷ []) everyone
+    ∷ constant "lime"
+    ∷ reporter "link" (Value ∷ Value ∷ []) everyone links
+    ∷ reporter "link-heading" [] links none
+    ∷ reporter "link-length" [] links none
+    ∷ reporter "link-neighbor?" (Value ∷ []) turtles none
+    ∷ reporter "link-neighbors" [] turtles turtles
+    ∷ open_reporter "link-set" (Value ∷ []) everyone links
+    ∷ reporter "link-with" (Value ∷ []) turtles links
+    ∷ reporter "links" [] everyone links
+    ∷ reserved "links-own"
+    ∷ open_reporter "list" (Value ∷ Value ∷ []) everyone none
+    ∷ command "loop" (Commands ∷ []) everyone
+    ∷ reporter "lput" (Value ∷ Value ∷ []) everyone none
+    ∷ command "lt" (Value ∷ []) turtles
+    ∷ constant "magenta"
+    ∷ reporter "max" (Value ∷ []) everyone none
+    ∷ reporter "max-n-of" (Value ∷ Value ∷ Reporter ∷ []) everyone agents
+    ∷ reporter "max-one-of" (Value ∷ Reporter ∷ []) everyone agents
+    ∷ reporter "max-pxcor" [] everyone none
+    ∷ reporter "max-pycor" [] everyone none
+    ∷ reporter "mean" (Value ∷ []) everyone none
+    ∷ reporter "median" (Value ∷ []) everyone none
+    ∷ reporter "member?" (Value ∷ Value ∷ []) everyone none
+    ∷ reporter "min" (Value ∷ []) everyone none
+    ∷ reporter "min-n-of" (Value ∷ Value ∷ Reporter ∷ []) everyone agents
+    ∷ reporter "min-one-of" (Value ∷ Reporter ∷ []) everyone agents
+    ∷ reporter "min-pxcor" [] everyone none
+    ∷ reporter "min-pycor" [] everyone none
+    ∷ operator 5 "mod" (Value ∷ Value ∷ []) everyone none
+    ∷ reporter "modes" (Value ∷ []) everyone none
+    ∷ command "move-to" (Value ∷ []) turtles
+    ∷ reporter "my-in-links" [] turtles links
+    ∷ reporter "my-links" [] turtles links
+    ∷ reporter "my-out-links" [] turtles links
+    ∷ reporter "myself" [] agents none
+    ∷ reporter "n-of" (Value ∷ Value ∷ []) everyone agents
+    ∷ reporter "neighbors" [] turtles_and_patches patches
+    ∷ reporter "neighbors4" [] turtles_and_patches patches
+    ∷ command "no-display" [] everyone
+    ∷ reporter "no-links" [] everyone links
+    ∷ reporter "no-patches" [] everyone patches
+    ∷ reporter "no-turtles" [] everyone turtles
+    ∷ constant "nobody"
+    ∷ reporter "not" (Value ∷ []) everyone none
+    ∷ operator 2 "of" (Reporter ∷ Value ∷ []) everyone none
+    ∷ reporter "one-of" (Value ∷ []) everyone agents
+    ∷ operator 9 "or" (Value ∷ Value ∷ []) everyone none
+    ∷ constant "orange"
+    ∷ reporter "other" (Value ∷ []) agents agents
+    ∷ reporter "other-end" [] turtles_and_links turtles
+    ∷ reporter "out-link-neighbor?" (Value ∷ []) turtles none
+    ∷ reporter "out-link-neighbors" [] turtles turtles
+    ∷ reporter "out-link-to" (Value ∷ []) turtles links
+    ∷ command "output-print" (Value ∷ []) everyone
+    ∷ command "output-show" (Value ∷ []) everyone
+    ∷ command "output-type" (Value ∷ []) everyone
+    ∷ command "output-write" (Value ∷ []) everyone
+    ∷ reporter "patch" (Value ∷ Value ∷ []) everyone patches
+    ∷ reporter "patch-ahead" (Value ∷ []) turtles patches
+    ∷ reporter "patch-at" (Value ∷ Value ∷ []) turtles_and_patches patches
+    ∷ reporter "patch-at-heading-and-distance" (Value ∷ Value ∷ []) turtles_and_patches patches
+    ∷ reporter "patch-here" [] turtles patches
+    ∷ reporter "patch-left-and-ahead" (Value ∷ Value ∷ []) turtles patches
+    ∷ reporter "patch-right-and-ahead" (Value ∷ Value ∷ []) turtles patches
+    ∷ open_reporter "patch-set" (Value ∷ []) everyone patches
+    ∷ reporter "patches" [] everyone patches
+    ∷ reserved "patches-own"
+    ∷ variable "pcolor" turtles_and_patches
+    ∷ command "pd" [] turtles
+    ∷ command "pe" [] turtles
+    ∷ command "pen-down" [] turtles
+    ∷ command "pen-erase" [] turtles
+    ∷ variable "pen-mode" turtles
+    ∷ variable "pen-size" turtles
+    ∷ command "pen-up" [] turtles
+    ∷ reporter "pi" [] everyone none
+    ∷ constant "pink"
+    ∷ variable "plabel" turtles_and_patches
+    ∷ variable "plabel-color" turtles_and_patches
+    ∷ command "plot" (Value ∷ []) everyone
+    ∷ command "plot-pen-down" [] everyone
+    ∷ command "plot-pen-reset" [] everyone
+    ∷ command "plot-pen-up" [] everyone
+    ∷ command "plotxy" (Value ∷ Value ∷ []) everyone
+    ∷ reporter "position" (Value ∷ Value ∷ []) everyone none
+    ∷ reporter "precision" (Value ∷ Value ∷ []) everyone none
+    ∷ command "print" (Value ∷ []) everyone
+    ∷ command "pu" [] turtles
+    ∷ variable "pxcor" turtles_and_patches
+    ∷ variable "pycor" turtles_and_patches
+    ∷ reporter "random" (Value ∷ []) everyone none
+    ∷ reporter "random-float" (Value ∷ []) everyone none
+    ∷ reporter "random-pxcor" [] everyone none
+    ∷ reporter "random-pycor" [] everyone none
+    ∷ command "random-seed" (Value ∷ []) everyone
+    ∷ reporter "random-xcor" [] everyone none
+    ∷ reporter "random-ycor" [] everyone none
+    ∷ open_reporter "range" (Value ∷ []) everyone none
+    ∷ constant "red"
+    ∷ reporter "remainder" (Value ∷ Value ∷ []) everyone none
+    ∷ reporter "remove" (Value ∷ Value ∷ []) everyone none
+    ∷ reporter "remove-duplicates" (Value ∷ []) everyone none
+    ∷ reporter "remove-item" (Value ∷ Value ∷ []) everyone none
+    ∷ command "repeat" (Value ∷ Commands ∷ []) everyone
+    ∷ reporter "replace-item" (Value ∷ Value ∷ Value ∷ []) everyone none
+    ∷ command "report" (Value ∷ []) everyone
+    ∷ command "reset-perspective" [] everyone
+    ∷ command "reset-ticks" [] observers
+    ∷ reporter "reverse" (Value ∷ []) everyone none
+    ∷ command "ride" (Value ∷ []) observers
+    ∷ command "ride-me" [] turtles
+    ∷ command "right" (Value ∷ []) turtles
+    ∷ reporter "round" (Value ∷ []) everyone none
+    ∷ command "rp" [] everyone
+    ∷ command "rt" (Value ∷ []) turtles
+    ∷ reporter "scale-color" (Value ∷ Value ∷ Value ∷ Value ∷ []) everyone none
+    ∷ open_reporter "se" (Value ∷ Value ∷ []) everyone none
+    ∷ reporter "self" [] agents none
+    ∷ open_reporter "sentence" (Value ∷ Value ∷ []) everyone none
+    ∷ command "set" (Variable ∷ Value ∷ []) everyone
+    ∷ command "set-current-plot" (Value ∷ []) everyone
+    ∷ command "set-current-plot-pen" (Value ∷ []) everyone
+    ∷ command "set-default-shape" (Value ∷ Value ∷ []) everyone
+    ∷ command "set-plot-pen-color" (Value ∷ []) everyone
+    ∷ command "set-plot-pen-interval" (Value ∷ []) everyone
+    ∷ command "set-plot-pen-mode" (Value ∷ []) everyone
+    ∷ command "set-plot-x-range" (Value ∷ Value ∷ []) everyone
+    ∷ command "set-plot-y-range" (Value ∷ Value ∷ []) everyone
+    ∷ command "setup-plots" [] everyone
+    ∷ command "setxy" (Value ∷ Value ∷ []) turtles
+    ∷ reporter "shade-of?" (Value ∷ Value ∷ []) everyone none
+    ∷ variable "shape" turtles_and_links
+    ∷ command "show" (Value ∷ []) everyone
+    ∷ command "show-link" [] links
+    ∷ command "show-turtle" [] turtles
+    ∷ reporter "shuffle" (Value ∷ []) everyone none
+    ∷ reporter "sin" (Value ∷ []) everyone none
+    ∷ variable "size" turtles
+    ∷ constant "sky"
+    ∷ reporter "sort" (Value ∷ []) everyone none
+    ∷ reporter "sort-on" (Reporter ∷ Value ∷ []) everyone none
+    ∷ command "sprout" (Value ∷ MaybeCommands ∷ []) patches
+    ∷ reporter "sqrt" (Value ∷ []) everyone none
+    ∷ command "st" [] turtles
+    ∷ command "stamp" [] turtles_and_links
+    ∷ command "stamp-erase" [] turtles_and_links
+    ∷ reporter "standard-deviation" (Value ∷ []) everyone none
+    ∷ command "stop" [] everyone
+    ∷ reporter "sublist" (Value ∷ Value ∷ Value ∷ []) everyone none
+    ∷ reporter "substring" (Value ∷ Value ∷ Value ∷ []) everyone none
+    ∷ reporter "subtract-headings" (Value ∷ Value ∷ []) everyone none
+    ∷ reporter "sum" (Value ∷ []) everyone none
+    ∷ reporter "tan" (Value ∷ []) everyone none
+    ∷ variable "thickness" links
+    ∷ command "tick" [] observers
+    ∷ command "tick-advance" (Value ∷ []) observers
+    ∷ reporter "ticks" [] everyone none
+    ∷ variable "tie-mode" links
+    ∷ reserved "to"
+    ∷ reserved "to-report"
+    ∷ reporter "towards" (Value ∷ []) turtles_and_patches none
+    ∷ reporter "towardsxy" (Value ∷ Value ∷ []) turtles_and_patches none
+    ∷ constant "true"
+    ∷ constant "turquoise"
+    ∷ reporter "turtle" (Value ∷ []) everyone turtles
+    ∷ open_reporter "turtle-set" (Value ∷ []) everyone turtles
+    ∷ reporter "turtles" [] everyone turtles
+    ∷ reporter "turtles-at" (Value ∷ Value ∷ []) turtles_and_patches turtles
+    ∷ reporter "turtles-here" [] turtles_and_patches turtles
+    ∷ reporter "turtles-on" (Value ∷ []) everyone turtles
+    ∷ reserved "turtles-own"
+    ∷ command "type" (Value ∷ []) everyone
+    ∷ reserved "undirected-link-breed"
+    ∷ reporter "up-to-n-of" (Value ∷ Value ∷ []) everyone agents
+    ∷ command "update-plots" [] everyone
+    ∷ command "uphill" (Variable ∷ []) turtles
+    ∷ command "uphill4" (Variable ∷ []) turtles
+    ∷ reporter "variance" (Value ∷ []) everyone none
+    ∷ constant "violet"
+    ∷ command "wait" (Value ∷ []) everyone
+    ∷ command "watch" (Value ∷ []) observers
+    ∷ command "watch-me" [] agents
+    ∷ command "while" (Reporter ∷ Commands ∷ []) everyone
+    ∷ constant "white"
+    ∷ variable "who" turtles
+    ∷ operator 1 "with" (Value ∷ Reporter ∷ []) everyone agents
+    ∷ operator 1 "with-max" (Value ∷ Reporter ∷ []) everyone agents
+    ∷ operator 1 "with-min" (Value ∷ Reporter ∷ []) everyone agents
+    ∷ open_reporter "word" (Value ∷ Value ∷ []) everyone none
+    ∷ reporter "world-height" [] everyone none
+    ∷ reporter "world-width" [] everyone none
+    ∷ reporter "wrap-color" (Value ∷ []) everyone none
+    ∷ command "write" (Value ∷ []) everyone
+    ∷ variable "xcor" turtles
+    ∷ operator 9 "xor" (Value ∷ Value ∷ []) everyone none
+    ∷ variable "ycor" turtles
+    ∷ constant "yellow"
+    ∷ []
+    )

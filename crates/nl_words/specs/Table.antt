@@ -1,0 +1,77 @@
+-- What makes a list of rows a table: a test that computes.
+use Rattle.std.specs.Prelude.{ℕ, ◌+◌, ◌==◌, Bool, true, false, not, ◌&&◌, ◌||◌, if◌then◌else◌, List, [], ◌∷◌, codes}
+use Rattle.std.specs.List.{list_any, list_all}
+use Rattle.std.specs.Char.{is_ascii_digit, is_ascii_uppercase, is_ascii_alphanumeric}
+use Rattle.std.specs.Ordering.{is_lt, nat_cmp}
+use Rattle.std.specs.Cmp.Lexicographic.{slice_cmp}
+use Rattle.nl_words.specs.Row.{Row}
+
+-- the first text stands before the second in the order of their bytes
+abbrev pub is_before : List ℕ → List ℕ → Bool
+is_before xs ys = is_lt (slice_cmp nat_cmp xs ys)
+
+-- each name stands before the next
+abbrev pub ascends : List Row → Bool
+ascends [] = true
+ascends (row ∷ []) = true
+ascends (row ∷ next ∷ rows) = is_before row.name next.name && ascends (next ∷ rows)
+
+-- the codes count up from this place
+abbrev pub counts_from : ℕ → List Row → Bool
+counts_from place [] = true
+counts_from place (row ∷ rows) = (row.code == place) && counts_from (place + 1) rows
+
+-- the byte may stand in a word: ASCII letters, digits and these signs
+abbrev pub is_word_byte : ℕ → Bool
+is_word_byte b = is_ascii_alphanumeric b || list_any (λ sign. sign == b) (codes ".?=*!<>:#+/%$_^'&-")
+
+-- one or more bytes, each of which may stand in a word
+abbrev pub is_word : List ℕ → Bool
+is_word [] = false
+is_word (b ∷ bs) = list_all is_word_byte (b ∷ bs)
+
+abbrev pub begins_with : (ℕ → Bool) → List ℕ → Bool
+begins_with test [] = false
+begins_with test (b ∷ bs) = test b
+
+-- without the first byte where it passes the test
+abbrev pub without_one : (ℕ → Bool) → List ℕ → List ℕ
+without_one test [] = []
+without_one test (b ∷ bs) = if test b then bs else b ∷ bs
+
+-- without the digits in front
+abbrev pub after_digits : List ℕ → List ℕ
+after_digits [] = []
+after_digits (b ∷ bs) = if is_ascii_digit b then after_digits bs else b ∷ bs
+
+-- one or two digits
+abbrev pub is_short : List ℕ → Bool
+is_short [] = false
+is_short (b ∷ []) = is_ascii_digit b
+is_short (b ∷ c ∷ []) = is_ascii_digit b && is_ascii_digit c
+is_short (b ∷ c ∷ d ∷ bs) = false
+
+-- nothing, or `e` or `E`, perhaps a sign, and one or two digits
+abbrev pub is_exponent : List ℕ → Bool
+is_exponent [] = true
+is_exponent (b ∷ bs) = ((b == 101) || (b == 69)) && is_short (without_one (λ sign. (sign == 43) || (sign == 45)) bs)
+
+-- digits and perhaps a point and more digits, or a point and digits; then perhaps an exponent
+abbrev pub is_unsigned_number : List ℕ → Bool
+is_unsigned_number bs =
+    let is_point : ℕ → Bool = λ b. b == 46 in
+    if begins_with is_ascii_digit bs
+    then is_exponent (after_digits (without_one is_point (after_digits bs)))
+    else (begins_with is_point bs && begins_with is_ascii_digit (without_one is_point bs) && is_exponent (after_digits (without_one is_point bs)))
+
+-- the form of a number: perhaps a minus sign, and an unsigned number
+abbrev pub is_number : List ℕ → Bool
+is_number bs = is_unsigned_number (without_one (λ b. b == 45) bs)
+
+-- a word in lower case that is no number
+abbrev pub is_name : List ℕ → Bool
+is_name bs = is_word bs && not (list_any is_ascii_uppercase bs) && not (is_number bs)
+
+-- the names ascend strictly, each has a name's form, and each code is the row's place
+abbrev pub is_table : List Row → Bool
+is_table rows = ascends rows && list_all (λ row. is_name row.name) rows && counts_from 0 rows

@@ -1,0 +1,13 @@
+//! The built-in words of the language: one table, found by name.
+#![tactic(auto)]
+
+pub mod base;
+pub mod entry;
+pub mod words;
+
+pub use base::{ROWS, base_words};
+pub use entry::{Entry, Input, Kinds, Role};
+pub use words::Words;
+
+#[cfg(test)]
+mod tests;
