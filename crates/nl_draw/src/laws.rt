@@ -1,0 +1,70 @@
+//! Laws of the random stream, each the contract of a function.
+ghost use Rattle.std.specs.Prelude.{◌≡◌, ℕ};
+ghost use Rattle.std.specs.Fn.{FnOnceReturnsAtMut};
+ghost use Rattle.nl_draw.specs.Stream.{first_state};
+ghost use Rattle.nl_draw.specs.Laws.{SameWords, WordsArePcg32, DrawsAreBelow, ShufflesPermute, ShortListsDrawNothing, ChoicesAreMembers};
+
+use crate::stream::Stream;
+
+/// The words are those of PCG's generator of 32-bit words, on its stream 54.
+pub fn words_are_pcg32()
+    ensures { WordsArePcg32 }
+{}
+
+/// What is drawn below a number is below it, whatever the words.
+pub fn draws_are_below()
+    ensures { DrawsAreBelow }
+{}
+
+/// A shuffle changes the order of a list and nothing else.
+pub fn shuffles_permute()
+    ensures { ShufflesPermute }
+{}
+
+/// A list of none or one is shuffled without a draw.
+pub fn short_lists_draw_nothing()
+    ensures { ShortListsDrawNothing }
+{}
+
+/// What is chosen is one of the list, and only an empty list gives none.
+pub fn choices_are_members()
+    ensures { ChoicesAreMembers }
+{}
+
+/// Two streams of one seed, which give the same words however far they are followed.
+pub fn twins(seed: u64) -> (Stream, Stream)
+    ensures first { result.0 ≡ first_state seed }
+    ensures second { result.1 ≡ first_state seed }
+    ensures words { SameWords result.0 result.1 }
+{
+    (Stream::new(seed), Stream::new(seed))
+}
+
+/// Does some work with a stream and puts the stream back, so that the words to come are those that
+/// were to come before the work, whatever it drew.
+pub fn put_back_after<T, F: FnOnce(&mut Stream) -> T>(stream: &mut Stream, work: F) -> T
+    requires { F.IsAlwaysCallable work }
+    ensures worked { (after : ℕ) × FnOnceReturnsAtMut F.FnOnce work stream.old result after }
+    ensures words { SameWords stream.new stream.old }
+{
+    let mark = stream.save();
+    let answer = work(stream);
+    stream.restore(mark);
+    answer
+}
+
+#[cfg(test)]
+mod tests {
+    use super::*;
+
+    #[test]
+    fn words_come_again_after_work_that_drew(rt: HostRuntime) {
+        let mut stream = Stream::new(42);
+        let digit = put_back_after(&mut stream, |inner: &mut Stream| {
+            inner.shuffle(&mut [1, 2]);
+            inner.draw(10)
+        });
+        assert_eq!(rt; digit, 9);
+        assert_eq!(rt; stream.draw(u64::MAX), 0xa15c02b77b47f409);
+    }
+}

@@ -1,0 +1,176 @@
+//! The stream of a run's words, and what is drawn from it.
+//!
+//! The words are those of Pcg32, a generator of M. E. O'Neill's PCG family, on its stream 54. How draws
+//! and shuffles are made of words is this project's own choice, and no claim on NetLogo's own generator.
+//! No call takes memory, and a draw and each place of a shuffle take constant time.
+ghost use Rattle.std.specs.Prelude.{◌≡◌, ◌+◌, ◌*◌, ◌^◌, ◌<◌, ◌≤◌, IsPermutation};
+ghost use Rattle.nl_draw.specs.Stream.{first_state, next_state, word_of, state_after, words_from, drawn, shuffled};
+
+use rand_core::utils::NextWord;
+use rand_pcg::Pcg32;
+use std::marker::Model;
+
+/// The number of the generator's stream, the same for every run.
+const STREAM: u64 = 54;
+
+/// A random stream, seen by contracts as its state. All that it gives follows from its seed.
+#[derive(Drop)]
+pub struct Stream {
+    generator: Pcg32,
+}
+
+impl Model for Stream {
+    ghost use Rattle.std.specs.Prelude.{◌≡◌, ℕ};
+    ghost use Rattle.nl_draw.specs.Stream.{step_addend};
+
+    ghost Value = { ℕ };
+
+    ghost view = { λ s. s.generator.state };
+
+    ghost invariant = { λ s. s.generator.increment ≡ step_addend };
+}
+
+/// A place in a stream, to which the stream can be put back.
+#[derive(Clone, Copy)]
+pub struct Mark {
+    state: u64,
+}
+
+impl Model for Mark {
+    ghost use Rattle.std.specs.Prelude.{ℕ};
+
+    ghost Value = { ℕ };
+
+    ghost view = { λ mark. mark.state };
+
+    ghost inverse = { λ state. record { state = state } };
+}
+
+impl Stream {
+    /// The stream of a run with this seed.
+    #[tactic(auto, using(crate::proofs::Words::started_state))]
+    pub fn new(seed: u64) -> Stream
+        ensures { result ≡ first_state seed }
+    {
+        Stream {
+            generator: Pcg32::new(seed, STREAM),
+        }
+    }
+
+    /// Draws a number below `n`: the remainder by `n` of two words, of which the first is the high half.
+    #[tactic(auto, unfolding(crate::specs::Stream::drawn))]
+    pub fn draw(&mut self, n: u64) -> u64
+        requires { 1 ≤ n }
+        ensures value { result ≡ (drawn n self.old).0 }
+        ensures state { self.new ≡ (drawn n self.old).1 }
+        ensures below { result < n }
+    {
+        self.two_words() % n
+    }
+
+    /// Puts a list into a random order: each place `i`, from the last one down to 1, changes with the
+    /// place that `draw(i + 1)` gives. A list of none or one draws nothing.
+    pub fn shuffle(&mut self, list: &mut [u64])
+        ensures order { list.new ≡ (shuffled list.old self.old).0 }
+        ensures state { self.new ≡ (shuffled list.old self.old).1 }
+        ensures permutation { IsPermutation list.old list.new }
+    {
+        for i in (1..list.len()).rev() {
+            let place = self.draw(i as u64 + 1);
+            list.swap(i, place as usize);
+        }
+    }
+
+    /// Where the stream stands. Nothing is drawn.
+    pub fn save(&self) -> Mark
+        ensures { result ≡ self.now }
+    {
+        Mark {
+            state: self.generator.state(),
+        }
+    }
+
+    /// Puts the stream back: the words to come are those that were to come at the mark.
+    pub fn restore(&mut self, mark: Mark)
+        ensures { self.new ≡ mark }
+    {
+        self.generator = Pcg32::from_state(mark.state, STREAM);
+    }
+
+    fn two_words(&mut self) -> u64
+        ensures value { result ≡ words_from self.old 0 * 2 ^ 32 + words_from self.old 1 }
+        ensures state { self.new ≡ state_after 2 self.old }
+    {
+        let high = self.word();
+        let low = self.word();
+        (u64::from(high) << 32) | u64::from(low)
+    }
+
+    fn word(&mut self) -> u32
+        ensures word { result ≡ word_of self.old }
+        ensures state { self.new ≡ next_state self.old }
+    {
+        self.generator.next_word()
+    }
+}
+
+#[cfg(test)]
+mod tests {
+    use super::*;
+
+    // A draw below 2^64 - 1 shows two words, unless all their bits are set. The words are those of PCG's
+    // reference code in C.
+    #[test]
+    fn words_are_those_of_the_reference_code(rt: HostRuntime) {
+        let rows = [
+            (
+                42,
+                [0xa15c02b77b47f409, 0xba1d333083d2f293, 0xbfa4784bcbed606e],
+            ),
+            (
+                0,
+                [0x47c28b93b98f6a27, 0x7d3dcb1ef0761116, 0x9cc33f5bbe0e744d],
+            ),
+            (
+                u64::MAX,
+                [0x11526277e6d82672, 0xaf1798bad0751021, 0xa734cdb8ad4f9760],
+            ),
+        ];
+        for (seed, pairs) in rows {
+            let mut stream = Stream::new(seed);
+            for pair in pairs {
+                assert_eq!(rt; stream.draw(u64::MAX), pair, "at seed {seed}");
+            }
+        }
+    }
+
+    #[test]
+    fn draws_below_ten(rt: HostRuntime) {
+        for (seed, digits) in [(42, [5, 9, 6]), (0, [9, 6, 7]), (u64::MAX, [4, 5, 2])] {
+            let mut stream = Stream::new(seed);
+            for digit in digits {
+                assert_eq!(rt; stream.draw(10), digit, "at seed {seed}");
+            }
+        }
+    }
+
+    #[test]
+    fn shuffles_of_three(rt: HostRuntime) {
+        for (seed, order) in [(42, [2, 1, 0]), (0, [2, 0, 1]), (u64::MAX, [0, 1, 2])] {
+            let mut list = [0, 1, 2];
+            Stream::new(seed).shuffle(&mut list);
+            assert_eq!(rt; list, order, "at seed {seed}");
+        }
+    }
+
+    // Seven places take six draws, and one place takes none.
+    #[test]
+    fn draws_after_a_shuffle(rt: HostRuntime) {
+        let mut stream = Stream::new(42);
+        let mut seven = [0, 1, 2, 3, 4, 5, 6];
+        stream.shuffle(&mut seven);
+        stream.shuffle(&mut [7]);
+        assert_eq!(rt; seven, [0, 5, 2, 4, 1, 3, 6]);
+        assert_eq!(rt; stream.draw(u64::MAX), 0xed7868263822441d);
+    }
+}
