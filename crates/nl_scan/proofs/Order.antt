@@ -1,11 +1,9 @@
 -- The tokens of a text stand in order in it.
-use Rattle.std.proofs.Common.{◌≡◌, ℕ, zero, suc, ◌+◌, ◌≤◌, ◌<◌, List, [], ◌∷◌, length, drop, get_or, Result, Ok, Err, refl, subst, arith, length-drop, Bool, true, false, if◌then◌else◌, nat_lt, zero-add}
-use Rattle.nl_scan.specs.declared.TheConstants.{TEXT_LIMIT}
+use Rattle.std.proofs.Common.{◌≡◌, ℕ, zero, suc, ◌+◌, ◌≤◌, ◌<◌, List, [], ◌∷◌, length, drop, get_or, Result, Ok, Err, refl, subst, arith, length-drop, zero-add}
 use Rattle.nl_scan.specs.declared.token.Token.{Token}
-use Rattle.nl_scan.specs.declared.token.ScanKind.{ScanKind}
-use Rattle.nl_scan.specs.declared.scanner.Piece.{Piece}
-use Rattle.nl_scan.specs.Tokens.{ScanFault, cut_from, tokens_of, after_piece, token_first, piece_at, AreInOrder, IsPieceWithin}
-use Rattle.nl_scan.proofs.Cutting.{piece_at-within}
+use Rattle.nl_scan.specs.declared.pieces.Piece.{Piece}
+use Rattle.nl_scan.specs.Tokens.{ScanFault, cut_from, after_piece, token_first, piece_at, least_length, AreInOrder, IsPieceWithin}
+use Rattle.nl_scan.proofs.Cutting.{least_length-some, piece_at-within}
 
 -- tokens in order from a place on are so from an earlier one on
 AreInOrder-earlier : (earlier from end : ℕ) (tokens : List Token) → earlier ≤ from → AreInOrder from end tokens → AreInOrder earlier end tokens
@@ -17,7 +15,7 @@ pub AreInOrder-le : (from end : ℕ) (tokens : List Token) → AreInOrder from e
 AreInOrder-le from end [] h = h
 AreInOrder-le from end (token ∷ tokens) h =
     let le = AreInOrder-le (token.span.start + token.span.len) end tokens h.2 in
-    omega (arith, h.0, h.1)
+    omega (arith, h.0)
 
 -- each token lies before the end
 pub AreInOrder-at : (from end : ℕ) (tokens : List Token) (k : ℕ) (d : Token) → AreInOrder from end tokens → k < length tokens
@@ -25,6 +23,13 @@ pub AreInOrder-at : (from end : ℕ) (tokens : List Token) (k : ℕ) (d : Token)
 AreInOrder-at from end [] k d h below = absurd (omega arith)
 AreInOrder-at from end (token ∷ tokens) zero d h below = AreInOrder-le (token.span.start + token.span.len) end tokens h.2
 AreInOrder-at from end (token ∷ tokens) (suc k) d h below = AreInOrder-at (token.span.start + token.span.len) end tokens k d h.2 (omega arith)
+
+-- each token has its least length
+pub AreInOrder-least : (from end : ℕ) (tokens : List Token) (k : ℕ) (d : Token) → AreInOrder from end tokens → k < length tokens
+    → least_length (get_or tokens k d).lexeme ≤ (get_or tokens k d).span.len
+AreInOrder-least from end [] k d h below = absurd (omega arith)
+AreInOrder-least from end (token ∷ tokens) zero d h below = h.1
+AreInOrder-least from end (token ∷ tokens) (suc k) d h below = AreInOrder-least (token.span.start + token.span.len) end tokens k d h.2 (omega arith)
 
 -- a token before others, where there are tokens
 record Split (token : Token) (r : Result (List Token) ScanFault) (tokens : List Token) : Type 0 where
@@ -43,7 +48,8 @@ after_piece-order at len next (Piece.Gap n) tokens within rest e =
     AreInOrder-earlier at (at + n) (at + len) tokens (omega arith) (rest n tokens within.0 within.1 e)
 after_piece-order at len next (Piece.Found lexeme n) tokens within rest e =
     let split = token_first-ok _ (next n) tokens e in
-    rw split.is (omega arith, within.0, rest n split.more within.0 within.1 split.was)
+    let some : 0 < n = omega (arith, least_length-some lexeme, within.0) in
+    rw split.is (omega arith, within.0, rest n split.more some within.1 split.was)
 after_piece-order at len next (Piece.Bad kind n) tokens within rest e = cc
 
 cut_from-order : (room at : ℕ) (text : List ℕ) (tokens : List Token) → cut_from room at text ≡ Ok tokens → AreInOrder at (at + length text) tokens
@@ -60,14 +66,8 @@ cut_from-order (suc room) at (byte ∷ rest) tokens e =
     subst P end behind)
     e
 
-by_length : (b : Bool) (text : List ℕ) (tokens : List Token) → (if b then Err (record { kind = ScanKind.TooLong; place = TEXT_LIMIT }) else cut_from (length text) 0 text) ≡ Ok tokens
-    → AreInOrder 0 (length text) tokens
-by_length true text tokens e = cc
-by_length false text tokens e =
+-- the tokens of a text lie in it, in order
+pub cut_from-in_order : (text : List ℕ) (tokens : List Token) → cut_from (length text) 0 text ≡ Ok tokens → AreInOrder 0 (length text) tokens
+cut_from-in_order text tokens e =
     let P : ℕ → Type 0 = λ last. AreInOrder 0 last tokens in
     subst P (zero-add (length text)) (cut_from-order (length text) 0 text tokens e)
-
--- the tokens of a text lie in it, in order
-pub tokens_of-order : (text : List ℕ) (tokens : List Token) → tokens_of text ≡ Ok tokens → AreInOrder 0 (length text) tokens
-unfolding tokens_of
-tokens_of-order text tokens e = by_length (nat_lt TEXT_LIMIT (length text)) text tokens e

@@ -5,6 +5,8 @@ pub mod place;
 pub mod scanner;
 pub mod token;
 
+mod pieces;
+
 pub use place::line_column;
 pub use scanner::scan;
 pub use token::{Lexeme, ScanKind, ScanRefusal, Token, Tokens};

@@ -1,19 +1,27 @@
 //! Tokens, and why a text has none.
 ghost use Rattle.std.specs.Prelude.{◌≡◌, [], ◌∷◌, ◌++◌, OnOk, OnErr};
 
-use nl_fixed::{NoMemory, Span};
+use nl_fixed::{NoMemory, Num, Span};
 use std::alloc::Global;
 use std::marker::Model;
 
 /// What a token is.
 #[derive(Clone, Copy, Debug, PartialEq, Eq)]
 pub enum Lexeme {
-    /// A run of letters, digits and `-`.
+    /// A run of letters, digits and marks that hasn't the form of a number.
     Word,
+    /// Such a run that writes this number.
+    Number(Num),
+    /// A text in double quotes, on one line.
+    Text,
     /// `[`
     Open,
     /// `]`
     Close,
+    /// `(`
+    OpenParen,
+    /// `)`
+    CloseParen,
 }
 
 /// A token and where it stands in its text.
@@ -28,8 +36,16 @@ pub struct Token {
 pub enum ScanKind {
     /// The text has more bytes than the limit; the place is the first byte past it.
     TooLong,
+    /// The text isn't UTF-8; the place is the first byte that begins no character.
+    NotText,
     /// A byte that belongs to no gap and no token.
     BadChar,
+    /// A text that isn't closed on its line; the place is its opening quote.
+    OpenText,
+    /// A backslash in a text with another character behind it than `n`, `t`, `\` and `"`.
+    BadEscape,
+    /// A word that has the form of a number and writes none.
+    BadNumber,
 }
 
 /// Why a text has no tokens: its first fault with the byte at which it stands, or want of memory.
@@ -87,7 +103,8 @@ impl Tokens {
         ensures ok { OnOk result (self.new ≡ self.old ++ token ∷ []) }
         ensures err { OnErr result (self.new ≡ self.old) }
     {
-        self.list.push(token)?;
+        let Token { lexeme, span } = token;
+        self.list.push(Token { lexeme, span })?;
         Ok(())
     }
 }

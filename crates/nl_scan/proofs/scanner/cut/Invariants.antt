@@ -1,7 +1,7 @@
 use Rattle.std.proofs.Common.{◌≡◌, ◌≤◌, ◌-◌, length, drop}
 use Rattle.nl_scan.specs.Tokens.{cut_from}
 use Rattle.nl_scan.proofs.Cutting.{tokens_first}
-use Rattle.nl_scan.proofs.scanner.scan.Given as goal
+use Rattle.nl_scan.proofs.scanner.cut.Given as goal
 
 -- the tokens so far and those of the rest are all tokens
 abbrev pub invariant-pieces : goal.invariant-pieces
