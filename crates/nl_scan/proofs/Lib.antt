@@ -1,3 +1,4 @@
 pub mod Cutting
+pub mod Lines
 pub mod Order
 pub mod Runs

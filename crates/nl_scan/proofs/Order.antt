@@ -1,8 +1,12 @@
 -- The tokens of a text stand in order in it.
-use Rattle.std.proofs.Common.{◌≡◌, ℕ, zero, suc, ◌+◌, ◌≤◌, ◌<◌, List, [], ◌∷◌, length, drop, get_or, Result, Ok, Err, refl, subst, arith, length-drop, zero-add}
+use Rattle.std.proofs.Common.{◌≡◌, ℕ, zero, suc, ◌+◌, ◌≤◌, ◌<◌, List, [], ◌∷◌, length, drop, get_or, Result, Ok, Err, refl, subst, arith, length-drop, zero-add, Bool, true, false, cond, nat_lt, slice_get}
+use Rattle.std.specs.Str.{is_utf8}
+use Rattle.std.proofs.lemmas.Option.{slice_get_within, get_or_from_slice_get}
+use Rattle.nl_scan.specs.declared.TheConstants.{TEXT_LIMIT}
+use Rattle.nl_scan.specs.declared.token.Lexeme.{Lexeme}
 use Rattle.nl_scan.specs.declared.token.Token.{Token}
 use Rattle.nl_scan.specs.declared.pieces.Piece.{Piece}
-use Rattle.nl_scan.specs.Tokens.{ScanFault, cut_from, after_piece, token_first, piece_at, least_length, AreInOrder, IsPieceWithin}
+use Rattle.nl_scan.specs.Tokens.{ScanFault, cut_from, tokens_of, IsTokenOf, after_piece, token_first, piece_at, least_length, AreInOrder, IsPieceWithin}
 use Rattle.nl_scan.proofs.Cutting.{least_length-some, piece_at-within}
 
 -- tokens in order from a place on are so from an earlier one on
@@ -71,3 +75,30 @@ pub cut_from-in_order : (text : List ℕ) (tokens : List Token) → cut_from (le
 cut_from-in_order text tokens e =
     let P : ℕ → Type 0 = λ last. AreInOrder 0 last tokens in
     subst P (zero-add (length text)) (cut_from-order (length text) 0 text tokens e)
+
+-- the same of the tokens of a text
+record IsCutIn (text : List ℕ) (tokens : List Token) : Type 0 where
+  cut : cut_from (length text) 0 text ≡ Ok tokens
+
+cut_of : (a b : Bool) (text : List ℕ) (tokens : List Token) (long not_text : ScanFault) → cond a (Err long) (cond b (cut_from (length text) 0 text) (Err not_text)) ≡ Ok tokens → IsCutIn text tokens
+cut_of true b text tokens long not_text e = cc
+cut_of false true text tokens long not_text e = record { cut = e }
+cut_of false false text tokens long not_text e = cc
+
+pub tokens_of-in_order : (text : List ℕ) (tokens : List Token) → tokens_of text ≡ Ok tokens → AreInOrder 0 (length text) tokens
+unfolding tokens_of
+tokens_of-in_order text tokens e = cut_from-in_order text tokens (cut_of (nat_lt TEXT_LIMIT (length text)) (is_utf8 text) text tokens _ _ e).cut
+
+-- a token of a text has its least length and lies in the text
+pub token_in : (text : List ℕ) (token : Token) → IsTokenOf text token → (least_length token.lexeme ≤ token.span.len) × (token.span.start + token.span.len ≤ length text)
+token_in text token (tokens, k, is, there) =
+    let order = tokens_of-in_order text tokens is in
+    let same = get_or_from_slice_get tokens k token token there in
+    let within = slice_get_within tokens k token there in
+    let P : Token → Type 0 = λ t. (least_length t.lexeme ≤ t.span.len) × (t.span.start + t.span.len ≤ length text) in
+    subst P same (AreInOrder-least 0 (length text) tokens k token order within, AreInOrder-at 0 (length text) tokens k token order within)
+
+pub text_in : (text : List ℕ) (token : Token) → token.lexeme ≡ Lexeme.Text → IsTokenOf text token → (2 ≤ token.span.len) × (token.span.start + token.span.len ≤ length text)
+text_in text token is of =
+    let both = token_in text token of in
+    let two = rw is at both.0 in (two, both.1)

@@ -1,3 +1,5 @@
+pub mod CodePart
+pub mod Contents
 pub mod Forms
 pub mod Place
 pub mod Tokens

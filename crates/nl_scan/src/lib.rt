@@ -1,12 +1,16 @@
 //! The tokens of a model's text.
 #![tactic(auto)]
 
+pub mod code;
+pub mod content;
 pub mod place;
 pub mod scanner;
 pub mod token;
 
 mod pieces;
 
+pub use code::code_part;
+pub use content::text_of;
 pub use place::line_column;
 pub use scanner::scan;
 pub use token::{Lexeme, ScanKind, ScanRefusal, Token, Tokens};

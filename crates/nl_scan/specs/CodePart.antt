@@ -1,0 +1,32 @@
+-- The part of a file that is code.
+use Rattle.std.specs.Prelude.{ℕ, ◌==◌, List, [], ◌∷◌, ◌++◌, codes, take, Bool, if◌then◌else◌}
+use Rattle.std.specs.List.{take_while}
+use Rattle.std.specs.Str.{bytes_eq}
+use Rattle.nl_scan.specs.Forms.{is_in_line, line_feed}
+
+-- lines with this byte before the first of them
+abbrev pub byte_first : ℕ → List (List ℕ) → List (List ℕ)
+byte_first byte [] = (byte ∷ []) ∷ []
+byte_first byte (line ∷ lines) = (byte ∷ line) ∷ lines
+
+-- the lines of a file, each with its line feed, which the last may lack
+abbrev pub lines_of : List ℕ → List (List ℕ)
+lines_of [] = []
+lines_of (byte ∷ rest) = if byte == line_feed then (byte ∷ []) ∷ lines_of rest else byte_first byte (lines_of rest)
+
+-- the line that ends the code
+abbrev pub section_line : List ℕ
+section_line = codes "@#$#@#$#@"
+
+-- whether a line is that one, its line feed aside
+abbrev pub is_section_line : List ℕ → Bool
+is_section_line line = bytes_eq (take_while is_in_line line) section_line
+
+-- the lines before the first that is, joined
+abbrev pub before_section : List (List ℕ) → List ℕ
+before_section [] = []
+before_section (line ∷ lines) = if is_section_line line then [] else line ++ before_section lines
+
+-- the code of a file: its lines before the first that ends the code, or all
+unfoldable pub code_of : List ℕ → List ℕ
+code_of file = before_section (lines_of file)
