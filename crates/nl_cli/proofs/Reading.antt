@@ -5,12 +5,9 @@ use Rattle.std.proofs.lemmas.Bool.{cases_lt}
 use Rattle.std.proofs.lemmas.Bool.Decides.{nat_tests}
 use Rattle.std.proofs.lemmas.List.{length-take, take-take}
 use Rattle.nl_outer.specs.Folder.{Folder, read_of, content_of}
-use Rattle.nl_scan.specs.declared.token.Token.{Token}
 use Rattle.nl_scan.specs.declared.token.ScanKind.{ScanKind}
-use Rattle.nl_scan.specs.declared.TheConstants.{TEXT_LIMIT}
 use Rattle.nl_scan.specs.Place.{line_after, column_after}
-use Rattle.nl_scan.specs.Tokens.{ScanFault, tokens_of}
-use Rattle.nl_scan.proofs.Cutting.{tokens_of-long}
+use Rattle.nl_scan.specs.CodePart.{code_of}
 use Rattle.nl_cli.specs.Steps.{within, with_fault, ◌>>=◌}
 use Rattle.nl_cli.specs.declared.TheConstants.{FILE_LIMIT}
 use Rattle.nl_cli.specs.declared.modelling.Walkers.{Walkers}
@@ -18,7 +15,7 @@ use Rattle.nl_cli.specs.declared.modelling.ModelKind.{ModelKind}
 use Rattle.nl_cli.specs.declared.modelling.ModelFault.{ModelFault}
 use Rattle.nl_cli.specs.declared.planning.PlanFault.{PlanFault}
 use Rattle.nl_cli.specs.declared.planning.PlanKind.TheVariants as PlanKind
-use Rattle.nl_cli.specs.ModelForm.{fault_at, model_says}
+use Rattle.nl_cli.specs.ModelForm.{fault_at, model_of_code, model_says}
 use Rattle.nl_cli.specs.ExperimentFile.{experiment_says, fields_of_text, file_fault}
 
 -- a file of which a read gave these bytes
@@ -55,12 +52,6 @@ pub experiment_says-take : (text : List ℕ) → experiment_says (take (FILE_LIM
 unfolding experiment_says
 experiment_says-take text = within-take FILE_LIMIT (file_fault PlanKind.TooLong) fields_of_text text
 
-model_too_long : (limit : ℕ) (text : List ℕ) → limit ≡ TEXT_LIMIT → limit < length text → model_says text ≡ Err (fault_at text (ModelKind.Scan ScanKind.TooLong) limit)
-unfolding model_says
-model_too_long limit text e long =
-    let past : TEXT_LIMIT < length text = omega (arith, e, long) in
-    rw (tokens_of-long text past, e)
-
 -- a place is told by what stands before it
 fault_by : ModelKind → List ℕ → ModelFault
 fault_by kind before = record { kind = kind; line = line_after before; column = column_after before }
@@ -75,12 +66,12 @@ take_less limit text = take-take limit (limit + 1) text (omega arith)
 place-take : (text : List ℕ) (limit : ℕ) (kind : ModelKind) → fault_at (take (limit + 1) text) kind limit ≡ fault_at text kind limit
 place-take text limit kind = fault_at-by (take (limit + 1) text) kind limit ∙ ap (fault_by kind) (take_less limit text) ∙ sym (fault_at-by text kind limit)
 
-model_says-within : (limit : ℕ) (text : List ℕ) → limit ≡ TEXT_LIMIT → (limit < length text) ⊎ (length text ≤ limit) → model_says (take (limit + 1) text) ≡ model_says text
-model_says-within limit text e (inl long) =
-    let also : limit < length (take (limit + 1) text) = rw (length-take (limit + 1) text) (omega arith) in
-    model_too_long limit (take (limit + 1) text) e also ∙ ap Err (place-take text limit (ModelKind.Scan ScanKind.TooLong)) ∙ sym (model_too_long limit text e long)
-model_says-within limit text e (inr short) = ap model_says (take_all (limit + 1) text (omega arith))
+code_within-take : (limit : ℕ) (kind : ModelKind) (says : List ℕ → Result Walkers ModelFault) (text : List ℕ)
+    → within limit (fault_at (take (limit + 1) text) kind limit) says (take (limit + 1) text) ≡ within limit (fault_at text kind limit) says text
+code_within-take limit kind says text =
+    ap (λ fault. within limit fault says (take (limit + 1) text)) (place-take text limit kind) ∙ within-take limit (fault_at text kind limit) says text
 
 -- what the first bytes of a model say: a longer one is too long at the same line and column
 pub model_says-take : (text : List ℕ) → model_says (take (FILE_LIMIT + 1) text) ≡ model_says text
-model_says-take text = model_says-within FILE_LIMIT text refl (cases_lt FILE_LIMIT (length text))
+unfolding model_says
+model_says-take text = code_within-take FILE_LIMIT (ModelKind.Scan ScanKind.TooLong) (λ file. model_of_code (code_of file)) text

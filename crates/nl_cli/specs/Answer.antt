@@ -58,7 +58,11 @@ joined_text (piece ∷ pieces) = piece ++ joined_text pieces
 
 abbrev pub model_kind_text : ModelKind → List ℕ
 model_kind_text (ModelKind.Scan ScanKind.TooLong) = codes "TooLong"
+model_kind_text (ModelKind.Scan ScanKind.NotText) = codes "NotText"
 model_kind_text (ModelKind.Scan ScanKind.BadChar) = codes "BadChar"
+model_kind_text (ModelKind.Scan ScanKind.OpenText) = codes "OpenText"
+model_kind_text (ModelKind.Scan ScanKind.BadEscape) = codes "BadEscape"
+model_kind_text (ModelKind.Scan ScanKind.BadNumber) = codes "BadNumber"
 model_kind_text ModelKind.NotBuilt = codes "NotBuilt"
 
 -- `MODEL:L:C: KIND`

@@ -5,6 +5,8 @@ use Rattle.std.specs.Char.{to_ascii_lowercase}
 use Rattle.nl_outer.specs.Folder.{same_bytes}
 use Rattle.nl_scan.specs.declared.token.Lexeme.{Lexeme}
 use Rattle.nl_scan.specs.declared.token.Token.{Token}
+use Rattle.nl_scan.specs.declared.token.ScanKind.{ScanKind}
+use Rattle.nl_scan.specs.CodePart.{code_of}
 use Rattle.nl_scan.specs.Place.{line_and_column}
 use Rattle.nl_scan.specs.Tokens.{ScanFault, tokens_of}
 use Rattle.nl_cli.specs.declared.modelling.Walkers.{Walkers}
@@ -13,7 +15,8 @@ use Rattle.nl_cli.specs.declared.modelling.ModelFault.{ModelFault}
 use Rattle.nl_cli.specs.declared.modelling.ModelRefusal.{ModelRefusal}
 use Rattle.nl_cli.specs.declared.modelling.Slot.{Slot as Slot'}
 use Rattle.nl_cli.specs.declared.modelling.Slot.TheVariants as CodeSlot
-use Rattle.nl_cli.specs.Steps.{◌>>=◌, with_fault}
+use Rattle.nl_cli.specs.declared.TheConstants.{FILE_LIMIT}
+use Rattle.nl_cli.specs.Steps.{◌>>=◌, with_fault, within}
 
 -- what a token of the form has to be: this word in any case of letters, a word of digits, or a bracket
 pub data Slot : Type 0 where
@@ -72,7 +75,7 @@ is_word_in_any_case name bytes = same_bytes (map to_ascii_lowercase bytes) (map 
 -- what is found is what the form has there
 abbrev pub fits : Slot → Lexeme → List ℕ → Bool
 fits (word name) Lexeme.Word bytes = is_word_in_any_case name bytes
-fits digits Lexeme.Word bytes = is_some_number (number_of bytes)
+fits digits (Lexeme.Number number) bytes = is_some_number (number_of bytes)
 fits opening Lexeme.Open bytes = true
 fits closing Lexeme.Close bytes = true
 fits _ _ _ = false
@@ -99,11 +102,15 @@ abbrev pub model_of_tokens : List ℕ → List Token → Option ℕ → Result W
 model_of_tokens text tokens None = Ok (record { births = number_at text tokens births_at; distance = number_at text tokens distance_at })
 model_of_tokens text tokens (Some place) = Err (fault_at text ModelKind.NotBuilt place)
 
--- what a model's text says: the model, or its first fault
+-- what code says: the model, or its first fault
+abbrev pub model_of_code : List ℕ → Result Walkers ModelFault
+model_of_code code =
+    with_fault (λ fault. fault_at code (ModelKind.Scan fault.kind) fault.place) (tokens_of code)
+    >>= λ tokens. model_of_tokens code tokens (misfit code form tokens)
+
+-- what a model's file says: too long a file is told at its first byte past the limit, and else its code says it
 unfoldable pub model_says : List ℕ → Result Walkers ModelFault
-model_says text =
-    with_fault (λ fault. fault_at text (ModelKind.Scan fault.kind) fault.place) (tokens_of text)
-    >>= λ tokens. model_of_tokens text tokens (misfit text form tokens)
+model_says file = within FILE_LIMIT (fault_at file (ModelKind.Scan ScanKind.TooLong) FILE_LIMIT) (λ text. model_of_code (code_of text)) file
 
 -- a call gives what is defined, or wants memory
 abbrev pub ModelGives : Result Walkers ModelFault → Result Walkers ModelRefusal → Type 0

@@ -2,10 +2,10 @@
 ghost use Rattle.std.specs.Prelude.{◌≡◌, ◌≤◌, ◌+◌, ◌<◌, ℕ, length, IfSome, IfOk, slice_get, map};
 ghost use Rattle.std.specs.Option.{option_map};
 ghost use Rattle.nl_scan.specs.Tokens.{AreInOrder};
-ghost use Rattle.nl_cli.specs.ModelForm.{ModelGives, bytes_of, fault_at, fits, form, is_digit, misfit, model_says, number_at, number_of, slot_of, is_word_in_any_case};
+ghost use Rattle.nl_cli.specs.ModelForm.{ModelGives, bytes_of, fault_at, fits, form, is_digit, misfit, model_of_code, model_says, number_at, number_of, slot_of, is_word_in_any_case};
 
 use crate::FILE_LIMIT;
-use nl_scan::{Lexeme, ScanKind, ScanRefusal, Token, line_column, scan};
+use nl_scan::{Lexeme, ScanKind, ScanRefusal, Token, code_part, line_column, scan};
 use std::alloc::Global;
 use std::fmt;
 
@@ -48,7 +48,11 @@ impl fmt::Display for ModelKind {
     fn fmt<W: fmt::Write>(&self, f: &mut fmt::Formatter<W>) -> fmt::Result {
         match self {
             ModelKind::Scan(ScanKind::TooLong) => write!(f, "TooLong"),
+            ModelKind::Scan(ScanKind::NotText) => write!(f, "NotText"),
             ModelKind::Scan(ScanKind::BadChar) => write!(f, "BadChar"),
+            ModelKind::Scan(ScanKind::OpenText) => write!(f, "OpenText"),
+            ModelKind::Scan(ScanKind::BadEscape) => write!(f, "BadEscape"),
+            ModelKind::Scan(ScanKind::BadNumber) => write!(f, "BadNumber"),
             ModelKind::NotBuilt => write!(f, "NotBuilt"),
         }
     }
@@ -135,7 +139,7 @@ fn is_fitting(slot: &Slot, lexeme: Lexeme, bytes: &[u8]) -> bool
 {
     match (slot, lexeme) {
         (Slot::Word(name), Lexeme::Word) => is_same_word(bytes, name),
-        (Slot::Digits, Lexeme::Word) => word_number(bytes).is_some(),
+        (Slot::Digits, Lexeme::Number(_)) => word_number(bytes).is_some(),
         (Slot::Opening, Lexeme::Open) => true,
         (Slot::Closing, Lexeme::Close) => true,
         _ => false,
@@ -192,27 +196,41 @@ fn fault(text: &[u8], kind: ModelKind, place: u32) -> ModelFault
     ModelFault { kind, line, column }
 }
 
-/// The model that a text is, of which there are all bytes or one more than the limit.
-#[tactic(auto, unfolding(crate::specs::ModelForm::model_says))]
-pub fn read_model(alloc: Global, text: &[u8]) -> Result<Walkers, ModelRefusal>
-    requires { length text.now ≤ FILE_LIMIT + 1 }
-    ensures says { ModelGives (model_says text.now) result }
+// The model that the code of a file is.
+fn read_code(alloc: Global, code: &[u8]) -> Result<Walkers, ModelRefusal>
+    requires { length code.now ≤ FILE_LIMIT + 1 }
+    ensures says { ModelGives (model_of_code code.now) result }
     ensures few { IfOk result (λ model. model.births ≤ 1000) }
     ensures near { IfOk result (λ model. model.distance ≤ 1000) }
 {
-    let tokens = match scan(alloc, text) {
+    let tokens = match scan(alloc, code) {
         Ok(tokens) => tokens,
         Err(ScanRefusal::Fault { kind, place }) => {
-            return Err(ModelRefusal::Fault(fault(text, ModelKind::Scan(kind), place)));
+            return Err(ModelRefusal::Fault(fault(code, ModelKind::Scan(kind), place)));
         }
         Err(ScanRefusal::NoMemory) => return Err(ModelRefusal::NoMemory),
     };
     let tokens = tokens.as_slice();
-    match first_misfit(text, tokens) {
-        Some(place) => Err(ModelRefusal::Fault(fault(text, ModelKind::NotBuilt, place))),
+    match first_misfit(code, tokens) {
+        Some(place) => Err(ModelRefusal::Fault(fault(code, ModelKind::NotBuilt, place))),
         None => Ok(Walkers {
-            births: number_in(text, tokens, BIRTHS_AT),
-            distance: number_in(text, tokens, DISTANCE_AT),
+            births: number_in(code, tokens, BIRTHS_AT),
+            distance: number_in(code, tokens, DISTANCE_AT),
         }),
     }
+}
+
+/// The model that a file is, of which there are all bytes or one more than the limit.
+#[tactic(auto, unfolding(crate::specs::ModelForm::model_says))]
+pub fn read_model(alloc: Global, file: &[u8]) -> Result<Walkers, ModelRefusal>
+    requires { length file.now ≤ FILE_LIMIT + 1 }
+    ensures says { ModelGives (model_says file.now) result }
+    ensures few { IfOk result (λ model. model.births ≤ 1000) }
+    ensures near { IfOk result (λ model. model.distance ≤ 1000) }
+{
+    if file.len() as u64 > FILE_LIMIT {
+        let kind = ModelKind::Scan(ScanKind::TooLong);
+        return Err(ModelRefusal::Fault(fault(file, kind, FILE_LIMIT as u32)));
+    }
+    read_code(alloc, code_part(file))
 }
