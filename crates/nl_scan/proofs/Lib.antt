@@ -1,4 +1,6 @@
+pub mod CutLaws
 pub mod Cutting
+pub mod Firsts
 pub mod Lines
 pub mod Order
 pub mod Runs

@@ -1,5 +1,6 @@
 pub mod CodePart
 pub mod Contents
+pub mod Cuts
 pub mod Forms
 pub mod Place
 pub mod Tokens

@@ -3,6 +3,7 @@
 
 pub mod code;
 pub mod content;
+pub mod laws;
 pub mod place;
 pub mod scanner;
 pub mod token;
