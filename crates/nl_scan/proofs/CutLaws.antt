@@ -127,9 +127,11 @@ says_gap at text s (Err fault) first is (stretches, behind, flaw, cut, flawed, e
 says_token : (at : ℕ) (text : List ℕ) (s : Stretch) (lexeme : Lexeme) (r : Result (List Token) ScanFault) → IsFirst text s → meaning_of s.form s.bytes ≡ Ok (Some lexeme)
     → Says (at + length s.bytes) (drop (length s.bytes) text) r → Says at text (token_first (record { lexeme = lexeme; span = record { start = at; len = length s.bytes } }) r)
 says_token at text s lexeme (Ok tokens) first is (stretches, cut, e) =
-    let token : Token = record { lexeme = lexeme; span = record { start = at; len = length s.bytes } } in
-    (s ∷ stretches, (first, (Some lexeme, is), cut),
-      ap (λ (more : List Token). token ∷ more) e ∙ ap (λ m. token_before m at (length s.bytes) (tokens_in (at + length s.bytes) stretches)) (sym is))
+    let token : Token = record { lexeme = lexeme; span = record { start = at; len = length s.bytes } } in (
+      s ∷ stretches,
+      (first, (Some lexeme, is), cut),
+      ap (λ (more : List Token). token ∷ more) e ∙ ap (λ m. token_before m at (length s.bytes) (tokens_in (at + length s.bytes) stretches)) (sym is),
+    )
 says_token at text s lexeme (Err fault) first is (stretches, behind, flaw, cut, flawed, e) =
     (s ∷ stretches, behind, flaw, (first, (Some lexeme, is), cut), flawed, e ∙ ap (placed flaw.kind) (later at s stretches flaw.before))
 

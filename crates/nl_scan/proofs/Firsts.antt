@@ -231,9 +231,11 @@ begun : (byte : ℕ) (rest : List ℕ) (form : Form) (m : ℕ) → form_at byte 
 begun byte rest form m at is =
     let held = reach-is form rest m is in
     let len : suc m ≡ suc (length (take m rest)) = ap suc (sym (length-take-le m rest held.1)) in
-    let by_form : piece_at (byte ∷ rest) ≡ piece_by (Some form) byte rest = ap (λ o. piece_by o byte rest) at in
-    (record { form = form; bytes = byte ∷ take m rest }, first_is byte rest form m at is,
-      by_form ∙ piece-is byte rest form m at is ∙ ap (λ n. piece_of n (meaning_behind form byte (take m rest))) len)
+    let by_form : piece_at (byte ∷ rest) ≡ piece_by (Some form) byte rest = ap (λ o. piece_by o byte rest) at in (
+      record { form = form; bytes = byte ∷ take m rest },
+      first_is byte rest form m at is,
+      by_form ∙ piece-is byte rest form m at is ∙ ap (λ n. piece_of n (meaning_behind form byte (take m rest))) len,
+    )
 
 none_begins : (byte : ℕ) (rest : List ℕ) → form_at byte ≡ None → (form : Form) → form_at byte ≡ Some form → reach form rest ≡ None
 none_begins byte rest none form at = cc
@@ -256,8 +258,8 @@ open_quoted byte rest at never =
     let by_form : piece_at (byte ∷ rest) ≡ quoted_piece (closed_length false rest) rest = ap (λ o. piece_by o byte rest) at in
     let unclosed : piece_at (byte ∷ rest) ≡ Piece.Bad ScanKind.OpenText 0 = by_form ∙ ap (λ o. quoted_piece o rest) never in
     let none : (form : Form) → form_at byte ≡ Some form → reach form rest ≡ None = λ form other.
-      let same : Form.Quoted ≡ form = cc in
-      let P : Form → Type 0 = λ f. reach f rest ≡ None in subst P same never in
+    let same : Form.Quoted ≡ form = cc in
+    let P : Form → Type 0 = λ f. reach f rest ≡ None in subst P same never in
     ((omega arith, nothing_is byte rest none, refl), unclosed ∙ ap (λ k. Piece.Bad k 0) (sym kind))
 
 by_reach : (byte : ℕ) (rest : List ℕ) (form : Form) (o : Option ℕ) → form_at byte ≡ Some form → reach form rest ≡ o → IsBegun (byte ∷ rest) ⊎ IsStopped (byte ∷ rest)

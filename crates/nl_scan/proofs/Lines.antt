@@ -89,7 +89,7 @@ line_over file rest at len next all e below is to so_far goes =
     let some : 0 < length rest = rw e (simp length-drop (omega arith)) in
     let going : bytes_eq (take (line_length rest) rest) section_line ≡ false = rw (← is) goes in
     let code : take at file ++ (take (len + 1) rest ++ code_of (drop (len + 1) rest)) ≡ all =
-      ap (λ (bytes : List ℕ). take at file ++ bytes) (sym (rw is (code_of-goes_on rest some going))) ∙ so_far in
+    ap (λ (bytes : List ℕ). take at file ++ bytes) (sym (rw is (code_of-goes_on rest some going))) ∙ so_far in
     let P : List ℕ → Type 0 = λ bytes. take at file ++ (take (len + 1) bytes ++ code_of (drop (len + 1) bytes)) ≡ all in
     let one : at + (len + 1) ≡ at + len + 1 = omega arith in
     rw (to, past file (at + len + 1), ← one) (sym (front_more file at (len + 1)) ∙ subst P e code)

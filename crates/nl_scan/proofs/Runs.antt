@@ -75,12 +75,15 @@ brackets P byte a b c d h = by (cases_Bool (byte == 91))
     four : ((byte == 41) ≡ true) ⊎ ((byte == 41) ≡ false) → (byte == 91) ≡ false → (byte == 93) ≡ false → (byte == 40) ≡ false → P byte
     four (inl e) x y z = subst P (sym (same_byte byte 41 e)) d
     four (inr e) x y z = let none = rw (x, y, z, e) at h in cc
+
     three : ((byte == 40) ≡ true) ⊎ ((byte == 40) ≡ false) → (byte == 91) ≡ false → (byte == 93) ≡ false → P byte
     three (inl e) x y = subst P (sym (same_byte byte 40 e)) c
     three (inr e) x y = four (cases_Bool (byte == 41)) x y e
+
     two : ((byte == 93) ≡ true) ⊎ ((byte == 93) ≡ false) → (byte == 91) ≡ false → P byte
     two (inl e) x = subst P (sym (same_byte byte 93 e)) b
     two (inr e) x = three (cases_Bool (byte == 40)) x e
+
     by : ((byte == 91) ≡ true) ⊎ ((byte == 91) ≡ false) → P byte
     by (inl e) = subst P (sym (same_byte byte 91 e)) a
     by (inr e) = two (cases_Bool (byte == 93)) e

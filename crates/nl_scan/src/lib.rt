@@ -4,11 +4,12 @@
 pub mod code;
 pub mod content;
 pub mod laws;
+mod pieces;
 pub mod place;
 pub mod scanner;
+#[cfg(test)]
+mod tests;
 pub mod token;
-
-mod pieces;
 
 pub use code::code_part;
 pub use content::text_of;

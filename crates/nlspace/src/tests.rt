@@ -327,17 +327,44 @@ fn models_are_refused_at_their_place(rt: HostRuntime) -> Result<(), Fail> {
                 "to\r\nsetup\n\n  cro 3\n end to  walk",
                 "m.nlogo:5:10: NotBuilt\n",
             ),
-            // A byte of no token comes before a token that doesn't fit.
-            ("walk ;", "m.nlogo:1:6: BadChar\n"),
-            ("to setup (cro 3", "m.nlogo:1:10: BadChar\n"),
-            ("to setup\n\t\"", "m.nlogo:2:2: BadChar\n"),
+            ("to setup (cro 3", "m.nlogo:1:10: NotBuilt\n"),
+            ("to setup cro \"3\"", "m.nlogo:1:14: NotBuilt\n"),
+            // Numbers that aren't one to four digits.
+            ("to setup cro 3.0 end", "m.nlogo:1:14: NotBuilt\n"),
+            ("to setup cro 1e3 end", "m.nlogo:1:14: NotBuilt\n"),
+            ("to setup cro 3. end", "m.nlogo:1:14: NotBuilt\n"),
+            // A fault of the tokens comes before a token that doesn't fit.
+            ("walk ,", "m.nlogo:1:6: BadChar\n"),
+            ("to setup\n\t\"", "m.nlogo:2:2: OpenText\n"),
+            ("walk \"a\\qb\"", "m.nlogo:1:8: BadEscape\n"),
+            ("to setup cro 1e99", "m.nlogo:1:14: BadNumber\n"),
+            ("walk é", "m.nlogo:1:6: BadChar\n"),
         ],
     )?;
     assert_ended(
         &rt,
         Call::table(alloc, b"\xff", EXPERIMENT)?,
         Status::Model,
-        b"m.nlogo:1:1: BadChar\n",
+        b"m.nlogo:1:1: NotText\n",
+    );
+    Ok(())
+}
+
+#[test]
+fn sections_behind_the_code_are_passed_over(rt: HostRuntime) -> Result<(), Fail> {
+    let alloc = rt.alloc();
+    let row = b"\"1\",\"2\",\"3\",\"steps\"\n";
+    let mut sections = MODEL.to_vec(alloc)?;
+    sections.extend_from_slice(b" ; \"\n@#$#@#$#@\nGRAPHICS-WINDOW\n\xff\n@#$#@#$#@\n")?;
+    assert_row(&rt, alloc, sections.as_slice(), EXPERIMENT, row)?;
+    // A section line ends at a line feed alone, so here the code goes on.
+    let mut returns = MODEL.to_vec(alloc)?;
+    returns.extend_from_slice(b"\r\n@#$#@#$#@\r\nGRAPHICS-WINDOW\r\n")?;
+    assert_ended(
+        &rt,
+        Call::table(alloc, returns.as_slice(), EXPERIMENT)?,
+        Status::Model,
+        b"m.nlogo:2:1: BadChar\n",
     );
     Ok(())
 }

@@ -10,10 +10,10 @@ returns-then-is_section-clause-is c =
 
 pub lines-preserved : goal.lines-preserved
 lines-preserved c = (
-    omega arith,
-    line_over c.args.file.now _ c.lines.at c.line_len-len.result c.min-at.result _ (rest_from c.args.file.now c.lines.at) c.lines-test.true c.line_len-len.ensures.is c.min-at.ensures
-    (rw (rest_from c.args.file.now c.lines.at) c.lines.invariant.1) (sym c.is_section.ensures ∙ c.if-is_section.false),
-  )
+  omega arith,
+  line_over c.args.file.now _ c.lines.at c.line_len-len.result c.min-at.result _ (rest_from c.args.file.now c.lines.at) c.lines-test.true c.line_len-len.ensures.is c.min-at.ensures
+      (rw (rest_from c.args.file.now c.lines.at) c.lines.invariant.1) (sym c.is_section.ensures ∙ c.if-is_section.false),
+)
 
 pub returns-clause-is : goal.returns-clause-is
 returns-clause-is c = no_line c.args.file.now c.lines.at _ c.lines-test.false c.lines.invariant.1
