@@ -1,22 +1,18 @@
 -- The first bytes of a file say what the whole file says.
-use Rattle.std.proofs.Common.{◌≡◌, ℕ, ◌+◌, ◌<◌, ◌≤◌, min, List, length, take, nat_lt, true, false, Bool, Option, Some, None, Result, Ok, Err, refl, sym, ap, ◌∙◌, arith, cond, take_all, ◌⊎◌, inl, inr}
+use Rattle.std.proofs.Common.{◌≡◌, ℕ, ◌+◌, ◌<◌, ◌≤◌, List, length, take, nat_lt, true, false, Bool, Option, Some, None, Result, Err, refl, sym, ap, ◌∙◌, arith, cond, take_all, ◌⊎◌, inl, inr}
 use Rattle.std.specs.Option.{option_map}
 use Rattle.std.proofs.lemmas.Bool.{cases_lt}
 use Rattle.std.proofs.lemmas.Bool.Decides.{nat_tests}
 use Rattle.std.proofs.lemmas.List.{length-take, take-take}
 use Rattle.nl_outer.specs.Folder.{Folder, read_of, content_of}
-use Rattle.nl_scan.specs.declared.token.Token.{Token}
 use Rattle.nl_scan.specs.declared.token.ScanKind.{ScanKind}
 use Rattle.nl_scan.specs.declared.TheConstants.{TEXT_LIMIT}
 use Rattle.nl_scan.specs.Place.{line_after, column_after}
-use Rattle.nl_scan.specs.Tokens.{ScanFault, tokens_of}
 use Rattle.nl_scan.proofs.Cutting.{tokens_of-long}
-use Rattle.nl_cli.specs.Steps.{within, with_fault, ◌>>=◌}
+use Rattle.nl_cli.specs.Steps.{within}
 use Rattle.nl_cli.specs.declared.TheConstants.{FILE_LIMIT}
-use Rattle.nl_cli.specs.declared.modelling.Walkers.{Walkers}
 use Rattle.nl_cli.specs.declared.modelling.ModelKind.{ModelKind}
 use Rattle.nl_cli.specs.declared.modelling.ModelFault.{ModelFault}
-use Rattle.nl_cli.specs.declared.planning.PlanFault.{PlanFault}
 use Rattle.nl_cli.specs.declared.planning.PlanKind.TheVariants as PlanKind
 use Rattle.nl_cli.specs.ModelForm.{fault_at, model_says}
 use Rattle.nl_cli.specs.ExperimentFile.{experiment_says, fields_of_text, file_fault}
