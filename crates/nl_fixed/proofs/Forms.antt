@@ -1,13 +1,13 @@
 -- The computed parts of a word are those that the form of a number asks for.
-use Rattle.std.proofs.Common.{◌≡◌, ℕ, zero, suc, ◌+◌, ◌<◌, ◌≤◌, ◌⊎◌, inl, inr, Bool, true, false, ◌&&◌, ◌||◌, ◌==◌, not, cond, List, [], ◌∷◌, ◌++◌, length, take, drop, Option, Some, None, nat_lt, nat_eq, arith, rules, refl, ap, sym, ◌∙◌, subst, IfSome}
+use Rattle.std.proofs.Common.{◌≡◌, ℕ, ◌+◌, ◌<◌, Bool, true, false, ◌&&◌, ◌==◌, cond, List, [], ◌∷◌, ◌++◌, length, Option, Some, None, nat_lt, arith, refl, ap, ◌∙◌, IfSome}
 use Rattle.std.specs.Char.{is_ascii_digit}
 use Rattle.std.specs.Option.{option_map, option_to_list}
 use Rattle.std.specs.List.{list_all, prefix_len}
 use Rattle.std.proofs.lemmas.Bool.Decides.{nat_tests}
 use Rattle.std.proofs.lemmas.List.{take-append-drop}
 use Rattle.std.proofs.Math.Seq.{take-append_seam, drop-append_seam}
-use Rattle.nl_fixed.specs.Spelling.{Exponent, Parts, IsSpelled, word_of, exponent_word, all_digits, is_exponent_part, is_exponent_letter, is_sign, is_one_or_two, minus_sign, plus_sign, decimal_point, leading_digits, behind_digits, exponent_with, signed_exponent, exponent_of, ended, pointed, unsigned_parts, parts_of}
-use Rattle.nl_fixed.proofs.Digits.{IsDigit, IsDigit-from_test, first_and_rest, list_all-take-prefix_len}
+use Rattle.nl_fixed.specs.Spelling.{Exponent, Parts, IsSpelled, exponent_word, all_digits, is_exponent_part, is_exponent_letter, is_sign, is_one_or_two, minus_sign, decimal_point, leading_digits, behind_digits, exponent_with, signed_exponent, exponent_of, ended, pointed, unsigned_parts, parts_of}
+use Rattle.nl_fixed.proofs.Digits.{first_and_rest, list_all-take-prefix_len}
 
 -- ---- digits with something behind them that isn't one
 

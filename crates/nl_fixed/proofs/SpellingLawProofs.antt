@@ -4,8 +4,8 @@ use Rattle.std.specs.Option.{option_map}
 use Rattle.std.specs.Str.Parse.{digits_value}
 use Rattle.std.proofs.lemmas.Int.{ints}
 use Rattle.nl_fixed.specs.declared.number.NumFault.TheVariants.{Overflow}
-use Rattle.nl_fixed.specs.Numbers.{IsInRange, as_number}
-use Rattle.nl_fixed.specs.Spelling.{Parts, IsSpelled, parts_of, value_of, exponent_value, signed, most_digits, read_of, number_text}
+use Rattle.nl_fixed.specs.Numbers.{as_number}
+use Rattle.nl_fixed.specs.Spelling.{Parts, IsSpelled, parts_of, value_of, exponent_value, signed, most_digits, read_of}
 use Rattle.nl_fixed.specs.SpellingLaws.{moves_right, moves_left, rounded_value, PartsFollowTheForm, PartsAreUnique, WordsReadAsRounded, OthersReadAsNothing, TextsReadBack, TextsDiffer}
 use Rattle.nl_fixed.proofs.Forms.{parts_from_form, form_from_parts}
 use Rattle.nl_fixed.proofs.ReadBack.{text_reads_back}

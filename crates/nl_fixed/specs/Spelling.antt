@@ -1,5 +1,5 @@
 -- How numbers are written: the form of a number's word, the number that it writes, and the text of a number.
-use Rattle.std.specs.Prelude.{◌≡◌, ℕ, zero, suc, ◌+◌, ◌/◌, ◌%◌, ◌^◌, ◌<◌, ◌↔◌, ℤ, pos, negsuc, ◌+ℤ◌, ◌-ℤ◌, ◌*ℤ◌, neg_ℤ, Bool, true, false, ◌||◌, ◌&&◌, ◌==◌, if◌then◌else◌, nat_lt, nat_le, Option, Some, None, is_some, List, [], ◌∷◌, ◌++◌, length, take_while, drop, Result, Ok, Err}
+use Rattle.std.specs.Prelude.{◌≡◌, ℕ, zero, suc, ◌+◌, ◌/◌, ◌%◌, ◌^◌, ◌<◌, ℤ, pos, negsuc, ◌+ℤ◌, ◌-ℤ◌, ◌*ℤ◌, neg_ℤ, Bool, true, false, ◌||◌, ◌&&◌, ◌==◌, if◌then◌else◌, nat_lt, nat_le, Option, Some, None, is_some, List, [], ◌∷◌, ◌++◌, length, take_while, drop, Result, Err}
 use Rattle.std.specs.Char.{is_ascii_digit}
 use Rattle.std.specs.Option.{option_map, option_to_list}
 use Rattle.std.specs.List.{list_all, prefix_len}
@@ -7,7 +7,7 @@ use Rattle.std.specs.Fmt.{decimal}
 use Rattle.std.specs.Str.Parse.{digits_value}
 use Rattle.nl_fixed.specs.declared.number.NumFault.{NumFault}
 use Rattle.nl_fixed.specs.declared.number.NumFault.TheVariants.{Overflow}
-use Rattle.nl_fixed.specs.Numbers.{as_number, rounded_quotient, one, IsInRange}
+use Rattle.nl_fixed.specs.Numbers.{as_number, rounded_quotient, one}
 
 -- the bytes that aren't digits: `-`, `+` and `.`
 abbrev pub minus_sign : ℕ

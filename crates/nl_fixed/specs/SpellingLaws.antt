@@ -31,9 +31,9 @@ moves_left (negsuc n) = suc n
 -- the quotient of n with the zeros of the exponent and of a million, by 1 with the zeros of the places behind the point
 abbrev pub rounded_value : Parts → Result ℤ NumFault
 rounded_value p =
-  if nat_le (length p.whole + length p.fraction) most_digits
-  then as_number (rounded_quotient (signed p.minus (digits_value 10 (p.whole ++ p.fraction)) *ℤ pos (10 ^ (decimal_places + moves_right (exponent_value p.exponent)))) (10 ^ (length p.fraction + moves_left (exponent_value p.exponent))))
-  else Err Overflow
+    if nat_le (length p.whole + length p.fraction) most_digits
+    then as_number (rounded_quotient (signed p.minus (digits_value 10 (p.whole ++ p.fraction)) *ℤ pos (10 ^ (decimal_places + moves_right (exponent_value p.exponent)))) (10 ^ (length p.fraction + moves_left (exponent_value p.exponent))))
+    else Err Overflow
 
 -- a word that has the form of a number reads as its rounded value
 abbrev pub WordsReadAsRounded : Type 0
