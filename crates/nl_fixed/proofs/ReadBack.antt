@@ -90,6 +90,7 @@ exact_value minus whole fraction n z few places value e inside =
 
 -- a word of these parts, without an exponent, reads as the number
 reads_as : (word : List ℕ) (minus : Bool) (whole : List ℕ) (point : Bool) (fraction : List ℕ) (n : ℕ) (z : ℤ) → word ≡ cond minus (minus_sign ∷ []) [] ++ (whole ++ (cond point (decimal_point ∷ []) [] ++ (fraction ++ []))) → all_digits whole ≡ true → all_digits fraction ≡ true → (point ≡ false → fraction ≡ []) → 0 < length whole → length whole ≤ 20 → length fraction ≤ 6 → digits_value 10 (whole ++ fraction) * 10 ^ (6 - length fraction) ≡ n → z ≡ signed minus n → IsInRange z → read_of word ≡ Some (Ok z)
+unfolding read_of
 reads_as word minus whole point fraction n z e before behind none some short places value count inside =
     let p : Parts = record { minus = minus; whole = whole; point = point; fraction = fraction; exponent = None } in
     let spelled : IsSpelled word p = record { joined = e; whole = before; fraction = behind; unpointed = none; some_digit = omega arith; exponent = refl } in
@@ -118,6 +119,7 @@ text_reads minus w (suc m) n z small below e count inside =
     (rw (digits_value_after-append, written) value) count inside
 
 pub text_reads_back : (z : ℤ) → IsInRange z → read_of (number_text z) ≡ Some (Ok z)
+unfolding number_text
 text_reads_back (pos n) inside =
     let size : n ≤ limit = omega (arith, ints) in
     text_reads false (n / 1000000) (n % 1000000) n (pos n) (omega arith) (omega arith) (div-add-mod' n 1000000) refl inside

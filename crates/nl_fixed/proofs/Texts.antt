@@ -75,9 +75,11 @@ written_all old start written places n m done some e f =
 -- ---- the whole text
 
 pub text_below : (z : ℤ) (n : ℕ) (out : List ℕ) → lt_z z (pos 0) ≡ true → n ≡ unsigned_abs z → out ≡ (minus_sign ∷ decimal (n / 1000000)) ++ fraction_text (n % 1000000) → out ≡ number_text z
+unfolding number_text
 text_below (pos k) n out below e f = absurd (grind (arith, nat_tests))
 text_below (negsuc k) n out below e f = rw e at f
 
 pub text_above : (z : ℤ) (n : ℕ) (out : List ℕ) → lt_z z (pos 0) ≡ false → n ≡ unsigned_abs z → out ≡ decimal (n / 1000000) ++ fraction_text (n % 1000000) → out ≡ number_text z
+unfolding number_text
 text_above (pos k) n out above e f = rw e at f
 text_above (negsuc k) n out above e f = cc

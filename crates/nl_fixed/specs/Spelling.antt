@@ -114,12 +114,12 @@ abbrev pub unsigned_parts : Bool → List ℕ → Option Parts
 unsigned_parts minus bs = pointed minus (leading_digits bs) (behind_digits bs)
 
 -- the parts of a word that has the form of a number
-abbrev pub parts_of : List ℕ → Option Parts
+unfoldable pub parts_of : List ℕ → Option Parts
 parts_of [] = None
 parts_of (c ∷ cs) = if c == minus_sign then unsigned_parts true cs else unsigned_parts false (c ∷ cs)
 
 -- the word has the form of a number
-abbrev pub is_number_form : List ℕ → Bool
+unfoldable pub is_number_form : List ℕ → Bool
 is_number_form word = is_some (parts_of word)
 
 -- ---- the number that a word writes
@@ -160,7 +160,7 @@ abbrev pub value_of : Parts → Result ℤ NumFault
 value_of p = decimal_value p.minus p.whole p.fraction (exponent_value p.exponent)
 
 -- the number that a word writes, or why there is none, where the word has the form of a number
-abbrev pub read_of : List ℕ → Option (Result ℤ NumFault)
+unfoldable pub read_of : List ℕ → Option (Result ℤ NumFault)
 read_of word = option_map value_of (parts_of word)
 
 -- ---- the text of a number
@@ -186,6 +186,6 @@ abbrev pub magnitude_text : ℕ → List ℕ
 magnitude_text n = decimal (n / one) ++ fraction_text (n % one)
 
 -- the text of the number with this count of millionths
-abbrev pub number_text : ℤ → List ℕ
+unfoldable pub number_text : ℤ → List ℕ
 number_text (pos n) = magnitude_text n
 number_text (negsuc n) = minus_sign ∷ magnitude_text (suc n)
