@@ -6,7 +6,7 @@ use Rattle.std.proofs.lemmas.Nat.{div_below}
 use Rattle.std.proofs.Math.Nat.{div-eq-sub-div}
 use Rattle.nl_cli.specs.declared.modelling.Walkers.{Walkers}
 use Rattle.nl_cli.specs.declared.running.Row.{Row}
-use Rattle.nl_cli.specs.Course.{World, Exit, goes_on, spent, ◌then◌, unit, unit_with, times, births, forward, ask, setup, go, step, is_done, done_row, spent_row, or_spent, run_from, row_of}
+use Rattle.nl_cli.specs.Course.{World, Exit, goes_on, spent, ◌then◌, unit, times, forward, ask, go, step, is_done, done_row, spent_row, or_spent, run_from, row_of}
 
 -- a world of so many turtles and units
 abbrev world : ℕ → ℕ → World

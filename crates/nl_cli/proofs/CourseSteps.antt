@@ -1,5 +1,5 @@
 -- How the reading of the inputs goes on, and where it ends.
-use Rattle.std.proofs.Common.{◌≡◌, ℕ, List, Option, Some, None, Result, Ok, Err, refl, ap}
+use Rattle.std.proofs.Common.{◌≡◌, ℕ, List, Some, Result, Ok, Err, refl, ap}
 use Rattle.nl_cli.specs.Steps.{◌>>=◌, or_else, with_fault}
 use Rattle.nl_cli.specs.declared.modelling.Walkers.{Walkers}
 use Rattle.nl_cli.specs.declared.modelling.ModelFault.{ModelFault}

@@ -1,12 +1,12 @@
 -- The tokens of a text against the form of a model.
 use Rattle.std.proofs.Common.{◌≡◌, ℕ, zero, suc, ◌+◌, ◌≤◌, ◌<◌, Bool, true, false, List, [], ◌∷◌, length, drop, map, get_or, Option, Some, None, slice_get, refl, sym, ap, ◌∙◌, arith, subst}
 use Rattle.std.proofs.lemmas.List.{drop_more, drop_all}
-use Rattle.std.proofs.lemmas.Option.{slice_get_within, get_or_from_slice_get, slice_get_cases, slice_get-get_or}
+use Rattle.std.proofs.lemmas.Option.{slice_get_within, get_or_from_slice_get}
 use Rattle.nl_scan.specs.declared.token.Token.{Token}
 use Rattle.nl_scan.specs.Tokens.{AreInOrder}
 use Rattle.nl_scan.proofs.Order.{AreInOrder-at}
 use Rattle.nl_cli.specs.declared.modelling.Slot.{Slot as CodeSlot}
-use Rattle.nl_cli.specs.ModelForm.{Slot, bytes_of, fits, misfit, slot_of}
+use Rattle.nl_cli.specs.ModelForm.{bytes_of, fits, misfit, slot_of}
 
 -- a token that is there lies in the text
 pub token_within : (text : List ℕ) (tokens : List Token) (at : ℕ) (token : Token) → AreInOrder 0 (length text) tokens

@@ -1,5 +1,5 @@
 -- Puts, one after another.
-use Rattle.std.proofs.Common.{◌≡◌, ℕ, List, [], ◌++◌, Option, Some, None, Result, Ok, Err, refl, ap, sym, arith, append_assoc, append-nil}
+use Rattle.std.proofs.Common.{ℕ, List, [], ◌++◌, Option, Some, None, Result, Ok, Err, refl, ap, sym, arith, append_assoc, append-nil}
 use Rattle.nl_outer.specs.Bytes.{Appended, PartAppended}
 use Rattle.nl_cli.specs.declared.ends.End.{End}
 use Rattle.nl_cli.specs.Outcome.{Given}

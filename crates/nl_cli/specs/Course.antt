@@ -1,5 +1,5 @@
 -- A run of the form, event by event: an event is one budget unit of one agent.
-use Rattle.std.specs.Prelude.{ℕ, zero, suc, ◌+◌, ◌==◌, not, ◌&&◌, if◌then◌else◌, Bool, Option, Some, None}
+use Rattle.std.specs.Prelude.{ℕ, zero, suc, ◌+◌, ◌==◌, not, ◌&&◌, if◌then◌else◌, Bool, Some, None}
 use Rattle.nl_cli.specs.declared.modelling.Walkers.{Walkers}
 use Rattle.nl_cli.specs.declared.running.RunEnd.{RunEnd}
 use Rattle.nl_cli.specs.declared.running.Row.{Row}

@@ -8,7 +8,7 @@ use Rattle.nl_scan.specs.declared.token.Token.{Token}
 use Rattle.nl_scan.specs.declared.token.ScanKind.{ScanKind}
 use Rattle.nl_scan.specs.CodePart.{code_of}
 use Rattle.nl_scan.specs.Place.{line_and_column}
-use Rattle.nl_scan.specs.Tokens.{ScanFault, tokens_of}
+use Rattle.nl_scan.specs.Tokens.{tokens_of}
 use Rattle.nl_cli.specs.declared.modelling.Walkers.{Walkers}
 use Rattle.nl_cli.specs.declared.modelling.ModelKind.{ModelKind}
 use Rattle.nl_cli.specs.declared.modelling.ModelFault.{ModelFault}

@@ -1,5 +1,5 @@
 -- What the parts of a call owe to each other.
-use Rattle.std.specs.Prelude.{◌≡◌, ◌⊎◌, ℕ, ◌+◌, ◌≤◌, List, [], length, Vec, Option, Some, Result, Ok, Err}
+use Rattle.std.specs.Prelude.{◌≡◌, ◌⊎◌, ℕ, ◌+◌, ◌≤◌, List, [], length, Vec, Some, Result, Ok, Err}
 use Rattle.std.specs.Option.{ForSome}
 use Rattle.std.specs.declared.alloc.Global.{Global}
 use Rattle.nl_outer.specs.Bytes.{Appended, PartAppended}
@@ -8,11 +8,7 @@ use Rattle.nl_outer.specs.Folder.{Folder, read_of}
 use Rattle.nl_cli.specs.declared.TheConstants.{FILE_LIMIT, MOST_BUDGET}
 use Rattle.nl_cli.specs.declared.words.Role.{Role}
 use Rattle.nl_cli.specs.declared.modelling.Walkers.{Walkers}
-use Rattle.nl_cli.specs.declared.modelling.ModelFault.{ModelFault}
-use Rattle.nl_cli.specs.declared.modelling.ModelRefusal.{ModelRefusal}
 use Rattle.nl_cli.specs.declared.planning.Fields.{Fields}
-use Rattle.nl_cli.specs.declared.planning.PlanFault.{PlanFault}
-use Rattle.nl_cli.specs.declared.planning.PlanRefusal.{PlanRefusal}
 use Rattle.nl_cli.specs.declared.ends.End.{End}
 use Rattle.nl_cli.specs.declared.ends.Status.{Status}
 use Rattle.nl_cli.specs.declared.job.Job.{Job}

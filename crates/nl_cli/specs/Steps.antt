@@ -1,5 +1,5 @@
 -- Steps of a reading, each of which may end it, and what a call that may want memory owes to them.
-use Rattle.std.specs.Prelude.{◌≡◌, ℕ, List, length, nat_lt, if◌then◌else◌, Bool, true, false, Option, Some, None, Result, Ok, Err}
+use Rattle.std.specs.Prelude.{ℕ, List, length, nat_lt, if◌then◌else◌, Bool, true, false, Option, Some, None, Result, Ok, Err}
 
 -- the next step, or the end of an earlier one
 infixl 10 ◌>>=◌

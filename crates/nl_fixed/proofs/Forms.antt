@@ -1,13 +1,13 @@
 -- The computed parts of a word are those that the form of a number asks for.
-use Rattle.std.proofs.Common.{◌≡◌, ℕ, zero, suc, ◌+◌, ◌<◌, ◌≤◌, ◌⊎◌, inl, inr, Bool, true, false, ◌&&◌, ◌||◌, ◌==◌, not, cond, List, [], ◌∷◌, ◌++◌, length, take, drop, Option, Some, None, nat_lt, nat_eq, arith, rules, refl, ap, sym, ◌∙◌, subst, IfSome}
+use Rattle.std.proofs.Common.{◌≡◌, ℕ, ◌+◌, ◌<◌, Bool, true, false, ◌&&◌, ◌==◌, cond, List, [], ◌∷◌, ◌++◌, length, Option, Some, None, nat_lt, arith, refl, ap, ◌∙◌, IfSome}
 use Rattle.std.specs.Char.{is_ascii_digit}
 use Rattle.std.specs.Option.{option_map, option_to_list}
 use Rattle.std.specs.List.{list_all, prefix_len}
 use Rattle.std.proofs.lemmas.Bool.Decides.{nat_tests}
 use Rattle.std.proofs.lemmas.List.{take-append-drop}
 use Rattle.std.proofs.Math.Seq.{take-append_seam, drop-append_seam}
-use Rattle.nl_fixed.specs.Spelling.{Exponent, Parts, IsSpelled, word_of, exponent_word, all_digits, is_exponent_part, is_exponent_letter, is_sign, is_one_or_two, minus_sign, plus_sign, decimal_point, leading_digits, behind_digits, exponent_with, signed_exponent, exponent_of, ended, pointed, unsigned_parts, parts_of}
-use Rattle.nl_fixed.proofs.Digits.{IsDigit, IsDigit-from_test, first_and_rest, list_all-take-prefix_len}
+use Rattle.nl_fixed.specs.Spelling.{Exponent, Parts, IsSpelled, exponent_word, all_digits, is_exponent_part, is_exponent_letter, is_sign, is_one_or_two, minus_sign, decimal_point, leading_digits, behind_digits, exponent_with, signed_exponent, exponent_of, ended, pointed, unsigned_parts, parts_of}
+use Rattle.nl_fixed.proofs.Digits.{first_and_rest, list_all-take-prefix_len}
 
 -- ---- digits with something behind them that isn't one
 
@@ -100,6 +100,7 @@ unsigned_is minus whole point fraction e before behind none some h =
 
 -- a word without a minus sign begins with another byte
 unminus_is : (whole : List ℕ) (point : Bool) (fraction : List ℕ) (e : Option Exponent) → all_digits whole ≡ true → (point ≡ false → fraction ≡ []) → 0 < length whole + length fraction → parts_of (whole ++ (cond point (decimal_point ∷ []) [] ++ (fraction ++ exponent_word e))) ≡ unsigned_parts false (whole ++ (cond point (decimal_point ∷ []) [] ++ (fraction ++ exponent_word e)))
+unfolding parts_of
 unminus_is (d ∷ ds) point fraction e before none some =
     let digit = (first_and_rest (is_ascii_digit d) (all_digits ds) before).0 in rw (digit_no_minus d digit) refl
 unminus_is [] true fraction e before none some = refl
@@ -107,6 +108,7 @@ unminus_is [] false [] e before none some = absurd (omega arith)
 unminus_is [] false (d ∷ ds) e before none some = let never = none refl in cc
 
 parts_is : (minus : Bool) (whole : List ℕ) (point : Bool) (fraction : List ℕ) (e : Option Exponent) → all_digits whole ≡ true → all_digits fraction ≡ true → (point ≡ false → fraction ≡ []) → 0 < length whole + length fraction → is_exponent_part e ≡ true → parts_of (cond minus (minus_sign ∷ []) [] ++ (whole ++ (cond point (decimal_point ∷ []) [] ++ (fraction ++ exponent_word e)))) ≡ Some (record { minus = minus; whole = whole; point = point; fraction = fraction; exponent = e })
+unfolding parts_of
 parts_is true whole point fraction e before behind none some h = unsigned_is true whole point fraction e before behind none some h
 parts_is false whole point fraction e before behind none some h =
     unminus_is whole point fraction e before none some ∙ unsigned_is false whole point fraction e before behind none some h
@@ -179,11 +181,13 @@ unsigned_sound minus bs =
     (pointed_sound minus (leading_digits bs) (behind_digits bs) (list_all-take-prefix_len is_ascii_digit bs))
 
 by_minus : (c : ℕ) (cs : List ℕ) (b : Bool) → (c == minus_sign) ≡ b → IfSome (parts_of (c ∷ cs)) (λ p. IsSpelled (c ∷ cs) p)
+unfolding parts_of
 by_minus c cs true is =
     let same = same_byte c minus_sign is in rw (is, same) (unsigned_sound true cs)
 by_minus c cs false is = rw is (unsigned_sound false (c ∷ cs))
 
 parts_sound : (word : List ℕ) → IfSome (parts_of word) (λ p. IsSpelled word p)
+unfolding parts_of
 parts_sound [] = tt
 parts_sound (c ∷ cs) = by_minus c cs (c == minus_sign) refl
 

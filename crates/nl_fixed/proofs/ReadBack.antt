@@ -1,8 +1,7 @@
 -- Every number's text has the form of a number and reads back as that number.
-use Rattle.std.proofs.Common.{◌≡◌, ℕ, zero, suc, ◌+◌, ◌-◌, ◌*◌, ◌/◌, ◌%◌, ◌^◌, ◌<◌, ◌≤◌, ℤ, pos, negsuc, ◌+ℤ◌, ◌-ℤ◌, ◌*ℤ◌, neg_ℤ, ◌≤ℤ◌, unsigned_abs, Bool, true, false, ◌&&◌, ◌==◌, cond, List, [], ◌∷◌, ◌++◌, length, Option, Some, None, Result, Ok, refl, ap, sym, ◌∙◌, lit<, arith, append-nil, append_assoc}
+use Rattle.std.proofs.Common.{◌≡◌, ℕ, zero, suc, ◌+◌, ◌-◌, ◌*◌, ◌/◌, ◌%◌, ◌^◌, ◌<◌, ◌≤◌, ℤ, pos, negsuc, ◌+ℤ◌, ◌-ℤ◌, ◌*ℤ◌, Bool, true, false, ◌&&◌, ◌==◌, cond, List, [], ◌∷◌, ◌++◌, length, Some, None, Ok, refl, ap, sym, ◌∙◌, lit<, arith, append-nil}
 use Rattle.std.specs.Char.{is_ascii_digit, digit_value}
 use Rattle.std.specs.Fmt.{decimal}
-use Rattle.std.specs.List.{list_all}
 use Rattle.std.specs.Option.{option_map}
 use Rattle.std.specs.Str.Parse.{AllDigits, digits_value, digits_value_after}
 use Rattle.std.proofs.lemmas.Bool.Decides.{nat_tests}
@@ -10,10 +9,9 @@ use Rattle.std.proofs.lemmas.Fmt.{decimal_is_IsNumeral, decimal_nonempty, length
 use Rattle.std.proofs.lemmas.Int.{ints}
 use Rattle.std.proofs.Math.IntN.{negsuc-*ℤ-pos}
 use Rattle.std.proofs.Math.Nat.{mod-lt, div-add-mod', pow-suc}
-use Rattle.nl_fixed.specs.declared.number.NumFault.{NumFault}
-use Rattle.nl_fixed.specs.Numbers.{as_number, in_range, IsInRange, limit}
-use Rattle.nl_fixed.specs.Spelling.{decimal_value, Parts, IsSpelled, all_digits, minus_sign, decimal_point, signed, times_power_of_ten, padded_digits, without_trailing_zeros, is_zero_digit, fraction_text, magnitude_text, number_text, parts_of, value_of, read_of}
-use Rattle.nl_fixed.proofs.Digits.{first_and_rest, digits_value_after-append}
+use Rattle.nl_fixed.specs.Numbers.{as_number, IsInRange, limit}
+use Rattle.nl_fixed.specs.Spelling.{decimal_value, Parts, IsSpelled, all_digits, minus_sign, decimal_point, signed, times_power_of_ten, padded_digits, without_trailing_zeros, fraction_text, number_text, value_of, read_of}
+use Rattle.nl_fixed.proofs.Digits.{digits_value_after-append}
 use Rattle.nl_fixed.proofs.Forms.{parts_from_form}
 use Rattle.nl_fixed.proofs.Scaled.{decimal_value_is}
 use Rattle.nl_fixed.proofs.Texts.{power_above, first_digit_below, trimmed_nothing, trimmed_digit}
@@ -56,8 +54,8 @@ writes_more k n q r ds small e w =
       digits = both_pass _ _ first.0 w.digits;
       few = let few = w.few in omega arith;
       value = λ a.
-        let less : suc k - suc (length ds) ≡ k - length ds = omega arith in
-        rw (less, first.1, pow-suc) (w.value (a * 10 + q) ∙ carried a q (10 ^ k) r n e);
+          let less : suc k - suc (length ds) ≡ k - length ds = omega arith in
+          rw (less, first.1, pow-suc) (w.value (a * 10 + q) ∙ carried a q (10 ^ k) r n e);
     }
 
 trimmed_writes : (k n : ℕ) → n < 10 ^ k → WritesFraction k n (without_trailing_zeros (padded_digits k n))
@@ -68,7 +66,7 @@ trimmed_writes (suc k) (suc m) below =
     let some : 0 < suc m = omega arith in
     rw (trimmed_digit k (suc m) below some)
     (writes_more k (suc m) (suc m / 10 ^ k) (suc m % 10 ^ k) _ (first_digit_below k (suc m) below) (div-add-mod' (suc m) (10 ^ k))
-      (trimmed_writes k (suc m % 10 ^ k) (mod-lt (suc m) (power_above k))))
+    (trimmed_writes k (suc m % 10 ^ k) (mod-lt (suc m) (power_above k))))
 
 -- ---- the value of the text
 
@@ -92,6 +90,7 @@ exact_value minus whole fraction n z few places value e inside =
 
 -- a word of these parts, without an exponent, reads as the number
 reads_as : (word : List ℕ) (minus : Bool) (whole : List ℕ) (point : Bool) (fraction : List ℕ) (n : ℕ) (z : ℤ) → word ≡ cond minus (minus_sign ∷ []) [] ++ (whole ++ (cond point (decimal_point ∷ []) [] ++ (fraction ++ []))) → all_digits whole ≡ true → all_digits fraction ≡ true → (point ≡ false → fraction ≡ []) → 0 < length whole → length whole ≤ 20 → length fraction ≤ 6 → digits_value 10 (whole ++ fraction) * 10 ^ (6 - length fraction) ≡ n → z ≡ signed minus n → IsInRange z → read_of word ≡ Some (Ok z)
+unfolding read_of
 reads_as word minus whole point fraction n z e before behind none some short places value count inside =
     let p : Parts = record { minus = minus; whole = whole; point = point; fraction = fraction; exponent = None } in
     let spelled : IsSpelled word p = record { joined = e; whole = before; fraction = behind; unpointed = none; some_digit = omega arith; exponent = refl } in
@@ -120,6 +119,7 @@ text_reads minus w (suc m) n z small below e count inside =
     (rw (digits_value_after-append, written) value) count inside
 
 pub text_reads_back : (z : ℤ) → IsInRange z → read_of (number_text z) ≡ Some (Ok z)
+unfolding number_text
 text_reads_back (pos n) inside =
     let size : n ≤ limit = omega (arith, ints) in
     text_reads false (n / 1000000) (n % 1000000) n (pos n) (omega arith) (omega arith) (div-add-mod' n 1000000) refl inside

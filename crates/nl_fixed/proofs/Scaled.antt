@@ -1,5 +1,5 @@
 -- Whole numbers of either sign times a power of ten: what is far out of range, and what rounds to 0.
-use Rattle.std.proofs.Common.{ℕ, zero, suc, ◌+◌, ◌-◌, ◌*◌, ◌^◌, ◌<◌, ◌≤◌, ◌≡◌, ◌≢◌, ℤ, pos, negsuc, ◌+ℤ◌, ◌-ℤ◌, ◌*ℤ◌, neg_ℤ, ◌≤ℤ◌, ◌<ℤ◌, unsigned_abs, Bool, true, false, Err, Result, List, ◌++◌, length, nat_le, arith, refl, sym, ap, ◌∙◌, lit<, lit≤}
+use Rattle.std.proofs.Common.{ℕ, ◌+◌, ◌*◌, ◌^◌, ◌<◌, ◌≤◌, ◌≡◌, ℤ, pos, negsuc, ◌+ℤ◌, ◌-ℤ◌, ◌*ℤ◌, unsigned_abs, Bool, true, Err, Result, List, ◌++◌, length, nat_le, arith, lit<}
 use mir.Syntax.{w128}
 use Rattle.std.specs.Int.{int_div_euclid}
 use Rattle.std.specs.Int.RustNames.{FitsSigned}
@@ -10,7 +10,7 @@ use Rattle.std.specs.Str.Parse.{digits_value}
 use Rattle.nl_fixed.specs.declared.number.NumFault.{NumFault}
 use Rattle.nl_fixed.specs.Spelling.{most_digits, signed, times_power_of_ten, decimal_value}
 use Rattle.nl_fixed.specs.declared.number.NumFault.TheVariants.{Overflow}
-use Rattle.nl_fixed.specs.Numbers.{as_number, in_range, limit, rounded_quotient}
+use Rattle.nl_fixed.specs.Numbers.{as_number, limit, rounded_quotient}
 use Rattle.nl_fixed.proofs.Integers.{rounded_only}
 
 -- ---- powers of ten

@@ -1,18 +1,27 @@
 -- The laws of the spelling of numbers.
-use Rattle.std.proofs.Common.{◌≡◌, ℕ, ◌+◌, ℤ, pos, negsuc, ◌+ℤ◌, ◌-ℤ◌, cond, nat_le, List, ◌++◌, length, Option, Some, None, Ok, Err, ap, sym, refl, ◌∙◌, arith}
+use Rattle.std.proofs.Common.{true, is_some, ◌≡◌, ℕ, ◌+◌, ℤ, pos, negsuc, ◌+ℤ◌, ◌-ℤ◌, cond, nat_le, List, ◌++◌, length, Option, Some, None, Ok, Err, ap, sym, refl, ◌∙◌, arith}
 use Rattle.std.specs.Option.{option_map}
 use Rattle.std.specs.Str.Parse.{digits_value}
 use Rattle.std.proofs.lemmas.Int.{ints}
 use Rattle.nl_fixed.specs.declared.number.NumFault.TheVariants.{Overflow}
-use Rattle.nl_fixed.specs.Numbers.{IsInRange, as_number}
-use Rattle.nl_fixed.specs.Spelling.{Parts, IsSpelled, parts_of, value_of, exponent_value, signed, most_digits, read_of, number_text}
-use Rattle.nl_fixed.specs.SpellingLaws.{moves_right, moves_left, rounded_value, PartsFollowTheForm, PartsAreUnique, WordsReadAsRounded, OthersReadAsNothing, TextsReadBack, TextsDiffer}
+use Rattle.nl_fixed.specs.Numbers.{as_number}
+use Rattle.nl_fixed.specs.Spelling.{Parts, IsSpelled, parts_of, is_number_form, value_of, exponent_value, signed, most_digits, read_of}
+use Rattle.nl_fixed.specs.SpellingLaws.{moves_right, moves_left, rounded_value, PartsFollowTheForm, FormIsComputed, PartsAreUnique, WordsReadAsRounded, OthersReadAsNothing, TextsReadBack, TextsDiffer}
 use Rattle.nl_fixed.proofs.Forms.{parts_from_form, form_from_parts}
 use Rattle.nl_fixed.proofs.ReadBack.{text_reads_back}
 use Rattle.nl_fixed.proofs.Shifts.{shifted}
 
 pub parts_follow_the_form : PartsFollowTheForm
 parts_follow_the_form word p = (form_from_parts word p, parts_from_form word p)
+
+some_form : (word : List ℕ) (o : Option Parts) → parts_of word ≡ o → is_some o ≡ true → (p : Parts) × IsSpelled word p
+some_form word None e some = cc
+some_form word (Some p) e some = (p, form_from_parts word p e)
+
+pub form_is_computed : FormIsComputed
+unfolding is_number_form
+form_is_computed word =
+    (λ some. some_form word (parts_of word) refl some, λ (p, spelled). ap is_some (parts_from_form word p spelled))
 
 pub parts_are_unique : PartsAreUnique
 parts_are_unique word p q s t =
@@ -32,6 +41,7 @@ value_is_rounded p =
     (shifted n ((pos 6 +ℤ x) -ℤ pos (length p.fraction)) (6 + moves_right x) (length p.fraction + moves_left x) (power_is x (length p.fraction)))
 
 pub words_read_as_rounded : WordsReadAsRounded
+unfolding read_of
 words_read_as_rounded word p spelled = ap (option_map value_of) (parts_from_form word p spelled) ∙ ap Some (value_is_rounded p)
 
 none_at : (word : List ℕ) (o : Option Parts) → parts_of word ≡ o → ((p : Parts) → IsSpelled word p → ⊥) → option_map value_of o ≡ None
@@ -39,6 +49,7 @@ none_at word None e none = refl
 none_at word (Some p) e none = absurd (none p (form_from_parts word p e))
 
 pub others_read_as_nothing : OthersReadAsNothing
+unfolding read_of
 others_read_as_nothing word none = none_at word (parts_of word) refl none
 
 -- ---- texts

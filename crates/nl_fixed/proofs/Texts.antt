@@ -1,5 +1,5 @@
 -- The digits of a fraction: written one by one from the first until nothing is left.
-use Rattle.std.proofs.Common.{◌≡◌, ℕ, zero, suc, ◌+◌, ◌*◌, ◌/◌, ◌%◌, ℤ, pos, negsuc, unsigned_abs, ◌^◌, ◌<◌, ◌≤◌, ◌-◌, ◌⊎◌, Bool, true, false, ◌&&◌, ◌==◌, List, [], ◌∷◌, ◌++◌, refl, ap, sym, ◌∙◌, lit<, arith, inl, inr, ⊎_elim, append_assoc, append-nil}
+use Rattle.std.proofs.Common.{◌≡◌, ℕ, zero, suc, ◌+◌, ◌*◌, ◌/◌, ◌%◌, ℤ, pos, negsuc, unsigned_abs, ◌^◌, ◌<◌, ◌-◌, ◌⊎◌, Bool, true, false, ◌&&◌, ◌==◌, List, [], ◌∷◌, ◌++◌, refl, lit<, arith, inl, inr, ⊎_elim, append_assoc, append-nil}
 use lib.Signed.{lt_z}
 use Rattle.std.specs.Fmt.{decimal}
 use Rattle.std.specs.List.{list_all}
@@ -33,7 +33,7 @@ some_digit (suc k) n below above =
     let rest : r < 10 ^ k = mod-lt n (power_above k) in
     tested (is_zero_digit (48 + q)) (list_all is_zero_digit (padded_digits k r))
     (⊎_elim (λ (h : 0 < q). inl (grind (arith, nat_tests))) (λ (h : 0 < r). inr (some_digit k r rest h))
-      (in_one_part q (10 ^ k) r n (div-add-mod' n (10 ^ k)) above))
+    (in_one_part q (10 ^ k) r n (div-add-mod' n (10 ^ k)) above))
 
 -- ---- the digits that are left to write
 
@@ -75,9 +75,11 @@ written_all old start written places n m done some e f =
 -- ---- the whole text
 
 pub text_below : (z : ℤ) (n : ℕ) (out : List ℕ) → lt_z z (pos 0) ≡ true → n ≡ unsigned_abs z → out ≡ (minus_sign ∷ decimal (n / 1000000)) ++ fraction_text (n % 1000000) → out ≡ number_text z
+unfolding number_text
 text_below (pos k) n out below e f = absurd (grind (arith, nat_tests))
 text_below (negsuc k) n out below e f = rw e at f
 
 pub text_above : (z : ℤ) (n : ℕ) (out : List ℕ) → lt_z z (pos 0) ≡ false → n ≡ unsigned_abs z → out ≡ decimal (n / 1000000) ++ fraction_text (n % 1000000) → out ≡ number_text z
+unfolding number_text
 text_above (pos k) n out above e f = rw e at f
 text_above (negsuc k) n out above e f = cc

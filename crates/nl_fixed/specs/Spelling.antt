@@ -1,5 +1,5 @@
 -- How numbers are written: the form of a number's word, the number that it writes, and the text of a number.
-use Rattle.std.specs.Prelude.{◌≡◌, ℕ, zero, suc, ◌+◌, ◌/◌, ◌%◌, ◌^◌, ◌<◌, ◌↔◌, ℤ, pos, negsuc, ◌+ℤ◌, ◌-ℤ◌, ◌*ℤ◌, neg_ℤ, Bool, true, false, ◌||◌, ◌&&◌, ◌==◌, if◌then◌else◌, nat_lt, nat_le, Option, Some, None, is_some, List, [], ◌∷◌, ◌++◌, length, take_while, drop, Result, Ok, Err}
+use Rattle.std.specs.Prelude.{◌≡◌, ℕ, zero, suc, ◌+◌, ◌/◌, ◌%◌, ◌^◌, ◌<◌, ℤ, pos, negsuc, ◌+ℤ◌, ◌-ℤ◌, ◌*ℤ◌, neg_ℤ, Bool, true, false, ◌||◌, ◌&&◌, ◌==◌, if◌then◌else◌, nat_lt, nat_le, Option, Some, None, is_some, List, [], ◌∷◌, ◌++◌, length, take_while, drop, Result, Err}
 use Rattle.std.specs.Char.{is_ascii_digit}
 use Rattle.std.specs.Option.{option_map, option_to_list}
 use Rattle.std.specs.List.{list_all, prefix_len}
@@ -7,7 +7,7 @@ use Rattle.std.specs.Fmt.{decimal}
 use Rattle.std.specs.Str.Parse.{digits_value}
 use Rattle.nl_fixed.specs.declared.number.NumFault.{NumFault}
 use Rattle.nl_fixed.specs.declared.number.NumFault.TheVariants.{Overflow}
-use Rattle.nl_fixed.specs.Numbers.{as_number, rounded_quotient, one, IsInRange}
+use Rattle.nl_fixed.specs.Numbers.{as_number, rounded_quotient, one}
 
 -- the bytes that aren't digits: `-`, `+` and `.`
 abbrev pub minus_sign : ℕ
@@ -114,12 +114,12 @@ abbrev pub unsigned_parts : Bool → List ℕ → Option Parts
 unsigned_parts minus bs = pointed minus (leading_digits bs) (behind_digits bs)
 
 -- the parts of a word that has the form of a number
-abbrev pub parts_of : List ℕ → Option Parts
+unfoldable pub parts_of : List ℕ → Option Parts
 parts_of [] = None
 parts_of (c ∷ cs) = if c == minus_sign then unsigned_parts true cs else unsigned_parts false (c ∷ cs)
 
 -- the word has the form of a number
-abbrev pub is_number_form : List ℕ → Bool
+unfoldable pub is_number_form : List ℕ → Bool
 is_number_form word = is_some (parts_of word)
 
 -- ---- the number that a word writes
@@ -160,7 +160,7 @@ abbrev pub value_of : Parts → Result ℤ NumFault
 value_of p = decimal_value p.minus p.whole p.fraction (exponent_value p.exponent)
 
 -- the number that a word writes, or why there is none, where the word has the form of a number
-abbrev pub read_of : List ℕ → Option (Result ℤ NumFault)
+unfoldable pub read_of : List ℕ → Option (Result ℤ NumFault)
 read_of word = option_map value_of (parts_of word)
 
 -- ---- the text of a number
@@ -186,6 +186,6 @@ abbrev pub magnitude_text : ℕ → List ℕ
 magnitude_text n = decimal (n / one) ++ fraction_text (n % one)
 
 -- the text of the number with this count of millionths
-abbrev pub number_text : ℤ → List ℕ
+unfoldable pub number_text : ℤ → List ℕ
 number_text (pos n) = magnitude_text n
 number_text (negsuc n) = minus_sign ∷ magnitude_text (suc n)

@@ -24,6 +24,7 @@ impl Num {
     /// before the exponent are Overflow, whatever they are, and so is a value out of range.
     ///
     /// A long word costs one look at each byte: nothing is computed from more than thirty digits.
+    #[tactic(auto, unfolding(crate::specs::Spelling::parts_of, crate::specs::Spelling::read_of, crate::specs::Spelling::is_number_form))]
     pub fn read(word: &[u8]) -> Option<Result<Num, NumFault>>
         ensures value { result ≡ read_of word.now }
         ensures form { is_some result ≡ is_number_form word.now }
@@ -79,7 +80,8 @@ fn read_ended(
 ) -> Option<Result<Num, NumFault>>
     requires whole_digits { all_digits whole.now ≡ true }
     requires fraction_digits { all_digits fraction.now ≡ true }
-    ensures { (point : Bool) → result ≡ option_map value_of (ended negative whole.now point fraction.now rest.now) }
+    ensures { (point : Bool) →
+        result ≡ option_map value_of (ended negative whole.now point fraction.now rest.now) }
 {
     if whole.is_empty() && fraction.is_empty() {
         return None;
@@ -119,7 +121,8 @@ fn read_exponent(bytes: &[u8]) -> Option<i32>
 /// The exponent that stands behind its letter.
 fn read_signed(written: &[u8]) -> Option<i32>
     ensures small { IfSome result (λ n. (neg_ℤ (pos 99) ≤ℤ n) × (n ≤ℤ pos 99)) }
-    ensures value { (letter : ℕ) → result ≡ option_map exponent_value (signed_exponent letter written.now) }
+    ensures value { (letter : ℕ) →
+        result ≡ option_map exponent_value (signed_exponent letter written.now) }
 {
     match written {
         [b'-', digits @ ..] => one_or_two_digits(digits).map(|exponent| -exponent),
@@ -131,7 +134,9 @@ fn read_signed(written: &[u8]) -> Option<i32>
 /// The number that one or two digits write.
 fn one_or_two_digits(digits: &[u8]) -> Option<i32>
     ensures small { IfSome result (λ n. (pos 0 ≤ℤ n) × (n ≤ℤ pos 99)) }
-    ensures value { result ≡ (if all_digits digits.now && is_one_or_two (length digits.now) then Some (pos (digits_value 10 digits.now)) else None) }
+    ensures value { result
+        ≡ (if all_digits digits.now && is_one_or_two (length digits.now)
+        then Some (pos (digits_value 10 digits.now)) else None) }
 {
     match digits {
         [ones] if ones.is_ascii_digit() => Some(i32::from(*ones - b'0')),

@@ -1,9 +1,10 @@
 //! What the definitions of the spelling of numbers mean. These functions do nothing: the contract of each is a law.
-ghost use Rattle.nl_fixed.specs.SpellingLaws.{PartsFollowTheForm, PartsAreUnique, WordsReadAsRounded, OthersReadAsNothing, TextsReadBack, TextsDiffer};
+ghost use Rattle.nl_fixed.specs.SpellingLaws.{PartsFollowTheForm, FormIsComputed, PartsAreUnique, WordsReadAsRounded, OthersReadAsNothing, TextsReadBack, TextsDiffer};
 
 /// A word that has the form of a number has it in one way, and its parts are computed from it.
 pub fn words_have_one_reading()
     ensures computed { PartsFollowTheForm }
+    ensures form { FormIsComputed }
     ensures unique { PartsAreUnique }
 {}
 

@@ -29,10 +29,7 @@ fn words_read_as_these_counts(rt: HostRuntime) -> Result<(), Fail> {
         ("-0.0000015", -1),
         ("-0.00000051", -1),
         ("000000000000000000000000000007", 7_000_000),
-        (
-            "123456789012345678901234567890e-20",
-            1_234_567_890_123_457,
-        ),
+        ("123456789012345678901234567890e-20", 1_234_567_890_123_457),
         ("1e-99", 0),
         ("0e99", 0),
         ("9000000000000", 9_000_000_000_000_000_000),
@@ -57,7 +54,11 @@ fn words_overflow_past_thirty_digits_or_the_range(rt: HostRuntime) -> Result<(),
         "-9000000000000.000001",
         "9000000000000.0000005",
     ] {
-        assert_eq!(rt; count_of(word.as_bytes()), Some(Err(NumFault::Overflow)), "{word}");
+        assert_eq!(rt;
+            count_of(word.as_bytes()),
+            Some(Err(NumFault::Overflow)),
+            "{word}"
+        );
     }
     Ok(())
 }
@@ -65,8 +66,23 @@ fn words_overflow_past_thirty_digits_or_the_range(rt: HostRuntime) -> Result<(),
 #[test]
 fn words_without_the_form_are_no_numbers(rt: HostRuntime) -> Result<(), Fail> {
     for word in [
-        "", "-", ".", "-.", "1e", "1e+", "e5", ".e5", "1e100", "1e5x", "1e1.5", "1.2.3", "--1",
-        "+1", "x-1", "1-", "0000000000000000000000000000007x",
+        "",
+        "-",
+        ".",
+        "-.",
+        "1e",
+        "1e+",
+        "e5",
+        ".e5",
+        "1e100",
+        "1e5x",
+        "1e1.5",
+        "1.2.3",
+        "--1",
+        "+1",
+        "x-1",
+        "1-",
+        "0000000000000000000000000000007x",
     ] {
         assert!(rt; Num::read(word.as_bytes()).is_none(), "{word}");
     }

@@ -1,4 +1,3 @@
-use Rattle.std.proofs.Common.{refl}
 use Rattle.nl_cli.proofs.Items.{document-parse_document}
 use Rattle.nl_cli.proofs.planning.table_of.Goals as goal
 

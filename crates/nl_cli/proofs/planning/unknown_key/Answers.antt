@@ -1,6 +1,5 @@
-use Rattle.std.proofs.Common.{List, String, Global, Some, ◌≡◌, sym, ap, ◌∙◌, subst, ◌∷◌, string_bytes, true, false}
+use Rattle.std.proofs.Common.{List, String, Global, Some, ◌≡◌, sym, ap, ◌∙◌, subst, string_bytes, true, false}
 use Rattle.std.proofs.lemmas.Map.Iter.{rest_more}
-use Rattle.std.specs.Map.{keys_of}
 use Rattle.std.specs.Map.Iter.{deref}
 use Rattle.toml.specs.View.{table_view}
 use Rattle.nl_cli.specs.ExperimentFile.{keys_in, least_unknown, is_known}

@@ -1,4 +1,4 @@
-use Rattle.std.proofs.Common.{◌∙◌, inl, inr, arith}
+use Rattle.std.proofs.Common.{◌∙◌, inl, inr}
 use Rattle.nl_cli.proofs.Costs.{row_of-budget, row_of-poor, row_of-steps}
 use Rattle.nl_cli.proofs.running.run_form.Goals as goal
 use Rattle.nl_cli.proofs.running.run_form.Goals.{else-steps-ne0-via-then-steps-ne0+else-steps-possible, else-steps-ne0-via-else-steps-ne0}

@@ -1,7 +1,7 @@
-use Rattle.std.proofs.Common.{◌<◌, ◌^◌, arith, lit<, ◌≤◌}
+use Rattle.std.proofs.Common.{◌<◌, arith, lit<}
 use Rattle.std.proofs.lemmas.Int.{ints}
 use Rattle.std.proofs.Math.Nat.{one-le-pow}
-use Rattle.nl_fixed.proofs.Scaled.{ten_to_at_least, FitsSigned-power, within_power}
+use Rattle.nl_fixed.proofs.Scaled.{ten_to_at_least, within_power}
 use Rattle.nl_fixed.proofs.spelling.power_of_ten.Goals as goal
 
 pub pow-requires : goal.pow-requires

@@ -1,4 +1,4 @@
-use Rattle.std.proofs.Common.{◌≡◌, ◌<◌, ◌^◌, ◌-◌, ◌++◌, ◌∷◌, suc, arith, ◌∙◌, ap}
+use Rattle.std.proofs.Common.{◌-◌, arith}
 use Rattle.nl_fixed.proofs.Texts.{power_above, digit_below, rest_below, written_more, written_all}
 use Rattle.nl_fixed.proofs.spelling.push_fraction.Goals as goal
 
@@ -23,7 +23,7 @@ loop-rest-preserved c = record {
   few = omega arith;
   below = rest_below c.loop-rest.rest (c.loop-rest.places - 1) c.pow-unit.result c.pow-unit.ensures;
   written = rw (c.in_ok-push-2.ensures.items, c.pow-unit.ensures)
-    (written_more c.loop-rest.text.items _ c.loop-rest.places c.loop-rest.rest c.loop-rest-test.true c.loop-rest.invariant.below c.loop-rest.invariant.written);
+      (written_more c.loop-rest.text.items _ c.loop-rest.places c.loop-rest.rest c.loop-rest-test.true c.loop-rest.invariant.below c.loop-rest.invariant.written);
 }
 
 pub returns : goal.returns

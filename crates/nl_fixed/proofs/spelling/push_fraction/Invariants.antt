@@ -1,5 +1,5 @@
-use Rattle.std.proofs.Common.{◌≡◌, ◌<◌, ◌≤◌, ◌^◌, ◌++◌, ◌∷◌, []}
-use Rattle.nl_fixed.specs.Spelling.{decimal_point, padded_digits, without_trailing_zeros}
+use Rattle.std.proofs.Common.{◌≡◌, ◌<◌, ◌≤◌, ◌^◌, ◌++◌}
+use Rattle.nl_fixed.specs.Spelling.{padded_digits, without_trailing_zeros}
 use Rattle.nl_fixed.proofs.spelling.push_fraction.Given as goal
 
 abbrev pub invariant-loop-rest : goal.invariant-loop-rest

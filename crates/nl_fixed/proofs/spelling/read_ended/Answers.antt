@@ -1,4 +1,4 @@
-use Rattle.std.proofs.Common.{◌+◌, ◌<◌, length, arith, sym}
+use Rattle.std.proofs.Common.{◌+◌, ◌<◌, length, arith}
 use Rattle.std.proofs.lemmas.Int.{to_z-of_z}
 use Rattle.nl_fixed.proofs.Words.{ended_value, some_of_two}
 use Rattle.nl_fixed.proofs.spelling.read_ended.Goals as goal
