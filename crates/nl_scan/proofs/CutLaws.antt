@@ -1,5 +1,5 @@
 -- The laws of the cuts of a text.
-use Rattle.std.proofs.Common.{◌≡◌, ℕ, zero, suc, ◌+◌, ◌<◌, ◌≤◌, ◌==◌, ◌⊎◌, inl, inr, Bool, true, false, List, [], ◌∷◌, ◌++◌, length, drop, take, cond, min, nat_lt, Option, Some, None, Result, Ok, Err, refl, ap, sym, ◌∙◌, subst, arith, length-append, length-drop}
+use Rattle.std.proofs.Common.{◌≡◌, ℕ, zero, suc, ◌+◌, ◌<◌, ◌≤◌, ◌⊎◌, inl, inr, true, false, List, [], ◌∷◌, ◌++◌, length, drop, take, Option, Some, None, Result, Ok, Err, refl, ap, sym, ◌∙◌, subst, arith, length-append, length-drop}
 use Rattle.std.specs.Str.{IsUtf8, is_utf8}
 use Rattle.std.proofs.lemmas.Bool.{cases_Bool, cases_lt}
 use Rattle.std.proofs.lemmas.List.{length-take, take-append-drop}
@@ -11,9 +11,9 @@ use Rattle.nl_scan.specs.declared.token.ScanKind.{ScanKind}
 use Rattle.nl_scan.specs.declared.pieces.Form.{Form}
 use Rattle.nl_scan.specs.declared.pieces.Piece.{Piece}
 use Rattle.nl_scan.specs.Forms.{Flaw, has_form, meaning_of}
-use Rattle.nl_scan.specs.Tokens.{ScanFault, cut_from, tokens_of, after_piece, token_first, piece_at, form_at}
-use Rattle.nl_scan.specs.Cuts.{Stretch, IsFirst, IsSound, IsCutTo, IsCut, joined, token_before, tokens_in, kind_of_first, IsFlawed, IsUnformed, IsFlaw, IsCutToFault, IsTokens, IsTooLong, IsNotText, IsMiscut, IsFault, TextsAreCutOnce, StretchesJoin, FaultsAreUnique, FaultOrTokens, TokensAreComputed, FaultsAreComputed}
-use Rattle.nl_scan.proofs.Runs.{begins, form_at-begins}
+use Rattle.nl_scan.specs.Tokens.{ScanFault, cut_from, tokens_of, after_piece, token_first, piece_at}
+use Rattle.nl_scan.specs.Cuts.{Stretch, IsFirst, IsSound, IsCutTo, IsCut, joined, token_before, tokens_in, kind_of_first, IsFlaw, IsCutToFault, IsTokens, IsFault, TextsAreCutOnce, StretchesJoin, FaultsAreUnique, FaultOrTokens, TokensAreComputed, FaultsAreComputed}
+use Rattle.nl_scan.proofs.Runs.{form_at-begins}
 use Rattle.nl_scan.proofs.Firsts.{piece_of, IsBegun, IsStopped, first_of, has_form-nil, has_form-parts}
 use Rattle.nl_scan.proofs.Cutting.{tokens_of-long, tokens_of-no_text, tokens_of-text}
 

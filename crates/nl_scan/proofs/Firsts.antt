@@ -1,9 +1,9 @@
 -- What begins a text, by the forms that bytes may have.
-use Rattle.std.proofs.Common.{◌≡◌, ℕ, ℤ, zero, suc, ◌+◌, ◌<◌, ◌≤◌, ◌==◌, ◌⊎◌, inl, inr, Bool, true, false, List, [], ◌∷◌, length, drop, take, cond, Option, Some, None, Result, Ok, Err, refl, ap, sym, ◌∙◌, subst, arith}
+use Rattle.std.proofs.Common.{◌≡◌, ℕ, ℤ, zero, suc, ◌≤◌, ◌==◌, ◌⊎◌, inl, inr, Bool, true, false, List, [], ◌∷◌, length, take, cond, Option, Some, None, Result, Ok, Err, refl, ap, sym, ◌∙◌, subst, arith}
 use Rattle.std.specs.List.{list_all, prefix_len}
 use Rattle.std.specs.Option.{option_map}
 use Rattle.std.proofs.lemmas.Bool.{cases_Bool}
-use Rattle.std.proofs.lemmas.List.{length-take, length-take-le}
+use Rattle.std.proofs.lemmas.List.{length-take-le}
 use Rattle.std.proofs.lemmas.List.Sums.{prefix_len-le-length}
 use Rattle.nl_fixed.specs.declared.number.NumFault.{NumFault}
 use Rattle.nl_fixed.specs.Spelling.{read_of}
@@ -15,7 +15,7 @@ use Rattle.nl_scan.specs.declared.pieces.Piece.{Piece}
 use Rattle.nl_scan.specs.Forms.{Flaw, is_space, is_in_line, is_word_byte, is_none_left, is_closed, is_some_bracket, bracket_of, semicolon, quote, backslash, has_form, first_bad_escape, meaning_of, meaning_behind, word_meaning, quoted_meaning}
 use Rattle.nl_scan.specs.Tokens.{form_at, closed_length, piece_at, piece_by, word_piece, quoted_piece, escaped_piece, bracket_piece}
 use Rattle.nl_scan.specs.Cuts.{Stretch, IsFirst, IsUnformed, kind_of_first}
-use Rattle.nl_scan.proofs.Runs.{begins, begins-form_at, form_at-begins, closed_length-within, IsWithin, word_len-some}
+use Rattle.nl_scan.proofs.Runs.{begins, begins-form_at, form_at-begins, closed_length-within}
 
 -- ---- a form is what begins with its first byte and goes on as the form asks
 

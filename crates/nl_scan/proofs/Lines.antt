@@ -1,13 +1,12 @@
 -- The lines of a file before the one that ends the code.
-use Rattle.std.proofs.Common.{◌≡◌, ℕ, zero, suc, ◌+◌, ◌-◌, ◌≤◌, ◌<◌, ◌==◌, Bool, true, false, List, [], ◌∷◌, ◌++◌, length, drop, take, cond, min, refl, ap, sym, ◌∙◌, subst, arith, append_assoc, append-nil, ◌⊎◌, inl, inr, zero-add, length-drop, take_all}
+use Rattle.std.proofs.Common.{◌≡◌, ℕ, zero, suc, ◌+◌, ◌≤◌, ◌<◌, ◌==◌, true, false, List, [], ◌∷◌, ◌++◌, length, drop, take, min, refl, ap, sym, ◌∙◌, subst, arith, append_assoc, append-nil, ◌⊎◌, inl, inr, zero-add, length-drop, take_all}
 use Rattle.std.specs.List.{prefix_len, take_while}
 use Rattle.std.specs.Str.{bytes_eq}
 use Rattle.std.proofs.lemmas.Bool.{cases_Bool, cases_lt}
-use Rattle.std.proofs.lemmas.Bool.Decides.{nat_tests}
 use Rattle.std.proofs.Math.Seq.{take-length, drop-length, take-nil}
-use Rattle.std.proofs.lemmas.List.{drop-drop, drop_all, length-take, take-take}
+use Rattle.std.proofs.lemmas.List.{drop-drop, drop_all, take-take}
 use Rattle.nl_scan.specs.Forms.{is_in_line, line_feed}
-use Rattle.nl_scan.specs.CodePart.{byte_first, before_section, code_of, is_section_line, lines_of, section_line}
+use Rattle.nl_scan.specs.CodePart.{code_of, lines_of, section_line}
 
 -- how many bytes a line has before its line feed
 abbrev pub line_length : List ℕ → ℕ

@@ -1,15 +1,12 @@
 -- What begins with a byte, and how far it goes.
-use Rattle.std.proofs.Common.{◌≡◌, ℕ, zero, suc, ◌+◌, ◌<◌, ◌≤◌, ◌==◌, ◌||◌, ◌⊎◌, inl, inr, Bool, true, false, not, List, [], ◌∷◌, length, drop, take, cond, Option, Some, None, Result, Ok, Err, refl, ap, sym, ◌∙◌, subst, arith}
+use Rattle.std.proofs.Common.{◌≡◌, ℕ, suc, ◌+◌, ◌<◌, ◌≤◌, ◌==◌, ◌⊎◌, inl, inr, Bool, true, false, List, [], ◌∷◌, length, cond, Option, Some, None, refl, ap, sym, ◌∙◌, subst, arith}
 use Rattle.std.specs.List.{prefix_len}
 use Rattle.std.specs.Option.{option_map}
 use Rattle.std.proofs.lemmas.Bool.{cases_Bool}
-use Rattle.std.proofs.lemmas.Bool.Decides.{nat_tests, eqb_tells}
-use Rattle.std.proofs.lemmas.List.Sums.{prefix_len-le-length}
-use Rattle.nl_scan.specs.declared.token.Lexeme.{Lexeme}
+use Rattle.std.proofs.lemmas.Bool.Decides.{nat_tests}
 use Rattle.nl_scan.specs.declared.pieces.Form.{Form}
-use Rattle.nl_scan.specs.declared.pieces.Piece.{Piece}
 use Rattle.nl_scan.specs.Forms.{is_space, is_in_line, is_word_byte, bracket_of, is_some_bracket, semicolon, quote, backslash, is_escape, first_bad_escape}
-use Rattle.nl_scan.specs.Tokens.{form_at, closed_length, least_length}
+use Rattle.nl_scan.specs.Tokens.{form_at, closed_length}
 
 -- so many more
 abbrev pub plus : ℕ → Option ℕ → Option ℕ

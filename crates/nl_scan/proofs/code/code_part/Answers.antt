@@ -1,4 +1,4 @@
-use Rattle.std.proofs.Common.{arith, sym, ◌∙◌, ap}
+use Rattle.std.proofs.Common.{arith, sym, ◌∙◌}
 use Rattle.nl_scan.proofs.Cutting.{rest_from}
 use Rattle.nl_scan.proofs.Lines.{line_at, line_over, no_line}
 use Rattle.nl_scan.proofs.code.code_part.Goals as goal

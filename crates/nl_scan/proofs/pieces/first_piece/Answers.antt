@@ -1,4 +1,4 @@
-use Rattle.std.proofs.Common.{◌≡◌, ◌≤◌, arith, sym, ◌∙◌}
+use Rattle.std.proofs.Common.{arith}
 use Rattle.nl_scan.proofs.Cutting.{behind_first, first_within, quoted_first, rest_from, word_first}
 use Rattle.nl_scan.proofs.pieces.first_piece.Goals as goal
 
