@@ -1,7 +1,6 @@
 -- The first bytes of a file say what the whole file says.
-use Rattle.std.proofs.Common.{◌≡◌, ℕ, ◌+◌, ◌<◌, ◌≤◌, List, length, take, nat_lt, true, false, Bool, Option, Some, None, Result, Err, refl, sym, ap, ◌∙◌, arith, cond, take_all, ◌⊎◌, inl, inr}
+use Rattle.std.proofs.Common.{◌≡◌, ℕ, ◌+◌, ◌≤◌, List, length, take, nat_lt, true, false, Bool, Option, Some, None, Result, Err, refl, sym, ap, ◌∙◌, arith, cond, take_all}
 use Rattle.std.specs.Option.{option_map}
-use Rattle.std.proofs.lemmas.Bool.{cases_lt}
 use Rattle.std.proofs.lemmas.Bool.Decides.{nat_tests}
 use Rattle.std.proofs.lemmas.List.{length-take, take-take}
 use Rattle.nl_outer.specs.Folder.{Folder, read_of, content_of}
@@ -10,6 +9,7 @@ use Rattle.nl_scan.specs.Place.{line_after, column_after}
 use Rattle.nl_scan.specs.CodePart.{code_of}
 use Rattle.nl_cli.specs.Steps.{within}
 use Rattle.nl_cli.specs.declared.TheConstants.{FILE_LIMIT}
+use Rattle.nl_cli.specs.declared.modelling.Walkers.{Walkers}
 use Rattle.nl_cli.specs.declared.modelling.ModelKind.{ModelKind}
 use Rattle.nl_cli.specs.declared.modelling.ModelFault.{ModelFault}
 use Rattle.nl_cli.specs.declared.planning.PlanKind.TheVariants as PlanKind
