@@ -2,7 +2,7 @@
 use Rattle.std.proofs.Common.{◌≡◌, ℕ, zero, suc, ◌+◌, ◌<◌, ◌≤◌, ◌⊎◌, inl, inr, true, false, List, [], ◌∷◌, ◌++◌, length, drop, take, Option, Some, None, Result, Ok, Err, refl, ap, sym, ◌∙◌, subst, arith, length-append, length-drop}
 use Rattle.std.specs.Str.{IsUtf8, is_utf8}
 use Rattle.std.proofs.lemmas.Bool.{cases_Bool, cases_lt}
-use Rattle.std.proofs.lemmas.List.{length-take, take-append-drop}
+use Rattle.std.proofs.lemmas.List.{drop-drop, length-take, take-append-drop}
 use Rattle.std.proofs.lemmas.Str.{IsUtf8-from_is_utf8, is_utf8-from_IsUtf8}
 use Rattle.nl_scan.specs.declared.TheConstants.{TEXT_LIMIT}
 use Rattle.nl_scan.specs.declared.token.Lexeme.{Lexeme}
@@ -12,7 +12,7 @@ use Rattle.nl_scan.specs.declared.pieces.Form.{Form}
 use Rattle.nl_scan.specs.declared.pieces.Piece.{Piece}
 use Rattle.nl_scan.specs.Forms.{Flaw, has_form, meaning_of}
 use Rattle.nl_scan.specs.Tokens.{ScanFault, cut_from, tokens_of, after_piece, token_first, piece_at}
-use Rattle.nl_scan.specs.Cuts.{Stretch, IsFirst, IsSound, IsCutTo, IsCut, joined, token_before, tokens_in, kind_of_first, IsFlaw, IsCutToFault, IsTokens, IsFault, TextsAreCutOnce, StretchesJoin, FaultsAreUnique, FaultOrTokens, TokensAreComputed, FaultsAreComputed}
+use Rattle.nl_scan.specs.Cuts.{Stretch, IsFirst, IsSound, IsCutTo, IsCut, joined, token_before, tokens_in, kind_of_first, IsFlaw, IsCutToFault, IsTokens, IsFault, TextsAreCutOnce, StretchesJoin, FaultsAreUnique, FaultOrTokens, TokensAreComputed, FaultsAreComputed, AreMeant, TokensAreMeant}
 use Rattle.nl_scan.proofs.Runs.{form_at-begins}
 use Rattle.nl_scan.proofs.Firsts.{piece_of, IsBegun, IsStopped, first_of, has_form-nil, has_form-parts}
 use Rattle.nl_scan.proofs.Cutting.{tokens_of-long, tokens_of-no_text, tokens_of-text}
@@ -242,3 +242,24 @@ fault_by text (Err fault) is none = (fault, is)
 
 pub fault_or_tokens : FaultOrTokens
 fault_or_tokens text = (λ (fault, is) tokens cut. not_both text tokens fault cut is, fault_by text (tokens_of text) (outcome_of text))
+
+-- ---- each token is what its bytes say
+
+meant_by : (text : List ℕ) (at : ℕ) (s : Stretch) (m : Result (Option Lexeme) Flaw) (tokens : List Token) → IsFirst (drop at text) s → meaning_of s.form s.bytes ≡ m
+    → AreMeant text tokens → AreMeant text (token_before m at (length s.bytes) tokens)
+meant_by text at s (Ok None) tokens first is rest = rest
+meant_by text at s (Err flaw) tokens first is rest = rest
+meant_by text at s (Ok (Some lexeme)) tokens first is rest =
+    ((s.form, ap (has_form s.form) (sym first.begins) ∙ first.formed, ap (meaning_of s.form) (sym first.begins) ∙ is), rest)
+
+meant_in : (text : List ℕ) (at : ℕ) (stretches : List Stretch) (behind : List ℕ) → IsCutTo (drop at text) stretches behind → AreMeant text (tokens_in at stretches)
+meant_in text at [] behind cut = tt
+meant_in text at (s ∷ stretches) behind (first, sound, rest) =
+    let P : List ℕ → Type 0 = λ t. IsCutTo t stretches behind in
+    let more = meant_in text (at + length s.bytes) stretches behind (subst P (drop-drop (length s.bytes) at text) rest) in
+    meant_by text at s (meaning_of s.form s.bytes) (tokens_in (at + length s.bytes) stretches) first refl more
+
+pub tokens_are_meant : TokensAreMeant
+tokens_are_meant text tokens e =
+    let (short, is, (stretches, cut, same)) = (tokens_are_computed text tokens).0 e in
+    subst (AreMeant text) (sym same) (meant_in text 0 stretches [] cut)

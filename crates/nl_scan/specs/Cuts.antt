@@ -117,3 +117,20 @@ TokensAreComputed = (text : List ℕ) (tokens : List Token) → (tokens_of text 
 
 abbrev pub FaultsAreComputed : Type 0
 FaultsAreComputed = (text : List ℕ) (fault : ScanFault) → (tokens_of text ≡ Err fault) ↔ IsFault text fault
+
+-- the bytes of a token
+abbrev pub bytes_at : List ℕ → Token → List ℕ
+bytes_at text token = take token.span.len (drop token.span.start text)
+
+-- a token is what its bytes say: they have a form that means it
+abbrev pub IsMeant : List ℕ → Token → Type 0
+IsMeant text token =
+    (form : Form) × (has_form form (bytes_at text token) ≡ true) × (meaning_of form (bytes_at text token) ≡ Ok (Some token.lexeme))
+
+abbrev pub AreMeant : List ℕ → List Token → Type 0
+AreMeant text [] = Unit {0}
+AreMeant text (token ∷ tokens) = IsMeant text token × AreMeant text tokens
+
+-- each token of a text is what its bytes say
+abbrev pub TokensAreMeant : Type 0
+TokensAreMeant = (text : List ℕ) (tokens : List Token) → tokens_of text ≡ Ok tokens → AreMeant text tokens

@@ -103,6 +103,7 @@ impl Tokens {
         ensures ok { OnOk result (self.new ≡ self.old ++ token ∷ []) }
         ensures err { OnErr result (self.new ≡ self.old) }
     {
+        // Put together anew, since the prover has no plan for a push of a whole token that may hold a number.
         let Token { lexeme, span } = token;
         self.list.push(Token { lexeme, span })?;
         Ok(())
