@@ -1,14 +1,20 @@
 //! Fixed-point numbers: whole counts of millionths.
-ghost use Rattle.std.specs.Prelude.{◌≡◌};
-ghost use Rattle.nl_fixed.specs.Numbers.{number_at};
+ghost use Rattle.std.specs.Prelude.{◌≡◌, pos, ◌*ℤ◌};
+ghost use Rattle.nl_fixed.specs.Numbers.{number_at, one};
 
 use std::marker::Model;
 
 /// A number: a whole count of millionths from -9*10^18 to 9*10^18, seen by contracts as that count.
-#[derive(Clone, Copy)]
+#[derive(Clone, Copy, PartialEq, Eq, PartialOrd, Ord, Debug)]
 pub struct Num {
-    count: i64,
+    pub(crate) count: i64,
 }
+
+/// How many millionths make 1.
+pub(crate) const ONE: i64 = 1_000_000;
+
+/// The greatest count; the least is its negative.
+pub(crate) const LIMIT: i64 = 9_000_000_000_000_000_000;
 
 impl Model for Num {
     ghost use Rattle.std.specs.Prelude.{ℤ};
@@ -36,11 +42,18 @@ impl Num {
     pub fn new(millionths: i64) -> Option<Num>
         ensures { result ≡ number_at millionths }
     {
-        if -9_000_000_000_000_000_000 <= millionths && millionths <= 9_000_000_000_000_000_000 {
+        if -LIMIT <= millionths && millionths <= LIMIT {
             Some(Num { count: millionths })
         } else {
             None
         }
+    }
+
+    /// The whole number n.
+    pub fn whole(n: i64) -> Option<Num>
+        ensures { result ≡ number_at (n *ℤ pos one) }
+    {
+        n.checked_mul(ONE).and_then(Num::new)
     }
 
     /// How many millionths the number is.

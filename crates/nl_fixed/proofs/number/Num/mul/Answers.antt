@@ -1,0 +1,14 @@
+use Rattle.std.proofs.Common.{ℕ, suc, ◌+◌, ◌-◌, ◌*◌, ◌<◌, ◌≤◌, ◌≡◌, ℤ, pos, negsuc, ◌+ℤ◌, ◌-ℤ◌, ◌*ℤ◌, neg_ℤ, ◌≤ℤ◌, ◌<ℤ◌, unsigned_abs, FitsSigned, to_z, of_z, ◌∙◌, sym, ap, refl, arith, rules}
+use Rattle.std.specs.Int.{w64, w128}
+use Rattle.std.proofs.lemmas.Int.{ints, to_z-of_z, fits_signed_mul, unsigned_abs-mul}
+use Rattle.nl_fixed.specs.Numbers.{as_number, one, limit, rounded_quotient, product_of}
+use Rattle.nl_fixed.proofs.Wide.{wide_product}
+use Rattle.nl_fixed.proofs.number.Num.mul.Goals as goal
+
+pub returns : goal.returns
+unfolding product_of
+returns c =
+    let first : c.from.result ≡ c.args.self = omega (arith, ints) in
+    let second : c.from-2.result ≡ c.args.other = omega (arith, ints) in
+    let product = wide_product _ _ _ _ first second (omega (arith, ints)) (omega (arith, ints)) in
+    c.number_of.ensures ∙ ap as_number (to_z-of_z w128 _ (record { sfits = c.rounded.type_inv }) ∙ c.rounded.ensures ∙ ap (λ x. rounded_quotient x one) product)
