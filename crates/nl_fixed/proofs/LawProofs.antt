@@ -1,18 +1,17 @@
 -- The laws of the arithmetic.
-use Rattle.std.proofs.Common.{ℕ, zero, suc, ◌+◌, ◌-◌, ◌*◌, ◌/◌, ◌%◌, ◌<◌, ◌≤◌, ◌≡◌, ◌≢◌, Bool, true, false, inl, inr, ℤ, pos, negsuc, ◌+ℤ◌, ◌-ℤ◌, ◌*ℤ◌, neg_ℤ, ◌≤ℤ◌, ◌<ℤ◌, unsigned_abs, int_rem, int_div, Result, Ok, Err, IsOk, is_ok, cond, ◌∙◌, sym, ap, refl, subst, arith, add-one}
+use Rattle.std.proofs.Common.{ℕ, zero, suc, ◌+◌, ◌*◌, ◌/◌, ◌<◌, ◌≤◌, ◌≡◌, ◌≢◌, Bool, true, false, inl, inr, ℤ, pos, negsuc, ◌+ℤ◌, ◌-ℤ◌, ◌*ℤ◌, neg_ℤ, ◌≤ℤ◌, ◌<ℤ◌, unsigned_abs, int_rem, Result, Ok, Err, IsOk, cond, ◌∙◌, sym, ap, refl, arith, add-one}
 use Rattle.std.proofs.lemmas.Int.{ints, quot-rem, rem_below}
-use Rattle.std.proofs.lemmas.Bool.Decides.{nat_tests}
 use Rattle.std.proofs.lemmas.Bool.{cases_lt}
 use Rattle.std.proofs.Math.Nat.{mul-div_cancel, mul-le-mul}
 use Rattle.nl_fixed.specs.declared.number.NumFault.{NumFault}
-use Rattle.nl_fixed.specs.declared.number.NumFault.TheVariants.{Overflow, ZeroDivide, Domain}
-use Rattle.nl_fixed.specs.Numbers.{IsInRange, one, limit, exponent_limit, in_range, as_number, and_next, floor_quotient, rounded_quotient, floor_of_ratio, cut_quotient, product_of, quotient_of, modulo_of, remainder_of, repeated_product, whole_power, power_of, root_up_to, whole_root, root_of, nearest_multiple, round_of, floor_of, ceiling_of, int_of}
-use Rattle.nl_fixed.specs.NumberLaws.{IsNearest, RoundedIsNearest, OnlyRoundedIsNearest, Divides, HasSign, ModuloDivides, ModuloHasAnswer, RemainderDivides, RemainderHasAnswer, WholeRootIsGreatest, IsGreatestRoot, RootIsGreatest, RootHasAnswer, PowerOfZero, PowerOfNext, PowerOfNegative, IsWhole, RoundsAround, RoundingsAreAround}
+use Rattle.nl_fixed.specs.declared.number.NumFault.TheVariants.{Overflow}
+use Rattle.nl_fixed.specs.Numbers.{IsInRange, one, limit, exponent_limit, in_range, as_number, and_next, floor_quotient, rounded_quotient, floor_of_ratio, cut_quotient, product_of, quotient_of, modulo_of, remainder_of, repeated_product, whole_power, power_of, whole_root, root_of, nearest_multiple, round_of, floor_of, ceiling_of, int_of}
+use Rattle.nl_fixed.specs.NumberLaws.{RoundedIsNearest, OnlyRoundedIsNearest, ModuloDivides, ModuloHasAnswer, RemainderDivides, RemainderHasAnswer, WholeRootIsGreatest, RootIsGreatest, RootHasAnswer, PowerOfZero, PowerOfNext, PowerOfNegative, IsWhole, RoundingsAreAround}
 use Rattle.nl_fixed.proofs.Integers.{floor_low, floor_high, rounded_low, rounded_high, rounded_only}
 use Rattle.nl_fixed.proofs.PlacesLemmas.{as_number_inside}
 use Rattle.nl_fixed.proofs.PowerLemmas.{power_by_negative, power_by_other}
 use Rattle.nl_fixed.proofs.RootLemmas.{root_square, root_greatest, root_of_other}
-use Rattle.nl_fixed.proofs.Signs.{cut_rest, modulo_by_other, remainder_by_other}
+use Rattle.nl_fixed.proofs.Signs.{modulo_by_other, remainder_by_other}
 
 -- ---- the rounding
 pub rounded_is_nearest : RoundedIsNearest
@@ -117,7 +116,7 @@ root_is_greatest (pos count) root e =
     record {
       least = rw (← is) (omega (arith, ints));
       square = rw (← is) (omega (arith, ints, facts.0));
-      greatest = λ other not_below square. rw (← is) (go count other not_below square)
+      greatest = λ other not_below square. rw (← is) (go count other not_below square);
     }
   where
     go : (n : ℕ) (other : ℤ) → pos 0 ≤ℤ other → (other *ℤ other) ≤ℤ (pos n *ℤ pos one) → other ≤ℤ pos (whole_root (n * one))
@@ -216,8 +215,16 @@ round_around count =
 
 pub roundings_are_around : RoundingsAreAround
 roundings_are_around count = record {
-  floor_whole = floor_is_whole count; floor_low = (floor_around count).0; floor_high = (floor_around count).1;
-  ceiling_whole = ceiling_is_whole count; ceiling_high = (ceiling_around count).0; ceiling_low = (ceiling_around count).1;
-  int_whole = int_is_whole count; int_above = int_from_above count; int_below = int_from_below count;
-  round_whole = round_is_whole count; round_low = (round_around count).0; round_high = (round_around count).1;
+  floor_whole = floor_is_whole count;
+  floor_low = (floor_around count).0;
+  floor_high = (floor_around count).1;
+  ceiling_whole = ceiling_is_whole count;
+  ceiling_high = (ceiling_around count).0;
+  ceiling_low = (ceiling_around count).1;
+  int_whole = int_is_whole count;
+  int_above = int_from_above count;
+  int_below = int_from_below count;
+  round_whole = round_is_whole count;
+  round_low = (round_around count).0;
+  round_high = (round_around count).1;
 }

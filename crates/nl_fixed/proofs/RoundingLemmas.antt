@@ -1,9 +1,8 @@
 -- Rounding to multiples stays in the range where the range ends at a multiple, and what the code computes is exact.
-use Rattle.std.proofs.Common.{ℕ, zero, suc, ◌+◌, ◌-◌, ◌*◌, ◌/◌, ◌^◌, ◌<◌, ◌≤◌, ◌≡◌, ℤ, pos, negsuc, ◌+ℤ◌, ◌-ℤ◌, ◌*ℤ◌, neg_ℤ, ◌≤ℤ◌, ◌<ℤ◌, unsigned_abs, int_div, FitsSigned, to_z, of_z, ◌∙◌, sym, ap, refl, arith}
-use Rattle.std.specs.Int.{w64, w128, int_div_euclid}
+use Rattle.std.proofs.Common.{ℕ, zero, suc, ◌*◌, ◌<◌, ◌≤◌, ◌≡◌, ℤ, pos, ◌*ℤ◌, neg_ℤ, unsigned_abs, int_div, FitsSigned, to_z, of_z, ◌∙◌, ap, refl, arith}
+use Rattle.std.specs.Int.{w128, int_div_euclid}
 use Rattle.std.proofs.lemmas.Int.{ints, to_z-of_z, by_lt_z}
-use Rattle.std.proofs.Math.Nat.{div-mul-le_self}
-use Rattle.nl_fixed.specs.Numbers.{IsInRange, one, limit, floor_quotient, cut_quotient, rounded_quotient, nearest_multiple, round_of, floor_of, ceiling_of, int_of}
+use Rattle.nl_fixed.specs.Numbers.{IsInRange, one, limit, rounded_quotient, nearest_multiple, round_of, floor_of, int_of}
 use Rattle.nl_fixed.proofs.Integers.{times_above, floor_low, floor_high, rounded_low, rounded_high}
 
 -- a multiple near a count is not far out of range
@@ -38,9 +37,9 @@ nearest_in_range count step k some whole in_range =
     let least = times_negative step k in
     record {
       low = by_lt_z r (neg_ℤ (pos k)) (λ below. absurd (omega (arith, ints, times_above step r (neg_ℤ (pos k)) below)))
-        (λ most. by_lt_z (neg_ℤ (pos k)) r (λ above. omega (arith, ints, times_above step (neg_ℤ (pos k)) r above)) (λ equal. let same : r ≡ neg_ℤ (pos k) = omega (arith, ints) in rw same (omega (arith, ints))));
+          (λ most. by_lt_z (neg_ℤ (pos k)) r (λ above. omega (arith, ints, times_above step (neg_ℤ (pos k)) r above)) (λ equal. let same : r ≡ neg_ℤ (pos k) = omega (arith, ints) in rw same (omega (arith, ints))));
       high = by_lt_z (pos k) r (λ above. absurd (omega (arith, ints, times_above step (pos k) r above)))
-        (λ most. by_lt_z r (pos k) (λ below. omega (arith, ints, times_above step r (pos k) below)) (λ equal. let same : r ≡ pos k = omega (arith, ints) in rw same (omega (arith, ints))))
+          (λ most. by_lt_z r (pos k) (λ below. omega (arith, ints, times_above step r (pos k) below)) (λ equal. let same : r ≡ pos k = omega (arith, ints) in rw same (omega (arith, ints))));
     }
 
 pub round_in_range : (count : ℤ) → IsInRange count → IsInRange (round_of count)

@@ -1,8 +1,7 @@
 -- The definitions that go by the sign of a divisor, by the tests that the code makes of it.
-use Rattle.std.proofs.Common.{ℕ, zero, suc, ◌+◌, ◌-◌, ◌*◌, ◌/◌, ◌<◌, ◌≤◌, ◌≡◌, ◌≢◌, ℤ, pos, negsuc, ◌+ℤ◌, ◌-ℤ◌, ◌*ℤ◌, neg_ℤ, ◌≤ℤ◌, ◌<ℤ◌, unsigned_abs, int_rem, Err, Result, ◌∙◌, sym, ap, refl, subst, arith}
+use Rattle.std.proofs.Common.{ℕ, zero, suc, ◌≤◌, ◌≡◌, ◌≢◌, ℤ, pos, negsuc, ◌-ℤ◌, ◌*ℤ◌, neg_ℤ, ◌≤ℤ◌, ◌<ℤ◌, unsigned_abs, int_rem, Err, ap, refl, arith}
 use Rattle.std.proofs.lemmas.Int.{ints, quot-rem}
 use Rattle.std.proofs.Math.Nat.{div-le_self}
-use Rattle.nl_fixed.specs.declared.number.NumFault.{NumFault}
 use Rattle.nl_fixed.specs.declared.number.NumFault.TheVariants.{ZeroDivide}
 use Rattle.nl_fixed.specs.Numbers.{one, as_number, floor_quotient, cut_quotient, rounded_quotient, floor_of_ratio, quotient_of, modulo_of, remainder_of}
 

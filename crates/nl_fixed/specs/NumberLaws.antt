@@ -1,6 +1,6 @@
 -- What the formulas of the arithmetic mean: laws above the definitions, over counts of either sign without a bound.
 use Rattle.std.specs.Prelude.{ℕ, ◌+◌, ◌*◌, ◌<◌, ◌≤◌, ◌≡◌, ◌≢◌, ℤ, pos, ◌+ℤ◌, ◌-ℤ◌, ◌*ℤ◌, neg_ℤ, ◌≤ℤ◌, ◌<ℤ◌, unsigned_abs, Ok, IsOk}
-use Rattle.nl_fixed.specs.Numbers.{IsInRange, one, exponent_limit, and_next, rounded_quotient, product_of, quotient_of, modulo_of, remainder_of, repeated_product, power_of, whole_root, root_of, round_of, floor_of, ceiling_of, int_of}
+use Rattle.nl_fixed.specs.Numbers.{IsInRange, one, exponent_limit, and_next, rounded_quotient, product_of, quotient_of, modulo_of, remainder_of, power_of, whole_root, root_of, round_of, floor_of, ceiling_of, int_of}
 
 -- ---- the rounding
 

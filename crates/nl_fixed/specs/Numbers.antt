@@ -1,7 +1,7 @@
 -- Fixed-point numbers. A number is a whole count of millionths, from -9*10^18 to 9*10^18. All that is said here is
 -- said over unbounded whole numbers of either sign: an operation works on counts and gives a count, or the fault
 -- that stands in its place.
-use Rattle.std.specs.Prelude.{ℕ, zero, suc, ◌+◌, ◌-◌, ◌*◌, ◌/◌, ◌%◌, ◌^◌, ◌≤◌, ℤ, pos, negsuc, ◌+ℤ◌, ◌-ℤ◌, ◌*ℤ◌, neg_ℤ, ◌≤ℤ◌, ◌<ℤ◌, Bool, ◌&&◌, ◌==◌, nat_le, int_lt, int_le, int_div, unsigned_abs, Option, Some, None, Result, Ok, Err, if◌then◌else◌}
+use Rattle.std.specs.Prelude.{ℕ, zero, suc, ◌+◌, ◌-◌, ◌*◌, ◌/◌, ◌%◌, ◌^◌, ℤ, pos, negsuc, ◌+ℤ◌, ◌-ℤ◌, ◌*ℤ◌, neg_ℤ, ◌≤ℤ◌, Bool, ◌&&◌, ◌==◌, nat_le, int_div, unsigned_abs, Option, Some, None, Result, Ok, Err, if◌then◌else◌}
 use Rattle.std.specs.Int.{int_div_euclid}
 use Rattle.nl_fixed.specs.declared.number.NumFault.{NumFault}
 use Rattle.nl_fixed.specs.declared.number.NumFault.TheVariants.{Overflow, ZeroDivide, Domain}

@@ -35,7 +35,11 @@ pub(crate) fn floored(a: i64, b: i64) -> i64
     requires second { IsInRange b }
     ensures { result ≡ floor_of_ratio a b }
 {
-    if b < 0 { (-a).div_euclid(-b) } else { a.div_euclid(b) }
+    if b < 0 {
+        (-a).div_euclid(-b)
+    } else {
+        a.div_euclid(b)
+    }
 }
 
 impl Num {

@@ -2,6 +2,8 @@
 #![tactic(auto)]
 
 pub mod arithmetic;
+#[cfg(test)]
+mod arithmetic_tests;
 pub mod laws;
 pub mod lists;
 pub mod memory;

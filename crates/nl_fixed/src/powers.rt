@@ -37,7 +37,11 @@ impl Num {
             return Err(NumFault::Domain);
         }
         let power = repeated_product(self, size / (ONE as u64))?;
-        if exponent.count < 0 { Num { count: ONE }.div(power) } else { Ok(power) }
+        if exponent.count < 0 {
+            Num { count: ONE }.div(power)
+        } else {
+            Ok(power)
+        }
     }
 
     /// The square root, cut to millionths.

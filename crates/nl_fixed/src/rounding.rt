@@ -20,7 +20,9 @@ impl Num {
     pub fn abs(self) -> Num
         ensures { result ≡ pos (unsigned_abs self) }
     {
-        Num { count: self.count.abs() }
+        Num {
+            count: self.count.abs(),
+        }
     }
 
     /// The number with its sign changed.
@@ -34,14 +36,18 @@ impl Num {
     pub fn round(self) -> Num
         ensures { result ≡ round_of self }
     {
-        Num { count: nearest_multiple(self.count, ONE as u64) as i64 }
+        Num {
+            count: nearest_multiple(self.count, ONE as u64) as i64,
+        }
     }
 
     /// The greatest whole number that is not above the number.
     pub fn floor(self) -> Num
         ensures { result ≡ floor_of self }
     {
-        Num { count: self.count.div_euclid(ONE) * ONE }
+        Num {
+            count: self.count.div_euclid(ONE) * ONE,
+        }
     }
 
     /// The least whole number that is not below the number.
@@ -55,7 +61,9 @@ impl Num {
     pub fn int(self) -> Num
         ensures { result ≡ int_of self }
     {
-        Num { count: self.count / ONE * ONE }
+        Num {
+            count: self.count / ONE * ONE,
+        }
     }
 
     /// The number rounded to so many decimal places, a half upwards: the places are cut toward 0 to a whole number,

@@ -1,4 +1,4 @@
-use Rattle.std.proofs.Common.{◌*◌, ◌≡◌, ℤ, pos, ◌+ℤ◌, ◌*ℤ◌, to_z, of_z, ◌∙◌, arith}
+use Rattle.std.proofs.Common.{◌*◌, ◌≡◌, pos, ◌+ℤ◌, ◌*ℤ◌, to_z, of_z, ◌∙◌, arith}
 use Rattle.std.specs.Int.{w128}
 use Rattle.std.proofs.lemmas.Int.{ints, to_z-of_z}
 use Rattle.nl_fixed.proofs.Wide.{rounded_is}

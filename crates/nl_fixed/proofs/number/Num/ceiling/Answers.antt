@@ -1,8 +1,7 @@
-use Rattle.std.proofs.Common.{ℕ, suc, ◌+◌, ◌-◌, ◌*◌, ◌/◌, ◌%◌, ◌<◌, ◌≤◌, ◌≡◌, ◌≢◌, ℤ, pos, negsuc, ◌+ℤ◌, ◌-ℤ◌, ◌*ℤ◌, neg_ℤ, ◌≤ℤ◌, ◌<ℤ◌, unsigned_abs, int_div, FitsSigned, to_z, of_z, Result, Ok, Err, ◌∙◌, sym, ap, refl, arith, rules}
-use Rattle.std.specs.Int.{w64, w128, int_div_euclid}
-use Rattle.std.proofs.lemmas.Int.{ints, to_z-of_z}
-use Rattle.nl_fixed.specs.Numbers.{IsInRange, one, limit, as_number, floor_quotient, cut_quotient, nearest_multiple, rounded_quotient, round_of, floor_of, ceiling_of, int_of, whole_root, root_of, repeated_product}
+use Rattle.std.proofs.Common.{rules}
+use Rattle.nl_fixed.specs.Numbers.{ceiling_of}
 use Rattle.nl_fixed.proofs.number.Num.ceiling.Goals as goal
+
 pub returns : goal.returns
 unfolding ceiling_of
 returns c = search rules

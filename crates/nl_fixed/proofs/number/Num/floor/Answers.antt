@@ -1,7 +1,6 @@
-use Rattle.std.proofs.Common.{ℕ, suc, ◌+◌, ◌-◌, ◌*◌, ◌/◌, ◌%◌, ◌<◌, ◌≤◌, ◌≡◌, ◌≢◌, ℤ, pos, negsuc, ◌+ℤ◌, ◌-ℤ◌, ◌*ℤ◌, neg_ℤ, ◌≤ℤ◌, ◌<ℤ◌, unsigned_abs, int_div, FitsSigned, to_z, of_z, Result, Ok, Err, ◌∙◌, sym, ap, refl, arith, rules}
-use Rattle.std.specs.Int.{w64, w128, int_div_euclid}
+use Rattle.std.proofs.Common.{◌≡◌, to_z, of_z, arith}
+use Rattle.std.specs.Int.{w64}
 use Rattle.std.proofs.lemmas.Int.{ints, to_z-of_z}
-use Rattle.nl_fixed.specs.Numbers.{IsInRange, one, limit, exponent_limit, and_next, as_number, floor_quotient, cut_quotient, nearest_multiple, rounded_quotient, round_of, floor_of, ceiling_of, int_of, whole_root, root_of, quotient_of, repeated_product}
 use Rattle.nl_fixed.proofs.RoundingLemmas.{floor_is, floor_in_range}
 use Rattle.nl_fixed.proofs.number.Num.floor.Goals as goal
 

@@ -1,7 +1,7 @@
-use Rattle.std.proofs.Common.{◌*◌, ◌≡◌, ◌≤◌, ℤ, pos, ◌+ℤ◌, ◌-ℤ◌, ◌*ℤ◌, to_z, of_z, unsigned_abs, ◌∙◌, ap, sym, arith}
-use Rattle.std.specs.Int.{w64, w128}
-use Rattle.std.proofs.lemmas.Int.{ints, to_z-of_z}
-use Rattle.nl_fixed.specs.Numbers.{IsInRange, limit, as_number, floor_of_ratio}
+use Rattle.std.proofs.Common.{◌≡◌, to_z, of_z, ◌∙◌, ap, arith}
+use Rattle.std.specs.Int.{w64}
+use Rattle.std.proofs.lemmas.Int.{ints}
+use Rattle.nl_fixed.specs.Numbers.{IsInRange, as_number, floor_of_ratio}
 use Rattle.nl_fixed.proofs.Signs.{modulo_by_zero, modulo_by_other}
 use Rattle.nl_fixed.proofs.Wide.{floor_in_range, wide_product, product_size, left_over_floor}
 use Rattle.nl_fixed.proofs.number.Num.modulo.Goals as goal

@@ -1,7 +1,7 @@
-use Rattle.std.proofs.Common.{ℕ, suc, ◌+◌, ◌-◌, ◌*◌, ◌<◌, ◌≤◌, ◌≡◌, ℤ, pos, negsuc, ◌+ℤ◌, ◌-ℤ◌, ◌*ℤ◌, neg_ℤ, ◌≤ℤ◌, ◌<ℤ◌, unsigned_abs, FitsSigned, to_z, of_z, ◌∙◌, sym, ap, refl, arith, rules}
-use Rattle.std.specs.Int.{w64, w128}
-use Rattle.std.proofs.lemmas.Int.{ints, to_z-of_z, fits_signed_mul, unsigned_abs-mul}
-use Rattle.nl_fixed.specs.Numbers.{as_number, one, limit, rounded_quotient, product_of}
+use Rattle.std.proofs.Common.{◌≡◌, ◌∙◌, ap, arith}
+use Rattle.std.specs.Int.{w128}
+use Rattle.std.proofs.lemmas.Int.{ints, to_z-of_z}
+use Rattle.nl_fixed.specs.Numbers.{as_number, one, rounded_quotient, product_of}
 use Rattle.nl_fixed.proofs.Wide.{wide_product}
 use Rattle.nl_fixed.proofs.number.Num.mul.Goals as goal
 

@@ -1,17 +1,16 @@
-use Rattle.std.proofs.Common.{ℕ, suc, ◌+◌, ◌-◌, ◌*◌, ◌/◌, ◌%◌, ◌<◌, ◌≤◌, ◌≡◌, ◌≢◌, ℤ, pos, negsuc, ◌+ℤ◌, ◌-ℤ◌, ◌*ℤ◌, neg_ℤ, ◌≤ℤ◌, ◌<ℤ◌, unsigned_abs, int_div, FitsSigned, to_z, of_z, Result, Ok, Err, ◌∙◌, sym, ap, refl, arith, rules}
-use Rattle.std.specs.Int.{w64, w128, int_div_euclid}
-use Rattle.std.proofs.lemmas.Int.{ints, to_z-of_z}
+use Rattle.std.proofs.Common.{◌/◌, ◌≡◌, pos, unsigned_abs, ◌∙◌, sym, ap, arith}
+use Rattle.std.proofs.lemmas.Int.{ints}
 use Rattle.std.proofs.lemmas.Result.{err_from_is_err_and}
-use Rattle.nl_fixed.specs.Numbers.{IsInRange, one, limit, exponent_limit, and_next, as_number, floor_quotient, cut_quotient, nearest_multiple, rounded_quotient, round_of, floor_of, ceiling_of, int_of, whole_root, root_of, quotient_of, repeated_product}
+use Rattle.nl_fixed.specs.Numbers.{one, and_next, quotient_of, repeated_product}
 use Rattle.nl_fixed.proofs.PowerLemmas.{power_by_part, power_by_far, power_by_negative, power_by_other, power_fault}
 use Rattle.nl_fixed.proofs.number.Num.pow.Goals as goal
 use Rattle.nl_fixed.proofs.number.Num.pow.Goals.{then-size-ne0-via-then-size-ne0, then-size-ne0-via-else-size-ne0+then-size-gt-EXPONENT_LIMIT}
 
 pub returns-then-size-ne0 : goal.returns-then-size-ne0
 returns-then-size-ne0 c = elim c.then-size-ne0.branch [
-      then-size-ne0-via-then-size-ne0 w ↦ power_by_part _ _ (λ e. omega (arith, ints))
-      | then-size-ne0-via-else-size-ne0+then-size-gt-EXPONENT_LIMIT w ↦ power_by_far _ _ (omega (arith, ints))
-    ]
+  | then-size-ne0-via-then-size-ne0 w ↦ power_by_part _ _ (λ e. omega (arith, ints))
+  | then-size-ne0-via-else-size-ne0+then-size-gt-EXPONENT_LIMIT w ↦ power_by_far _ _ (omega (arith, ints))
+]
 
 pub returns-in_err-power : goal.returns-in_err-power
 returns-in_err-power c =

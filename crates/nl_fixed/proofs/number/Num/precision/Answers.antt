@@ -1,7 +1,7 @@
-use Rattle.std.proofs.Common.{ℕ, suc, ◌+◌, ◌-◌, ◌*◌, ◌/◌, ◌%◌, ◌^◌, ◌<◌, ◌≤◌, ◌≡◌, ◌≢◌, ℤ, pos, negsuc, ◌+ℤ◌, ◌-ℤ◌, ◌*ℤ◌, neg_ℤ, ◌≤ℤ◌, ◌<ℤ◌, unsigned_abs, int_div, FitsSigned, to_z, of_z, Result, Ok, Err, ◌∙◌, sym, ap, refl, arith, rules}
-use Rattle.std.specs.Int.{w64, w128, int_div_euclid}
+use Rattle.std.proofs.Common.{◌≤◌, ◌≡◌, pos, ◌-ℤ◌, unsigned_abs, int_div, to_z, of_z, ◌∙◌, ap, refl, arith}
+use Rattle.std.specs.Int.{w64, w128}
 use Rattle.std.proofs.lemmas.Int.{ints, to_z-of_z}
-use Rattle.nl_fixed.specs.Numbers.{IsInRange, one, limit, as_number, nearest_multiple}
+use Rattle.nl_fixed.specs.Numbers.{one, as_number, nearest_multiple}
 use Rattle.nl_fixed.proofs.PlacesLemmas.{precision_few, precision_many, precision_between, ten_above_zero, ten_narrow, nearest_power_in_range, as_number_inside}
 use Rattle.nl_fixed.proofs.number.Num.precision.Goals as goal
 

@@ -1,4 +1,4 @@
-use Rattle.std.proofs.Common.{ℤ, int_rem, FitsSigned, ◌∙◌, ap, arith}
+use Rattle.std.proofs.Common.{int_rem, FitsSigned, ◌∙◌, ap, arith}
 use Rattle.std.specs.Int.{w64, w128}
 use Rattle.std.proofs.lemmas.Int.{ints, to_z-of_z, rem_is}
 use Rattle.nl_fixed.specs.Numbers.{as_number}
