@@ -1,8 +1,14 @@
+pub mod Angles
+pub mod Directions
 pub mod Integers
 pub mod LawProofs
 pub mod PlacesLemmas
 pub mod PowerLemmas
+pub mod Reaches
 pub mod RootLemmas
 pub mod RoundingLemmas
 pub mod Signs
+pub mod SineTable
+pub mod Tangents
+pub mod Turns
 pub mod Wide

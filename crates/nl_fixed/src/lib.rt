@@ -10,6 +10,7 @@ pub mod memory;
 pub mod number;
 pub mod powers;
 pub mod rounding;
+pub mod sine;
 pub mod span;
 pub mod text;
 
