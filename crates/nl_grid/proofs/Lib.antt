@@ -1,0 +1,5 @@
+pub mod AxisLemmas
+pub mod BandLemmas
+pub mod RangeLemmas
+pub mod ShapeLemmas
+pub mod WayLemmas
