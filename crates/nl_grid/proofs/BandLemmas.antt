@@ -38,7 +38,7 @@ later_row a r c w some below =
 and_false_left : (a b : Bool) → a ≡ false → (a && b) ≡ false
 and_false_left a b fails = rw fails refl
 
-and_false_right : (a b : Bool) → b ≡ false → (a && b) ≡ false
+pub and_false_right : (a b : Bool) → b ≡ false → (a && b) ≡ false
 and_false_right true b fails = fails
 and_false_right false b fails = refl
 

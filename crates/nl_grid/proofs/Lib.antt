@@ -1,5 +1,9 @@
 pub mod AxisLemmas
 pub mod BandLemmas
+pub mod CoverLemmas
+pub mod NearLemmas
 pub mod RangeLemmas
 pub mod ShapeLemmas
+pub mod TallyLemmas
+pub mod WalkLemmas
 pub mod WayLemmas

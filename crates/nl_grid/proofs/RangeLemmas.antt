@@ -13,7 +13,7 @@ same_test true b t f = sym (t refl)
 same_test false true t f = f refl
 same_test false false t f = refl
 
-some_is : {a b : ℕ} → Some a ≡ Some b → a ≡ b
+pub some_is : {a b : ℕ} → Some a ≡ Some b → a ≡ b
 some_is h = ap (λ o. unwrap_or o 0) h
 
 contains_here : (x : ℕ) (xs : List ℕ) → Contains (x ∷ xs) x

@@ -1,5 +1,5 @@
 -- The places of an axis that a box takes, as the code holds them: two runs, of which the second ends with the axis.
-use Rattle.std.specs.Prelude.{ℕ, ◌+◌, ◌*◌, ◌/◌, ◌%◌, ◌<◌, ◌≤◌, ◌≡◌, Bool, true, false, ◌&&◌, ◌||◌, nat_lt, nat_le, List, filter}
+use Rattle.std.specs.Prelude.{ℕ, ◌+◌, ◌-◌, ◌*◌, ◌/◌, ◌%◌, ◌<◌, ◌≤◌, ◌≡◌, Bool, true, false, ◌&&◌, ◌||◌, nat_lt, nat_le, List, filter}
 use Rattle.std.specs.List.{range_with_len}
 use Rattle.nl_grid.specs.declared.band.Band.{Band}
 
@@ -12,6 +12,10 @@ pub record IsBand (band : Band) : Type 0 where
   pub some : 0 < band.side
   pub ends : band.to ≤ band.side
   pub order : band.from ≤ band.again
+
+-- how many places the runs of a band have together
+abbrev pub size_of : Band → ℕ
+size_of band = (band.to - band.from) + (band.side - band.again)
 
 -- a patch in the bands of columns and of rows
 abbrev pub in_bands : Band → Band → ℕ → Bool

@@ -1,6 +1,6 @@
 -- The geometry of a world: an axis of patches a side, points in millionths, and patches by number from the top left.
 -- All of it is said over unbounded whole numbers.
-use Rattle.std.specs.Prelude.{ℕ, ◌+◌, ◌-◌, ◌*◌, ◌/◌, ◌%◌, ◌≤◌, ◌≡◌, ℤ, pos, ◌+ℤ◌, ◌-ℤ◌, ◌*ℤ◌, neg_ℤ, ◌≤ℤ◌, ◌<ℤ◌, Bool, ◌&&◌, ◌||◌, not, ◌==◌, int_le, int_lt, unsigned_abs, min, List, filter, Option, Some, None, if◌then◌else◌}
+use Rattle.std.specs.Prelude.{ℕ, ◌+◌, ◌-◌, ◌*◌, ◌/◌, ◌%◌, ◌≤◌, ◌≡◌, ℤ, pos, negsuc, ◌+ℤ◌, ◌-ℤ◌, ◌*ℤ◌, neg_ℤ, ◌≤ℤ◌, ◌<ℤ◌, Bool, ◌&&◌, ◌||◌, not, ◌==◌, int_le, int_lt, unsigned_abs, min, List, filter, Option, Some, None, if◌then◌else◌}
 use Rattle.std.specs.List.{range_with_len}
 use Rattle.std.specs.Option.{option_map}
 use Rattle.std.specs.Result.{result_ok}
@@ -186,6 +186,11 @@ is_in_line plane patch other = (column plane other == column plane patch) || (ro
 unfoldable pub neighbors4_of : Plane → ℕ → List ℕ
 neighbors4_of plane patch = filter (is_in_line plane patch) (neighbors_of plane patch)
 
+-- how many places of an axis are at most so many steps away, where no end and no other way round is near
+abbrev pub steps_across : ℤ → ℕ
+steps_across (pos reach) = 2 * reach + 1
+steps_across (negsuc reach) = 0
+
 -- ---- the box of a radius
 
 -- a radius in millionths, rounded up to whole steps, and one more
@@ -195,3 +200,7 @@ reach_of radius = neg_ℤ (floor_quotient (neg_ℤ radius) one) +ℤ pos 1
 -- the patches within the radius of a point on each axis, in order
 unfoldable pub box_patches : Plane → Point → ℤ → List ℕ
 box_patches plane at radius = patches_near plane (reach_of radius) (patch_at plane at)
+
+-- a number of patches that no box of the radius passes
+abbrev pub most_in_box : ℤ → ℕ
+most_in_box radius = steps_across (reach_of radius) * steps_across (reach_of radius)

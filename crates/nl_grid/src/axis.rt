@@ -50,9 +50,9 @@ fn shortest(plain: i64, length: i64) -> i64
 }
 
 impl Axis {
-    ghost use Rattle.nl_grid.specs.Bands.{in_band, IsBand};
-    ghost use Rattle.std.specs.Prelude.{◌≡◌, ◌<◌, ◌↔◌, IsTrue, IfSome, ℕ};
-    ghost use Rattle.nl_grid.specs.Geometry.{IsAxis, IsInside, side, begin_of, length_of, wrapped, patch_coordinate, axis_offset, is_within};
+    ghost use Rattle.nl_grid.specs.Bands.{in_band, IsBand, size_of};
+    ghost use Rattle.std.specs.Prelude.{◌≡◌, ◌<◌, ◌≤◌, ◌↔◌, IsTrue, IfSome, ℕ};
+    ghost use Rattle.nl_grid.specs.Geometry.{IsAxis, IsInside, side, begin_of, length_of, wrapped, patch_coordinate, axis_offset, is_within, steps_across};
 
     /// Is 0 one of the coordinates, and are there no more than a world may have along one axis?
     pub(crate) fn is_within_limits(self) -> bool
@@ -143,6 +143,7 @@ impl Axis {
         requires place { place < side self }
         ensures side { result.side ≡ side self }
         ensures band { IsBand result }
+        ensures few { size_of result ≤ steps_across reach }
         ensures places { (other : ℕ) → other < side self → in_band result other ≡ is_within self reach place other }
     {
         let side = self.side();

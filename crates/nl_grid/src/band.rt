@@ -10,8 +10,8 @@ pub struct Band {
 }
 
 impl Band {
-    ghost use Rattle.std.specs.Prelude.{◌≡◌, ◌↔◌, ◌+◌, ◌-◌, min, nat_le, IsTrue, IfSome, IfNone, MatchOption, ℕ, ◌<◌, ◌≤◌, true, false};
-    ghost use Rattle.nl_grid.specs.Bands.{in_band, IsBand};
+    ghost use Rattle.std.specs.Prelude.{◌≡◌, ◌↔◌, ◌+◌, ◌-◌, ◌*◌, min, nat_le, IsTrue, IfSome, IfNone, MatchOption, ℕ, ◌<◌, ◌≤◌, true, false};
+    ghost use Rattle.nl_grid.specs.Bands.{in_band, IsBand, size_of};
 
     /// The places at most so many steps from a place, on an axis with ends.
     pub(crate) fn along(place: u32, steps: u32, side: u32) -> Band
@@ -20,6 +20,7 @@ impl Band {
         requires steps { steps ≤ 1001 }
         ensures side { result.side ≡ side }
         ensures band { IsBand result }
+        ensures few { size_of result ≤ 2 * steps + 1 }
         ensures places { (other : ℕ) → other < side → in_band result other ≡ nat_le ((place - other) + (other - place)) steps }
     {
         let to = (place + steps + 1).min(side);
@@ -38,6 +39,7 @@ impl Band {
         requires steps { steps ≤ 1001 }
         ensures side { result.side ≡ side }
         ensures band { IsBand result }
+        ensures few { size_of result ≤ 2 * steps + 1 }
         ensures places { (other : ℕ) → other < side → in_band result other ≡ nat_le (min ((place - other) + (other - place)) (side - ((place - other) + (other - place)))) steps }
     {
         let end = place + steps + 1;

@@ -4,6 +4,7 @@
 
 mod axis;
 mod band;
+pub mod nearby;
 pub mod patch_box;
 pub mod point;
 pub mod shape;

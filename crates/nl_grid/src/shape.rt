@@ -11,8 +11,8 @@ use std::marker::Model;
 /// The shape of a world: the coordinates of its outermost patches, and which axes wrap.
 #[derive(Clone, Copy, Debug, PartialEq, Eq)]
 pub struct Shape {
-    x: Axis,
-    y: Axis,
+    pub(crate) x: Axis,
+    pub(crate) y: Axis,
 }
 
 impl Model for Shape {
