@@ -63,7 +63,7 @@ rounded_side axis a =
     let some : 0 < one = omega arith in
     sym (rounded_only (a +ℤ pos (length_of axis)) one (patch_coordinate a +ℤ pos (side axis)) some (omega (arith, ints, rounded_low a one some)) (omega (arith, ints, rounded_high a one some)))
 
-le_true : (a b : ℤ) → a ≤ℤ b → int_le a b ≡ true
+pub le_true : (a b : ℤ) → a ≤ℤ b → int_le a b ≡ true
 le_true a b h = grind (arith, ints)
 
 offset_flat : (axis : Axis) (from to : ℤ) → axis.wraps ≡ false → axis_offset axis from to ≡ to -ℤ from

@@ -60,7 +60,7 @@ tally_between p a (suc n) low high between =
     (λ passes. let here = between a (omega arith) (omega arith) passes in rw passes (omega (arith, later.1, here.0, here.1), omega (arith, later.1, here.0, here.1)))
     (λ fails. rw fails (omega (arith, later.0), omega (arith, later.1)))
 
-or_second : (a b : Bool) → a ≡ false → (a || b) ≡ true → b ≡ true
+pub or_second : (a b : Bool) → a ≡ false → (a || b) ≡ true → b ≡ true
 or_second true b fails one = absurd (let wrong = fails in cc)
 or_second false b fails one = one
 
@@ -76,11 +76,11 @@ tally_either p q r a (suc n) either =
     (λ fails. let second : r a ≡ true = or_second (q a) (r a) fails one in rw (passes, second, fails) (omega (arith, later))))
     (λ fails. rw fails (omega (arith, later)))
 
-and_first : (a b : Bool) → (a && b) ≡ true → a ≡ true
+pub and_first : (a b : Bool) → (a && b) ≡ true → a ≡ true
 and_first true b both = refl
 and_first false b both = both
 
-and_second : (a b : Bool) → (a && b) ≡ true → b ≡ true
+pub and_second : (a b : Bool) → (a && b) ≡ true → b ≡ true
 and_second true b both = both
 and_second false b both = absurd (let wrong = both in cc)
 
@@ -124,7 +124,7 @@ tally_without p a (suc n) x start below passes =
 run_between : (low high j : ℕ) → (nat_le low j && nat_lt j high) ≡ true → (low ≤ j) × (j < high)
 run_between low high j one = (leb-true low j (and_first (nat_le low j) (nat_lt j high) one), ltb-true j high (and_second (nat_le low j) (nat_lt j high) one))
 
-zero_times : (w : ℕ) → 0 ≡ 0 * w
+pub zero_times : (w : ℕ) → 0 ≡ 0 * w
 zero_times w = omega arith
 
 -- the patches of one row

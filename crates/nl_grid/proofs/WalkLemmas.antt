@@ -1,9 +1,10 @@
 -- A walk over the patches near a patch that writes down all but the patch itself.
-use Rattle.std.proofs.Common.{ℕ, zero, suc, ◌+◌, ◌-◌, ◌<◌, ◌≤◌, ◌≡◌, ◌≢◌, Bool, true, false, cond, not, ◌==◌, ◌&&◌, nat_lt, List, [], ◌∷◌, ◌++◌, length, take, set, get_or, filter, find, slice_get, Option, Some, None, ◌⊎◌, inl, inr, arith, length-append, append-nil, refl, sym, ap, subst, ◌∙◌}
+use Rattle.std.proofs.Common.{ℕ, zero, suc, ◌+◌, ◌-◌, ◌<◌, ◌≤◌, ◌≡◌, ◌≢◌, Bool, true, false, cond, not, ◌==◌, ◌&&◌, nat_lt, pos, List, [], ◌∷◌, ◌++◌, length, take, set, get_or, filter, find, slice_get, Option, Some, None, ◌⊎◌, inl, inr, arith, length-append, append-nil, take_all, refl, sym, ap, subst, ◌∙◌}
 use Rattle.std.proofs.Math.Seq.{take-suc-set, take-length}
 use Rattle.std.proofs.lemmas.Bool.{eq-eqb, ne_eqb, ltb-true}
 use Rattle.std.proofs.lemmas.List.Elements.{filter_more}
 use Rattle.std.proofs.lemmas.Option.{slice_get_cases, get_or_from_slice_get}
+use Rattle.nl_grid.specs.Geometry.{Plane, patches_near, is_in_line, neighbors_of, neighbors4_of}
 use Rattle.nl_grid.proofs.RangeLemmas.{by_test, some_is}
 
 -- the test of a patch other than this one
@@ -73,7 +74,7 @@ walk_keeps patch list out next after count other walked is apart room walk =
       place = walked.place + 1;
       stands = walk walked.place here;
       kept = ap (λ n. take n (set out count other)) one ∙ take-suc-set out count other room ∙ ap (λ xs. xs ++ other ∷ []) walked.kept ∙ sym more;
-      counted = let long = ap length more ∙ length-append (filter (is_other patch) (take walked.place list)) (other ∷ []) in omega (arith, walked.counted, long)
+      counted = let long = ap length more ∙ length-append (filter (is_other patch) (take walked.place list)) (other ∷ []) in omega (arith, walked.counted, long);
     }
 
 pub walk_skips : (patch : ℕ) (list out : List ℕ) (next after : Option ℕ) (count other : ℕ) → Walked patch list next out count → next ≡ Some other → other ≡ patch → ((place : ℕ) → slice_get list place ≡ Some other → after ≡ slice_get list (place + 1)) → Walked patch list after out count
@@ -113,3 +114,53 @@ walk_goes_on list other next (Some later) small is found =
     let over = ltb-true other later (found_passes (λ q. nat_lt other q) list later (sym found)) in
     rw is (omega (arith, small, over))
 walk_goes_on list other next None small is found = rw is (omega (arith, small))
+
+-- what the walk writes down are the neighbors
+pub neighbors_are : (plane : Plane) (patch : ℕ) (list : List ℕ) → list ≡ patches_near plane (pos 1) patch → filter (is_other patch) list ≡ neighbors_of plane patch
+unfolding neighbors_of
+neighbors_are plane patch list is = ap (filter (is_other patch)) is
+
+pub not_some : (answer : Option ℕ) → ((x : ℕ) → answer ≡ Some x → ⊥) → answer ≡ None
+not_some (Some x) refused = absurd (refused x refl)
+not_some None refused = refl
+
+-- ---- picking from a list what passes a test
+
+pub record Picked (p : ℕ → Bool) (list : List ℕ) (place : ℕ) (out : List ℕ) (count : ℕ) : Type 0 where
+  pub kept : take count out ≡ filter p (take place list)
+  pub counted : count ≡ length (filter p (take place list))
+
+pub pick_begins : (p : ℕ → Bool) (list out : List ℕ) → Picked p list 0 out 0
+pick_begins p list out = record { kept = refl; counted = refl }
+
+pub more_picked : (p : ℕ → Bool) (list : List ℕ) (place : ℕ) → place < length list → p (get_or list place 0) ≡ true → filter p (take (place + 1) list) ≡ filter p (take place list) ++ get_or list place 0 ∷ []
+more_picked p list place within passes = filter_more p list place 0 within ∙ ap (λ b. filter p (take place list) ++ cond b (get_or list place 0 ∷ []) []) passes
+
+pub room_to_pick : (p : ℕ → Bool) (list out : List ℕ) (place count most : ℕ) → Picked p list place out count → place < length list → p (get_or list place 0) ≡ true → length (filter p list) ≤ most → count < most
+room_to_pick p list out place count most picked within passes few =
+    let more = ap length (more_picked p list place within passes) ∙ length-append (filter p (take place list)) (get_or list place 0 ∷ []) in
+    omega (arith, picked.counted, more, kept_before p list (place + 1), few)
+
+pub pick_keeps : (p : ℕ → Bool) (list out : List ℕ) (place count : ℕ) → Picked p list place out count → place < length list → p (get_or list place 0) ≡ true → count < length out → Picked p list (place + 1) (set out count (get_or list place 0)) (count + 1)
+pick_keeps p list out place count picked within passes room =
+    let more = more_picked p list place within passes in
+    let one : count + 1 ≡ suc count = omega arith in
+    record {
+      kept = ap (λ n. take n (set out count (get_or list place 0))) one ∙ take-suc-set out count (get_or list place 0) room ∙ ap (λ xs. xs ++ get_or list place 0 ∷ []) picked.kept ∙ sym more;
+      counted = let long = ap length more ∙ length-append (filter p (take place list)) (get_or list place 0 ∷ []) in omega (arith, picked.counted, long);
+    }
+
+pub pick_skips : (p : ℕ → Bool) (list out : List ℕ) (place count : ℕ) → Picked p list place out count → place < length list → p (get_or list place 0) ≡ false → Picked p list (place + 1) out count
+pick_skips p list out place count picked within fails =
+    let more = filter_more p list place 0 within ∙ ap (λ b. filter p (take place list) ++ cond b (get_or list place 0 ∷ []) []) fails ∙ append-nil (filter p (take place list)) in
+    record { kept = picked.kept ∙ sym more; counted = picked.counted ∙ ap length (sym more) }
+
+pub pick_ends : (p : ℕ → Bool) (list out : List ℕ) (place count : ℕ) → Picked p list place out count → length list ≤ place → (take count out ≡ filter p list) × (count ≡ length (filter p list))
+pick_ends p list out place count picked past =
+    let all = take_all place list past in
+    (picked.kept ∙ ap (filter p) all, picked.counted ∙ ap (λ xs. length (filter p xs)) all)
+
+-- the picked neighbors
+pub in_line_are : (plane : Plane) (patch : ℕ) (list : List ℕ) → list ≡ neighbors_of plane patch → filter (is_in_line plane patch) list ≡ neighbors4_of plane patch
+unfolding neighbors4_of
+in_line_are plane patch list is = ap (filter (is_in_line plane patch)) is

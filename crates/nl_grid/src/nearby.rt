@@ -1,7 +1,7 @@
 //! Patches near a patch or a point: neighbors, and the box of a radius.
 ghost use Rattle.std.specs.Prelude.{◌≡◌, ◌*◌, ◌<◌, ◌≤◌, ◌≤ℤ◌, pos, take, length, Contains};
 ghost use Rattle.nl_grid.specs.declared.point.Point.{Point};
-ghost use Rattle.nl_grid.specs.Geometry.{IsPointOf, patches_of, patch_at, distance_of, patches_near, neighbors_of, neighbors4_of, box_patches, steps_across, most_in_box};
+ghost use Rattle.nl_grid.specs.Geometry.{IsPointOf, patches_of, patch_at, distance_of, patches_near, neighbors_of, neighbors4_of, is_in_line, box_patches, steps_across, most_in_box};
 
 use crate::axis::ONE;
 use crate::patch_box::PatchBox;
@@ -55,6 +55,14 @@ impl Shape {
         count
     }
 
+    /// Is the other patch in the column or in the row of the first one?
+    fn is_in_line(&self, patch: u32, other: u32) -> bool
+        ensures { result ≡ is_in_line self.now patch other }
+    {
+        let width = self.x.side();
+        other % width == patch % width || other / width == patch / width
+    }
+
     /// The neighbors of a patch that are one step away on one axis, as `neighbors` gives them.
     pub fn neighbors4(&self, patch: u32, out: &mut [u32; 4]) -> usize
         requires { patch < patches_of self.now }
@@ -63,10 +71,9 @@ impl Shape {
     {
         let mut all = [0; 8];
         let found = self.neighbors(patch, &mut all);
-        let width = self.x.side();
         let mut count = 0;
         for other in &all[..found] {
-            if *other % width == patch % width || *other / width == patch / width {
+            if self.is_in_line(patch, *other) {
                 out[count] = *other;
                 count += 1;
             }
