@@ -20,7 +20,7 @@ pub by_bool : {P : Type 0} (b : Bool) → (b ≡ true → P) → (b ≡ false �
 by_bool true t f = t refl
 by_bool false t f = f refl
 
-some_same : {a b : ℤ} → Some a ≡ Some b → a ≡ b
+pub some_same : {a b : ℤ} → Some a ≡ Some b → a ≡ b
 some_same h = ap (λ o. unwrap_or o (pos 0)) h
 
 pub false_from_not : (b : Bool) → not b ≡ true → b ≡ false

@@ -16,7 +16,7 @@ use Rattle.nl_grid.proofs.ShapeLemmas.{column_below, row_below}
 use Rattle.nl_grid.proofs.RangeLemmas.{by_test, in_filter}
 
 -- the shorter one is one of the two
-shorter_is_one : (a b : ℤ) → (shorter a b ≡ a) ⊎ (shorter a b ≡ b)
+pub shorter_is_one : (a b : ℤ) → (shorter a b ≡ a) ⊎ (shorter a b ≡ b)
 shorter_is_one a b =
     by_test (nat_lt (unsigned_abs a) (unsigned_abs b))
     (λ first. inl (rw first refl))
@@ -25,7 +25,7 @@ shorter_is_one a b =
     (λ tie. by_test (lt_z b a) (λ greater. inl (rw (other, tie, greater) refl)) (λ least. inr (rw (other, tie, least) refl))))
 
 -- an offset is one of the three ways
-offset_is_way : (axis : Axis) (from to : ℤ) → axis.wraps ≡ true → (axis_offset axis from to ≡ to -ℤ from) ⊎ ((axis_offset axis from to ≡ (to -ℤ from) +ℤ pos (length_of axis)) ⊎ (axis_offset axis from to ≡ (to -ℤ from) -ℤ pos (length_of axis)))
+pub offset_is_way : (axis : Axis) (from to : ℤ) → axis.wraps ≡ true → (axis_offset axis from to ≡ to -ℤ from) ⊎ ((axis_offset axis from to ≡ (to -ℤ from) +ℤ pos (length_of axis)) ⊎ (axis_offset axis from to ≡ (to -ℤ from) -ℤ pos (length_of axis)))
 unfolding axis_offset
 offset_is_way axis from to wraps =
     let plain = to -ℤ from in

@@ -2,6 +2,7 @@ pub mod AxisLemmas
 pub mod BandLemmas
 pub mod CoverLemmas
 pub mod FewLemmas
+pub mod LawLemmas
 pub mod NearLemmas
 pub mod RangeLemmas
 pub mod ShapeLemmas

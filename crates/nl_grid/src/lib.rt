@@ -4,10 +4,13 @@
 
 mod axis;
 mod band;
+pub mod laws;
 pub mod nearby;
 pub mod patch_box;
 pub mod point;
 pub mod shape;
+#[cfg(test)]
+mod tests;
 
 pub use patch_box::PatchBox;
 pub use point::{Point, SamePoint};
