@@ -1,13 +1,13 @@
 -- Coordinates of an axis: inside it, moved into it, and rounded to patches.
-use Rattle.std.proofs.Common.{ℕ, zero, suc, ◌+◌, ◌-◌, ◌*◌, ◌/◌, ◌%◌, ◌<◌, ◌≤◌, ◌≡◌, Bool, true, false, ℤ, pos, negsuc, ◌+ℤ◌, ◌-ℤ◌, ◌*ℤ◌, neg_ℤ, ◌≤ℤ◌, ◌<ℤ◌, unsigned_abs, not, Option, Some, None, unwrap_or, FitsSigned, int_div, to_z, of_z, arith, refl, sym, ap, ◌∙◌}
+use Rattle.std.proofs.Common.{ℕ, ◌+◌, ◌*◌, ◌/◌, ◌%◌, ◌<◌, ◌≤◌, ◌≡◌, Bool, true, false, ℤ, pos, negsuc, ◌+ℤ◌, ◌-ℤ◌, ◌*ℤ◌, ◌<ℤ◌, unsigned_abs, not, Some, None, unwrap_or, int_div, to_z, of_z, arith, refl, sym, ap, ◌∙◌}
 use lib.Signed.{lt_z}
 use Rattle.std.specs.Int.{w64, int_rem_euclid}
 use Rattle.std.proofs.lemmas.Int.{ints, by_lt_z}
-use Rattle.std.proofs.Math.Nat.{div-add-mod', mod-lt, mul-le-mul_left, mul-add}
+use Rattle.std.proofs.Math.Nat.{div-add-mod', mod-lt}
 use Rattle.nl_fixed.specs.Numbers.{one, limit, floor_quotient, rounded_quotient}
-use Rattle.nl_fixed.proofs.Integers.{times_above, floor_low, floor_high, floor_only, rounded_low, rounded_high, rounded_only}
+use Rattle.nl_fixed.proofs.Integers.{floor_low, floor_high, floor_only, rounded_only}
 use Rattle.nl_grid.specs.declared.axis.Axis.{Axis}
-use Rattle.nl_grid.specs.Geometry.{IsAxis, IsInside, side, half, begin_of, end_of, length_of, moved_inside, wrapped, patch_coordinate}
+use Rattle.nl_grid.specs.Geometry.{IsAxis, IsInside, side, begin_of, end_of, length_of, moved_inside, wrapped, patch_coordinate}
 
 -- a test of two numbers, and its fact
 pub true_lt : (a b : ℤ) → lt_z a b ≡ true → a <ℤ b

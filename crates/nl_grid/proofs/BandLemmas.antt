@@ -1,8 +1,8 @@
 -- Patches by row and column, against bands of rows and columns.
-use Rattle.std.proofs.Common.{ℕ, zero, suc, ◌+◌, ◌-◌, ◌*◌, ◌/◌, ◌%◌, ◌^◌, ◌<◌, ◌≤◌, ◌≡◌, Bool, true, false, ◌&&◌, nat_lt, List, Contains, find, slice_get, Option, Some, None, IfSome, IfNone, ◌⊎◌, inl, inr, arith, refl, sym, ap, subst, ◌∙◌}
+use Rattle.std.proofs.Common.{ℕ, ◌+◌, ◌*◌, ◌/◌, ◌%◌, ◌^◌, ◌<◌, ◌≤◌, ◌≡◌, Bool, true, false, ◌&&◌, nat_lt, List, Contains, find, slice_get, Option, Some, None, IfSome, IfNone, inl, inr, arith, refl, sym, ap, subst, ◌∙◌}
 use Rattle.std.specs.Option.{SomeIff}
 use Rattle.std.proofs.lemmas.Bool.{cases_lt, cases_eq}
-use Rattle.std.proofs.lemmas.Nat.{div-add-mod', div-mul-add, mod-mul-add, mod_below, same_from_place, mul-le, le-div, mul-add-lt, row-Below}
+use Rattle.std.proofs.lemmas.Nat.{div-add-mod', div-mul-add, mod-mul-add, mod_below, mul-le, le-div, mul-add-lt}
 use Rattle.nl_grid.proofs.RangeLemmas.{in_filter, from_filter, head_found, head_none, find_above, find_none, next_place}
 use Rattle.nl_grid.specs.declared.band.Band.{Band}
 use Rattle.nl_grid.specs.Bands.{in_band, in_bands, patches_in, IsBand, AreBands, IsFirstFrom}

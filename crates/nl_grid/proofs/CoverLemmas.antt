@@ -1,16 +1,16 @@
 -- The box of a radius holds each patch on which one within the radius can stand.
-use Rattle.std.proofs.Common.{ℕ, zero, suc, ◌+◌, ◌-◌, ◌*◌, ◌<◌, ◌≤◌, ◌≡◌, min, nat_lt, Bool, true, false, ◌&&◌, int_le, ℤ, pos, negsuc, ◌+ℤ◌, ◌-ℤ◌, ◌*ℤ◌, neg_ℤ, ◌≤ℤ◌, ◌<ℤ◌, unsigned_abs, List, Contains, ◌⊎◌, inl, inr, arith, refl, sym, ap, subst, ◌∙◌}
+use Rattle.std.proofs.Common.{ℕ, zero, suc, ◌+◌, ◌-◌, ◌*◌, ◌<◌, ◌≤◌, ◌≡◌, min, nat_lt, true, false, int_le, ℤ, pos, ◌+ℤ◌, ◌-ℤ◌, neg_ℤ, ◌≤ℤ◌, ◌<ℤ◌, unsigned_abs, Contains, ◌⊎◌, inl, inr, arith, refl, sym, ap, ◌∙◌}
 use lib.Signed.{lt_z}
 use Rattle.std.proofs.Math.Nat.{add_comm}
 use Rattle.std.proofs.lemmas.Nat.{mul-add-lt, div-mul-add, mod-mul-add}
 use Rattle.std.proofs.lemmas.Int.{ints}
-use Rattle.nl_fixed.specs.Numbers.{one, floor_quotient, rounded_quotient, whole_root}
-use Rattle.nl_fixed.proofs.Integers.{floor_low, floor_high, rounded_low, rounded_high, rounded_only}
+use Rattle.nl_fixed.specs.Numbers.{one, whole_root}
+use Rattle.nl_fixed.proofs.Integers.{floor_low, rounded_low, rounded_high, rounded_only}
 use Rattle.nl_fixed.proofs.RootLemmas.{root_greatest}
 use Rattle.nl_grid.specs.declared.axis.Axis.{Axis}
 use Rattle.nl_grid.specs.declared.point.Point.{Point}
 use Rattle.nl_grid.specs.Ways.{shorter}
-use Rattle.nl_grid.specs.Geometry.{Plane, IsAxis, IsWithinLimits, IsInside, IsPointOf, side, length_of, patches_of, patch_coordinate, patch_at, number_of_patch, column, row, axis_offset, x_offset, y_offset, square, distance_of, steps_between, is_within, is_near, patches_near, reach_of, box_patches}
+use Rattle.nl_grid.specs.Geometry.{Plane, IsAxis, IsWithinLimits, IsInside, IsPointOf, side, length_of, patches_of, patch_coordinate, patch_at, number_of_patch, column, row, axis_offset, x_offset, y_offset, distance_of, steps_between, is_within, is_near, patches_near, reach_of, box_patches}
 use Rattle.nl_grid.proofs.AxisLemmas.{by_bool}
 use Rattle.nl_grid.proofs.ShapeLemmas.{column_below, row_below}
 use Rattle.nl_grid.proofs.RangeLemmas.{by_test, in_filter}

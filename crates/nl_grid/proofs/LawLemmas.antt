@@ -1,29 +1,27 @@
 -- The laws of the geometry.
-use Rattle.std.proofs.Common.{ℕ, zero, suc, ◌+◌, ◌-◌, ◌*◌, ◌/◌, ◌%◌, ◌<◌, ◌≤◌, ◌≡◌, ◌≢◌, ◌↔◌, min, Bool, true, false, cond, not, ◌==◌, ◌&&◌, if◌then◌else◌, nat_lt, int_le, ℤ, pos, negsuc, ◌+ℤ◌, ◌-ℤ◌, ◌*ℤ◌, neg_ℤ, ◌≤ℤ◌, ◌<ℤ◌, unsigned_abs, List, [], ◌∷◌, length, get_or, filter, Contains, Option, Some, None, ◌⊎◌, inl, inr, arith, refl, sym, ap, subst, ◌∙◌}
-use lib.Signed.{lt_z}
+use Rattle.std.proofs.Common.{ℕ, zero, suc, ◌+◌, ◌-◌, ◌*◌, ◌<◌, ◌≡◌, ◌≢◌, ◌↔◌, min, true, false, not, ◌&&◌, if◌then◌else◌, int_le, ℤ, pos, negsuc, ◌+ℤ◌, ◌-ℤ◌, ◌*ℤ◌, neg_ℤ, unsigned_abs, List, Contains, Some, None, inl, inr, arith, refl, sym, ap, subst, ◌∙◌}
 use Rattle.std.specs.List.{range_with_len}
 use Rattle.std.specs.List.Sorted.{IsStrictlyIncreasing}
 use Rattle.std.proofs.lemmas.Int.{ints, clamps, by_lt_z}
 use Rattle.std.proofs.Math.Nat.{add_comm}
 use Rattle.std.proofs.lemmas.List.Kept.{IsStrictlyIncreasing-filter}
 use Rattle.std.proofs.lemmas.List.FromFn.{length-range_with_len, get_or-range_with_len}
-use Rattle.std.proofs.lemmas.Bool.{eqb-true, eqb-false, ne_eqb, eq-eqb}
-use Rattle.std.proofs.lemmas.Nat.{div-add-mod', div-mul-add, mod-mul-add}
+use Rattle.std.proofs.lemmas.Bool.{ne_eqb, eq-eqb}
+use Rattle.std.proofs.lemmas.Nat.{div-add-mod'}
 use Rattle.nl_fixed.specs.Numbers.{one, floor_quotient, whole_root}
 use Rattle.nl_fixed.proofs.Integers.{rounded_only}
 use Rattle.nl_grid.specs.declared.axis.Axis.{Axis}
 use Rattle.nl_grid.specs.declared.point.Point.{Point}
 use Rattle.nl_grid.specs.Ways.{shorter}
-use Rattle.nl_grid.specs.Geometry.{Plane, IsAxis, IsWithinLimits, IsInside, IsPointOf, side, length_of, begin_of, end_of, patches_of, all_patches, moved_inside, wrapped, patch_coordinate, number_of_patch, patch_at, center_of, column, row, pxcor_of, pycor_of, axis_offset, x_offset, y_offset, distance_of, steps_between, is_within, is_near, is_in_line, patches_near, neighbors_of, neighbors4_of, reach_of, box_patches}
+use Rattle.nl_grid.specs.Geometry.{Plane, IsAxis, IsWithinLimits, IsInside, side, length_of, begin_of, end_of, patches_of, all_patches, moved_inside, wrapped, patch_coordinate, number_of_patch, patch_at, center_of, column, row, pxcor_of, pycor_of, axis_offset, x_offset, y_offset, distance_of, is_within, is_near, is_in_line, patches_near, neighbors_of, neighbors4_of, reach_of, box_patches}
 use Rattle.nl_grid.specs.GeometryLaws.{IsMovedInside, IsNoShorter, IsShortest}
-use Rattle.nl_grid.proofs.AxisLemmas.{by_bool, some_same, moved_is_inside, wrapped_moved, wrapped_within, wrapped_beyond, wrapped_lies_inside}
-use Rattle.nl_grid.proofs.RangeLemmas.{by_test, in_filter, from_filter}
-use Rattle.nl_grid.proofs.ShapeLemmas.{column_below, row_below}
+use Rattle.nl_grid.proofs.AxisLemmas.{by_bool, some_same, wrapped_moved, wrapped_beyond, wrapped_lies_inside}
+use Rattle.nl_grid.proofs.RangeLemmas.{in_filter, from_filter}
 use Rattle.nl_grid.proofs.WayLemmas.{shorter_small}
 use Rattle.nl_grid.proofs.WalkLemmas.{is_other}
 use Rattle.nl_grid.proofs.FewLemmas.{filter_twice}
 use Rattle.nl_grid.proofs.TallyLemmas.{and_first, and_second}
-use Rattle.nl_grid.proofs.CoverLemmas.{column_at, row_at, offset_is_way, shorter_is_one}
+use Rattle.nl_grid.proofs.CoverLemmas.{offset_is_way, shorter_is_one}
 
 -- ---- points and patches
 

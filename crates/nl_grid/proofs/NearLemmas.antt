@@ -1,11 +1,9 @@
 -- The patches near a patch, by bands of columns and rows.
-use Rattle.std.proofs.Common.{ℕ, zero, suc, ◌+◌, ◌-◌, ◌*◌, ◌/◌, ◌%◌, ◌<◌, ◌≤◌, ◌≡◌, Bool, true, false, ◌&&◌, ℤ, pos, List, filter, arith, refl, sym, ap, subst, ◌∙◌}
+use Rattle.std.proofs.Common.{ℕ, zero, suc, ◌+◌, ◌*◌, ◌/◌, ◌%◌, ◌<◌, ◌≤◌, ◌≡◌, Bool, ◌&&◌, ℤ, filter, arith, refl, ap, ◌∙◌}
 use Rattle.std.specs.List.{range_with_len}
-use Rattle.nl_grid.specs.declared.axis.Axis.{Axis}
 use Rattle.nl_grid.specs.declared.band.Band.{Band}
 use Rattle.nl_grid.specs.Bands.{in_band, in_bands, patches_in}
 use Rattle.nl_grid.specs.Geometry.{Plane, side, patches_of, column, row, is_within, is_near, patches_near}
-use Rattle.nl_grid.proofs.RangeLemmas.{by_test}
 use Rattle.nl_grid.proofs.ShapeLemmas.{column_below, row_below}
 
 -- two tests that agree on a run keep the same numbers of it

@@ -1,15 +1,14 @@
 -- Points and patches of a plane.
-use Rattle.std.proofs.Common.{ℕ, zero, suc, ◌+◌, ◌-◌, ◌*◌, ◌/◌, ◌%◌, ◌<◌, ◌≤◌, ◌≡◌, ℤ, pos, negsuc, ◌+ℤ◌, ◌-ℤ◌, ◌*ℤ◌, ◌≤ℤ◌, ◌<ℤ◌, unsigned_abs, to_z, of_z, Option, Some, None, inl, inr, subst, arith, refl, sym, ap, ◌∙◌}
+use Rattle.std.proofs.Common.{ℕ, ◌+◌, ◌-◌, ◌*◌, ◌/◌, ◌<◌, ◌≤◌, ◌≡◌, ℤ, pos, ◌-ℤ◌, ◌*ℤ◌, unsigned_abs, to_z, of_z, Some, inl, inr, subst, arith, refl, sym, ap, ◌∙◌}
 use Rattle.std.specs.Int.{w64}
 use Rattle.std.proofs.lemmas.Int.{ints}
 use Rattle.std.proofs.lemmas.Bool.{cases_lt}
-use Rattle.std.proofs.lemmas.Nat.{mul-add-lt, div-mul-add, mod-mul-add, mul-le, mod_below, row-Below}
-use Rattle.nl_fixed.specs.Numbers.{one, limit, number_at, whole_root}
+use Rattle.std.proofs.lemmas.Nat.{mul-add-lt, mul-le, mod_below, row-Below}
+use Rattle.nl_fixed.specs.Numbers.{one, number_at, whole_root}
 use Rattle.nl_fixed.proofs.RootLemmas.{root_square}
 use Rattle.nl_grid.specs.declared.axis.Axis.{Axis}
 use Rattle.nl_grid.specs.declared.point.Point.{Point}
-use Rattle.nl_grid.specs.Geometry.{Plane, IsAxis, IsWithinLimits, IsInside, IsPointOf, side, patches_of, patch_coordinate, number_of_patch, patch_at, wrapped_point, patch_by_coordinates, axis_offset, x_offset, y_offset, distance_of, column, row, pxcor_of, pycor_of, center_of}
-use Rattle.nl_grid.proofs.AxisLemmas.{inside_small}
+use Rattle.nl_grid.specs.Geometry.{Plane, IsAxis, IsWithinLimits, IsInside, side, patches_of, patch_coordinate, number_of_patch, patch_at, wrapped_point, patch_by_coordinates, axis_offset, x_offset, y_offset, distance_of, column, row, pxcor_of, pycor_of, center_of}
 use Rattle.nl_grid.proofs.WayLemmas.{offset_small}
 
 -- the patch by its places on the axes

@@ -1,9 +1,9 @@
 -- A walk over the patches near a patch that writes down all but the patch itself.
-use Rattle.std.proofs.Common.{ℕ, zero, suc, ◌+◌, ◌-◌, ◌<◌, ◌≤◌, ◌≡◌, ◌≢◌, Bool, true, false, cond, not, ◌==◌, ◌&&◌, nat_lt, pos, List, [], ◌∷◌, ◌++◌, length, take, set, get_or, filter, find, slice_get, Option, Some, None, ◌⊎◌, inl, inr, arith, length-append, append-nil, take_all, refl, sym, ap, subst, ◌∙◌}
-use Rattle.std.proofs.Math.Seq.{take-suc-set, take-length}
+use Rattle.std.proofs.Common.{ℕ, zero, suc, ◌+◌, ◌-◌, ◌<◌, ◌≤◌, ◌≡◌, Bool, true, false, cond, not, ◌==◌, nat_lt, pos, List, [], ◌∷◌, ◌++◌, length, take, set, get_or, filter, find, slice_get, Option, Some, None, arith, length-append, append-nil, take_all, refl, sym, ap, subst, ◌∙◌}
+use Rattle.std.proofs.Math.Seq.{take-suc-set}
 use Rattle.std.proofs.lemmas.Bool.{eq-eqb, ne_eqb, ltb-true}
 use Rattle.std.proofs.lemmas.List.Elements.{filter_more}
-use Rattle.std.proofs.lemmas.Option.{slice_get_cases, get_or_from_slice_get}
+use Rattle.std.proofs.lemmas.Option.{get_or_from_slice_get}
 use Rattle.nl_grid.specs.Geometry.{Plane, patches_near, is_in_line, neighbors_of, neighbors4_of}
 use Rattle.nl_grid.proofs.RangeLemmas.{by_test, some_is}
 

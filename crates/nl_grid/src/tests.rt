@@ -132,6 +132,28 @@ fn nothing_is_outside_of_a_box_but_beyond_its_ends(rt: HostRuntime) -> Result<()
     Ok(())
 }
 
+/// The offset and the distance of two points are these.
+fn measures(
+    rt: &impl Abort,
+    shape: &Shape,
+    from: Point,
+    to: Point,
+    offset: (i64, i64),
+    distance: i64,
+)
+    requires from { IsPointOf shape.now from }
+    requires to { IsPointOf shape.now to }
+{
+    let (start, end) = (from, to);
+    let (start_again, end_again) = (from, to);
+    let (x, y) = shape.offset(from, to);
+    assert_eq!(rt; x.millionths(), offset.0);
+    assert_eq!(rt; y.millionths(), offset.1);
+    let there = shape.distance(start, end).millionths();
+    let back = shape.distance(end_again, start_again).millionths();
+    assert_eq!(rt; (there, back), (distance, distance));
+}
+
 #[test]
 fn offsets_take_the_shorter_way(rt: HostRuntime) -> Result<(), Fail> {
     let torus = Shape::new(-2, 2, -2, 2, true, true).ok_or("refused")?;
@@ -204,17 +226,14 @@ fn offsets_take_the_shorter_way(rt: HostRuntime) -> Result<(), Fail> {
             None,
         ),
     ];
-    for (shape, from, to, (across, up), distance, heading) in rows {
-        let from = point(&shape, from.0, from.1)?;
-        let to = point(&shape, to.0, to.1)?;
-        let (x, y) = shape.offset(from, to);
-        assert_eq!(rt; (x.millionths(), y.millionths()), (across, up));
-        assert_eq!(rt; shape.distance(from, to).millionths(), distance);
-        assert_eq!(rt; shape.distance(to, from).millionths(), distance);
-        let found = shape
-            .towards(from, to)
-            .map(|heading| heading.millionths() / 1_000_000);
-        assert_eq!(rt; found, heading.ok_or(SamePoint));
+    for (shape, from, to, offset, distance, heading) in rows {
+        let start = point(&shape, from.0, from.1)?;
+        let end = point(&shape, to.0, to.1)?;
+        let (start_again, end_again) = (start, end);
+        measures(&rt, &shape, start, end, offset, distance);
+        let found = shape.towards(start_again, end_again);
+        let degrees = found.map(|heading| heading.millionths() / 1_000_000);
+        assert_eq!(rt; degrees, heading.ok_or(SamePoint));
     }
     Ok(())
 }

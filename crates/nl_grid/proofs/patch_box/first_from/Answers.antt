@@ -1,5 +1,5 @@
 use Rattle.std.proofs.Common.{◌∙◌, sym}
-use Rattle.nl_grid.proofs.BandLemmas.{RowIsDone, first_in_row, done_by_row, done_by_columns, first_in_later_row, none_by_rows, none_by_columns, if_none, if_refused, in_any_case}
+use Rattle.nl_grid.proofs.BandLemmas.{RowIsDone, first_in_row, done_by_row, done_by_columns, first_in_later_row, none_by_rows, if_none, if_refused, in_any_case}
 use Rattle.nl_grid.proofs.patch_box.first_from.Goals as goal
 use Rattle.nl_grid.proofs.patch_box.first_from.Goals.{then-contains+in_default, else-contains}
 

@@ -1,7 +1,7 @@
-use Rattle.std.proofs.Common.{ℕ, ◌*◌, ◌+◌, ◌/◌, ◌<◌, ◌≤◌, ◌≡◌, pos, ◌-ℤ◌, unsigned_abs, int_div, to_z, of_z, arith}
+use Rattle.std.proofs.Common.{◌-ℤ◌, to_z, of_z, arith}
 use Rattle.std.specs.Int.{w64}
 use Rattle.std.proofs.lemmas.Int.{ints}
-use Rattle.nl_grid.proofs.AxisLemmas.{place_is, place_of_quotient}
+use Rattle.nl_grid.proofs.AxisLemmas.{place_of_quotient}
 use Rattle.nl_grid.proofs.axis.Axis.place.Goals as goal
 
 pub returns-clause-place : goal.returns-clause-place

@@ -1,4 +1,4 @@
-use Rattle.std.proofs.Common.{ℤ, pos, ◌≡◌, ◌+ℤ◌, ◌-ℤ◌, to_z, of_z, ◌∙◌, sym, ap, arith}
+use Rattle.std.proofs.Common.{pos, ◌≡◌, ◌+ℤ◌, ◌-ℤ◌, to_z, of_z, ◌∙◌, sym, ap, arith}
 use Rattle.std.specs.Int.{w64, int_rem_euclid}
 use Rattle.std.proofs.lemmas.Int.{ints}
 use Rattle.nl_grid.specs.Geometry.{begin_of, length_of, moved_inside}

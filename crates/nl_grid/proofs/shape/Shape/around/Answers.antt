@@ -1,4 +1,4 @@
-use Rattle.std.proofs.Common.{ℕ, ℤ, length, ◌≤◌, ◌*◌, to_z, of_z, ◌%◌, ◌/◌, ◌≡◌, ap, subst, sym, ◌∙◌, arith}
+use Rattle.std.proofs.Common.{ℤ, length, ◌≤◌, ◌*◌, to_z, of_z, ◌%◌, ◌/◌, ◌≡◌, ap, subst}
 use Rattle.std.specs.Int.{w64}
 use Rattle.std.proofs.lemmas.Int.{to_z-of_z}
 use Rattle.nl_grid.specs.Bands.{patches_in}

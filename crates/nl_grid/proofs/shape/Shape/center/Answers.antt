@@ -1,4 +1,4 @@
-use Rattle.std.proofs.Common.{ℕ, ◌%◌, ◌/◌, ◌≡◌, pos, ◌-ℤ◌, ◌*ℤ◌, to_z, of_z, ◌∙◌, subst, refl, ap, arith}
+use Rattle.std.proofs.Common.{◌%◌, ◌/◌, ◌≡◌, pos, ◌-ℤ◌, ◌*ℤ◌, to_z, of_z, ◌∙◌, subst, ap, arith}
 use Rattle.std.specs.Int.{w64}
 use Rattle.std.proofs.lemmas.Int.{ints}
 use Rattle.nl_fixed.specs.Numbers.{one}

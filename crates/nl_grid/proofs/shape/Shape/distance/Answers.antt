@@ -1,6 +1,6 @@
-use Rattle.std.proofs.Common.{ℕ, ◌+◌, ◌*◌, ◌≤◌, ◌≡◌, pos, unsigned_abs, subst, sym, refl, ap, arith}
+use Rattle.std.proofs.Common.{subst, arith}
 use Rattle.std.proofs.lemmas.Int.{ints}
-use Rattle.nl_grid.specs.Geometry.{Plane, IsWithinLimits, x_offset, y_offset}
+use Rattle.nl_grid.specs.Geometry.{IsWithinLimits}
 use Rattle.nl_grid.proofs.ShapeLemmas.{offset_within, root_small, distance_is}
 use Rattle.nl_grid.proofs.shape.Shape.distance.Goals as goal
 

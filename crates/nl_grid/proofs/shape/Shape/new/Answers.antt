@@ -1,7 +1,7 @@
 use Rattle.std.proofs.Common.{◌*◌, ◌≤◌, ◌≡◌, refl, arith}
 use Rattle.std.proofs.lemmas.Int.{ints}
 use Rattle.nl_grid.specs.declared.axis.Axis.{Axis}
-use Rattle.nl_grid.specs.Geometry.{IsAxis, side}
+use Rattle.nl_grid.specs.Geometry.{side}
 use Rattle.nl_grid.proofs.shape.Shape.new.Goals as goal
 
 pub returns-then-side-le-MOST_PATCHES-clause-within : goal.returns-then-side-le-MOST_PATCHES-clause-within

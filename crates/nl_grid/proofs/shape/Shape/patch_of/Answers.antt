@@ -1,5 +1,5 @@
-use Rattle.std.proofs.Common.{ℕ, ◌+◌, ◌-◌, ◌*◌, ◌<◌, ◌≡◌, subst, refl, arith}
-use Rattle.nl_grid.specs.Geometry.{Plane, side, patches_of, patch_at}
+use Rattle.std.proofs.Common.{◌+◌, ◌-◌, ◌*◌, ◌<◌, ◌≡◌, subst, refl}
+use Rattle.nl_grid.specs.Geometry.{Plane, patches_of, patch_at}
 use Rattle.nl_grid.proofs.ShapeLemmas.{patch_is, patch_below}
 use Rattle.nl_grid.proofs.shape.Shape.patch_of.Goals as goal
 
