@@ -25,7 +25,7 @@ use Rattle.nl_grid.proofs.CoverLemmas.{offset_is_way, shorter_is_one}
 
 -- ---- points and patches
 
-rounded_whole : (n : ℤ) → patch_coordinate (n *ℤ pos one) ≡ n
+pub rounded_whole : (n : ℤ) → patch_coordinate (n *ℤ pos one) ≡ n
 rounded_whole n = sym (rounded_only (n *ℤ pos one) one n (omega arith) (omega (arith, ints)) (omega (arith, ints)))
 
 pub center_patch : (plane : Plane) (patch : ℕ) → IsWithinLimits plane → patch < patches_of plane → patch_at plane (center_of plane patch) ≡ patch

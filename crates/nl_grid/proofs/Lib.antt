@@ -6,6 +6,7 @@ pub mod LawLemmas
 pub mod NearLemmas
 pub mod RangeLemmas
 pub mod ShapeLemmas
+pub mod StepLemmas
 pub mod TallyLemmas
 pub mod WalkLemmas
 pub mod WayLemmas

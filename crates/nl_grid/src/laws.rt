@@ -1,5 +1,5 @@
 //! What the definitions of the geometry mean. These functions do nothing: the contract of each is a law.
-ghost use Rattle.nl_grid.specs.GeometryLaws.{CentersLieOnTheirPatches, PatchesAreOfTheWorld, WrappingMovesBySides, WrappingHasNoPoint, OffsetsAreShortest, DistancesAreMutual, NeighborsAreOthers, NeighborsAreMutual, NeighborsAscend, Neighbors4Ascend, BoxesAscend, BoxesAreOfTheWorld};
+ghost use Rattle.nl_grid.specs.GeometryLaws.{CentersLieOnTheirPatches, PatchesAreOfTheWorld, WrappingMovesBySides, WrappingHasNoPoint, OffsetsAreShortest, DistancesAreMutual, NeighborsAreSteps, NeighborsAreOthers, NeighborsAreMutual, NeighborsAscend, Neighbors4Ascend, BoxesAscend, BoxesAreOfTheWorld};
 
 /// The center of a patch lies on it, and each point of the world on a patch of it.
 pub fn points_lie_on_patches()
@@ -31,6 +31,11 @@ pub fn neighbors_are_in_order()
     ensures ascend4 { Neighbors4Ascend }
     ensures others { NeighborsAreOthers }
     ensures back { NeighborsAreMutual }
+{}
+
+/// The neighbors of a patch are those that steps of -1, 0 and 1 on each axis lead to, but itself.
+pub fn neighbors_are_steps()
+    ensures { NeighborsAreSteps }
 {}
 
 /// The patches of a box ascend, and so each stands there once; and they are patches of the world.
