@@ -120,7 +120,8 @@ impl Shape {
 
     /// How many patches the world has. They are numbered from 0 on, row by row from the top and each from the left.
     pub fn patches(&self) -> u32
-        ensures { result ≡ patches_of self.now }
+        ensures count { result ≡ patches_of self.now }
+        ensures limits { IsWithinLimits self.now }
     {
         self.x.side() * self.y.side()
     }
