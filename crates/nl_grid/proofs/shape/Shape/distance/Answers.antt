@@ -9,7 +9,7 @@ overflow_cast-whole_root c =
     let limits = subst IsWithinLimits c.self.view_is c.self.invariant in
     let x = offset_within c.args.self.now.x c.args.from.x c.args.to.x limits.x c.requires.from.x c.requires.to.x in
     let y = offset_within c.args.self.now.y c.args.from.y c.args.to.y limits.y c.requires.from.y c.requires.to.y in
-    let small = root_small c.from-x.result c.from-y.result c.whole_root.result (omega (arith, ints, x)) (omega (arith, ints, y)) c.whole_root.ensures in
+    let small = root_small c.from-x.result c.from-y.result c.whole_root.result (omega (arith, ints, x)) (omega (arith, ints, y)) c.whole_root.ensures.value in
     omega (arith, ints, small)
 
 pub number-requires : goal.number-requires
@@ -17,7 +17,7 @@ number-requires c =
     let limits = subst IsWithinLimits c.self.view_is c.self.invariant in
     let x = offset_within c.args.self.now.x c.args.from.x c.args.to.x limits.x c.requires.from.x c.requires.to.x in
     let y = offset_within c.args.self.now.y c.args.from.y c.args.to.y limits.y c.requires.from.y c.requires.to.y in
-    let small = root_small c.from-x.result c.from-y.result c.whole_root.result (omega (arith, ints, x)) (omega (arith, ints, y)) c.whole_root.ensures in
+    let small = root_small c.from-x.result c.from-y.result c.whole_root.result (omega (arith, ints, x)) (omega (arith, ints, y)) c.whole_root.ensures.value in
     omega (arith, ints, small)
 
 pub returns : goal.returns
@@ -25,6 +25,6 @@ returns c =
     let limits = subst IsWithinLimits c.self.view_is c.self.invariant in
     let x = offset_within c.args.self.now.x c.args.from.x c.args.to.x limits.x c.requires.from.x c.requires.to.x in
     let y = offset_within c.args.self.now.y c.args.from.y c.args.to.y limits.y c.requires.from.y c.requires.to.y in
-    let small = root_small c.from-x.result c.from-y.result c.whole_root.result (omega (arith, ints, x)) (omega (arith, ints, y)) c.whole_root.ensures in
-    let is = distance_is c.args.self.now c.args.from c.args.to c.from-x.result c.from-y.result c.whole_root.result (omega (arith, ints, x)) (omega (arith, ints, y)) c.whole_root.ensures in
+    let small = root_small c.from-x.result c.from-y.result c.whole_root.result (omega (arith, ints, x)) (omega (arith, ints, y)) c.whole_root.ensures.value in
+    let is = distance_is c.args.self.now c.args.from c.args.to c.from-x.result c.from-y.result c.whole_root.result (omega (arith, ints, x)) (omega (arith, ints, y)) c.whole_root.ensures.value in
     omega (arith, ints, small, is, c.number.ensures)
