@@ -1,0 +1,12 @@
+pub mod AxisLemmas
+pub mod BandLemmas
+pub mod CoverLemmas
+pub mod FewLemmas
+pub mod LawLemmas
+pub mod NearLemmas
+pub mod RangeLemmas
+pub mod ShapeLemmas
+pub mod StepLemmas
+pub mod TallyLemmas
+pub mod WalkLemmas
+pub mod WayLemmas

@@ -1,0 +1,4 @@
+pub mod Bands
+pub mod Geometry
+pub mod Ways
+pub mod GeometryLaws
