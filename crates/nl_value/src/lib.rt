@@ -1,0 +1,12 @@
+//! Values of the language: numbers, truths, texts, lists, agents and sets of agents, with their equality, order, text and
+//! size.
+#![tactic(auto)]
+
+pub mod life;
+mod measures;
+pub mod sets;
+pub mod values;
+
+pub use life::{Life, NoLife};
+pub use sets::{AgentKind, AgentSet, Serials};
+pub use values::{Items, Value};
