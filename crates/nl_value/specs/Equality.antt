@@ -1,5 +1,5 @@
 -- When two values are the same.
-use Rattle.std.specs.Prelude.{ℕ, Bool, true, false, ◌&&◌, ◌==◌, if◌then◌else◌, List}
+use Rattle.std.specs.Prelude.{ℕ, ℤ, Bool, true, false, ◌&&◌, ◌==◌, if◌then◌else◌, List}
 use Rattle.std.specs.Ordering.{int_eq}
 use Rattle.std.specs.Str.{bytes_eq}
 use Rattle.std.specs.Bool.{beq}
@@ -45,3 +45,36 @@ abbrev mutual
 
 abbrev pub same_values : Living → Plain → Plain → Bool
 same_values w a b = alike w (settled w a) (settled w b)
+
+-- ---- the value is of a kind, with this content
+
+abbrev pub equals_number : ℤ → Plain → Bool
+equals_number m (PlainNumber n) = int_eq n m
+equals_number m b = false
+
+abbrev pub equals_truth : Bool → Plain → Bool
+equals_truth m (PlainTruth n) = beq n m
+equals_truth m b = false
+
+abbrev pub equals_words : List ℕ → Plain → Bool
+equals_words m (PlainWords n) = bytes_eq n m
+equals_words m b = false
+
+abbrev pub equals_turtle : ℕ → Plain → Bool
+equals_turtle m (PlainTurtle n) = n == m
+equals_turtle m b = false
+
+abbrev pub equals_patch : ℕ → Plain → Bool
+equals_patch m (PlainPatch n) = n == m
+equals_patch m b = false
+
+abbrev pub equals_link : ℕ → Plain → Bool
+equals_link m (PlainLink n) = n == m
+equals_link m b = false
+
+-- it is nobody or a dead agent
+abbrev pub is_gone : Living → Plain → Bool
+is_gone w (PlainTurtle n) = if w.turtle_lives n then false else true
+is_gone w (PlainLink n) = if w.link_lives n then false else true
+is_gone w PlainNobody = true
+is_gone w b = false

@@ -2,6 +2,7 @@
 //! size.
 #![tactic(auto)]
 
+pub mod equality;
 pub mod life;
 mod measures;
 pub mod sets;
