@@ -1,1 +1,3 @@
 pub mod MeasureLemmas
+pub mod Sameness
+pub mod Weighing

@@ -49,27 +49,27 @@ same_values w a b = alike w (settled w a) (settled w b)
 -- ---- the value is of a kind, with this content
 
 abbrev pub equals_number : ℤ → Plain → Bool
-equals_number m (PlainNumber n) = int_eq n m
+equals_number m (PlainNumber n) = int_eq m n
 equals_number m b = false
 
 abbrev pub equals_truth : Bool → Plain → Bool
-equals_truth m (PlainTruth n) = beq n m
+equals_truth m (PlainTruth n) = beq m n
 equals_truth m b = false
 
 abbrev pub equals_words : List ℕ → Plain → Bool
-equals_words m (PlainWords n) = bytes_eq n m
+equals_words m (PlainWords n) = bytes_eq m n
 equals_words m b = false
 
 abbrev pub equals_turtle : ℕ → Plain → Bool
-equals_turtle m (PlainTurtle n) = n == m
+equals_turtle m (PlainTurtle n) = m == n
 equals_turtle m b = false
 
 abbrev pub equals_patch : ℕ → Plain → Bool
-equals_patch m (PlainPatch n) = n == m
+equals_patch m (PlainPatch n) = m == n
 equals_patch m b = false
 
 abbrev pub equals_link : ℕ → Plain → Bool
-equals_link m (PlainLink n) = n == m
+equals_link m (PlainLink n) = m == n
 equals_link m b = false
 
 -- it is nobody or a dead agent
