@@ -1,3 +1,4 @@
 pub mod MeasureLemmas
 pub mod Sameness
 pub mod Weighing
+pub mod Joined

@@ -5,7 +5,9 @@
 pub mod equality;
 pub mod life;
 mod measures;
+pub mod order;
 pub mod sets;
+pub mod texts;
 pub mod values;
 
 pub use life::{Life, NoLife};
