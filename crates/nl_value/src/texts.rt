@@ -78,6 +78,19 @@ fn put_quoted(alloc: Global, out: &mut Str, bytes: &[u8]) -> Result<(), TextFail
     Ok(())
 }
 
+/// Appends a text as it is, or between quotes.
+fn put_words(alloc: Global, out: &mut Str, words: &Str, quoted: bool) -> Result<(), TextFail>
+    ensures ok { OnOk result (out.new ≡ out.old ++ (if quoted then quoted_text words.now else words.now)) }
+    ensures within { OnOk result (length out.new ≤ most_bytes) }
+    ensures large { result ≡ Err TextFail.TooLarge → most_bytes < length out.old + length (if quoted then quoted_text words.now else words.now) }
+{
+    if quoted {
+        put_quoted(alloc, out, words.as_bytes())
+    } else {
+        put(alloc, out, words.as_bytes())
+    }
+}
+
 /// Appends the word of a truth.
 fn put_truth(alloc: Global, out: &mut Str, truth: bool) -> Result<(), TextFail>
     ensures ok { OnOk result (out.new ≡ out.old ++ (if truth then codes "true" else codes "false")) }
@@ -109,4 +122,94 @@ fn put_named<L: Life>(
     }
     let name = life.name(alloc, value)?;
     put(alloc, out, name.as_bytes())
+}
+
+/// Appends the texts of the items, with a space between each two.
+#[cycle(text)]
+fn put_spaced<L: Life>(
+    alloc: Global,
+    out: &mut Str,
+    items: &Items,
+    life: &L,
+) -> Result<(), TextFail>
+    requires { IsTrue (all_fit (L.living life.now) (plains items.now)) }
+    ensures ok { OnOk result (out.new ≡ out.old ++ join_with_byte space (texts_of (L.living life.now) (plains items.now))) }
+    ensures large { result ≡ Err TextFail.TooLarge → most_bytes < length out.old + length (join_with_byte space (texts_of (L.living life.now) (plains items.now))) }
+{
+    let Some((first, others)) = items.list.split_first() else {
+        return Ok(());
+    };
+    put_value(alloc, out, first, true, life)?;
+    for other in others {
+        put(alloc, out, b" ")?;
+        put_value(alloc, out, other, true, life)?;
+    }
+    Ok(())
+}
+
+/// Appends the text of a list.
+#[cycle(text)]
+fn put_items<L: Life>(
+    alloc: Global,
+    out: &mut Str,
+    items: &Items,
+    life: &L,
+) -> Result<(), TextFail>
+    requires { IsTrue (all_fit (L.living life.now) (plains items.now)) }
+    ensures ok { OnOk result (out.new ≡ out.old ++ text_of (L.living life.now) false (PlainItems (plains items.now))) }
+    ensures within { OnOk result (length out.new ≤ most_bytes) }
+    ensures large { result ≡ Err TextFail.TooLarge → most_bytes < length out.old + length (text_of (L.living life.now) false (PlainItems (plains items.now))) }
+{
+    put(alloc, out, b"[")?;
+    put_spaced(alloc, out, items, life)?;
+    put(alloc, out, b"]")?;
+    Ok(())
+}
+
+/// Appends the text of a value.
+#[cycle(text)]
+fn put_value<L: Life>(
+    alloc: Global,
+    out: &mut Str,
+    value: &Value,
+    quoted: bool,
+    life: &L,
+) -> Result<(), TextFail>
+    requires { IsTrue (fits (L.living life.now) (plain value.now)) }
+    ensures ok { OnOk result (out.new ≡ out.old ++ text_of (L.living life.now) quoted (plain value.now)) }
+    ensures within { OnOk result (length out.new ≤ most_bytes) }
+    ensures large { result ≡ Err TextFail.TooLarge → most_bytes < length out.old + length (text_of (L.living life.now) quoted (plain value.now)) }
+{
+    match value {
+        Value::Number(number) => {
+            let digits = number.text(alloc)?;
+            put(alloc, out, digits.as_bytes())
+        }
+        Value::Truth(truth) => put_truth(alloc, out, *truth),
+        Value::Words(words) => put_words(alloc, out, words, quoted),
+        Value::Items(items) => put_items(alloc, out, items, life),
+        Value::Nobody => put(alloc, out, b"nobody"),
+        Value::Turtle(_) | Value::Patch(_) | Value::Link(_) | Value::Set(_) => {
+            put_named(alloc, out, value, life)
+        }
+    }
+}
+
+/// The text of a value: a number's shortest decimal form, `true` or `false`, a text as it is or between quotes with the
+/// escapes `\n`, `\t`, `\\` and `\"`, a list as `[1 "a" [2]]` with its texts between quotes, and what the `Life` names an
+/// agent or a set. The text of nobody and of a dead agent is `nobody`. A text of more than 999,999 bytes is TooLarge.
+pub fn text<L: Life>(
+    alloc: Global,
+    value: &Value,
+    quoted: bool,
+    life: &L,
+) -> Result<Str, TextFail>
+    requires { IsTrue (fits (L.living life.now) (plain value.now)) }
+    ensures text { IfOk result (λ text. text ≡ text_of (L.living life.now) quoted (plain value.now)) }
+    ensures within { IfOk result (λ text. 1 + length text ≤ 1000000) }
+    ensures large { result ≡ Err TextFail.TooLarge → 1000000 < 1 + length (text_of (L.living life.now) quoted (plain value.now)) }
+{
+    let mut out = Str::of_vec(Vec::new(alloc));
+    put_value(alloc, &mut out, value, quoted, life)?;
+    Ok(out)
 }
