@@ -2,6 +2,7 @@ pub mod Ascending
 pub mod Codes
 pub mod Equality
 pub mod Falls
+pub mod Laws
 pub mod Living
 pub mod Measures
 pub mod Order

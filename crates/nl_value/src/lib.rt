@@ -3,6 +3,7 @@
 #![tactic(auto)]
 
 pub mod equality;
+pub mod laws;
 pub mod life;
 mod measures;
 pub mod order;
