@@ -8,6 +8,7 @@ pub mod Measures
 pub mod Order
 pub mod Plain
 pub mod Sets
+pub mod SmallWorld
 pub mod Text
 pub mod Views
 pub mod Weights

@@ -8,6 +8,10 @@ pub mod life;
 mod measures;
 pub mod order;
 pub mod sets;
+#[cfg(test)]
+mod small_world;
+#[cfg(test)]
+mod tests;
 pub mod texts;
 pub mod values;
 
