@@ -54,13 +54,13 @@ sets_refl w s = both_true (same_kind (set_kind s) (set_kind s)) (bytes_eq (w.mem
 sets_symm : (w : Living) (s t : AgentSet) → same_sets w s t ≡ same_sets w t s
 sets_symm w s t =
     both_same (same_kind (set_kind s) (set_kind t)) (bytes_eq (w.members s) (w.members t)) (same_kind (set_kind t) (set_kind s)) (bytes_eq (w.members t) (w.members s))
-      (kind_symm (set_kind s) (set_kind t)) (bytes_equiv.symm (w.members s) (w.members t))
+    (kind_symm (set_kind s) (set_kind t)) (bytes_equiv.symm (w.members s) (w.members t))
 
 sets_congr : (w : Living) (s t u : AgentSet) → same_sets w s t ≡ true → same_sets w s u ≡ same_sets w t u
 sets_congr w s t u h =
     both_same (same_kind (set_kind s) (set_kind u)) (bytes_eq (w.members s) (w.members u)) (same_kind (set_kind t) (set_kind u)) (bytes_eq (w.members t) (w.members u))
-      (kind_congr (set_kind s) (set_kind t) (set_kind u) (both_left (same_kind (set_kind s) (set_kind t)) (bytes_eq (w.members s) (w.members t)) h))
-      (bytes_equiv.congr (w.members s) (w.members t) (w.members u) (both_right (same_kind (set_kind s) (set_kind t)) (bytes_eq (w.members s) (w.members t)) h))
+    (kind_congr (set_kind s) (set_kind t) (set_kind u) (both_left (same_kind (set_kind s) (set_kind t)) (bytes_eq (w.members s) (w.members t)) h))
+    (bytes_equiv.congr (w.members s) (w.members t) (w.members u) (both_right (same_kind (set_kind s) (set_kind t)) (bytes_eq (w.members s) (w.members t)) h))
 
 mutual
   alike_refl : (w : Living) (p : Plain) → alike w p p ≡ true
@@ -125,12 +125,12 @@ mutual
   all_alike_congr w (item_then p ps) (item_then q qs) no_items h = refl
   all_alike_congr w (item_then p ps) (item_then q qs) (item_then r rs) h =
       both_same (alike w p r) (all_alike w ps rs) (alike w q r) (all_alike w qs rs)
-        (alike_congr w p q r (both_left (alike w p q) (all_alike w ps qs) h))
-        (all_alike_congr w ps qs rs (both_right (alike w p q) (all_alike w ps qs) h))
+      (alike_congr w p q r (both_left (alike w p q) (all_alike w ps qs) h))
+      (all_alike_congr w ps qs rs (both_right (alike w p q) (all_alike w ps qs) h))
 
 pub same_values_equiv : (w : Living) → IsEquivalence (same_values w)
 same_values_equiv w = record {
   refl = λ a. alike_refl w (settled w a);
   symm = λ a b. alike_symm w (settled w a) (settled w b);
-  congr = λ a b c. alike_congr w (settled w a) (settled w b) (settled w c)
+  congr = λ a b c. alike_congr w (settled w a) (settled w b) (settled w c);
 }

@@ -59,7 +59,7 @@ transitive w (PlainPatch m) (PlainPatch n) (PlainPatch o) h k = ap (λ x. Some x
 transitive w (PlainPatch m) (PlainPatch n) c h k = absurd (none_some Less k)
 transitive w (PlainLink m) (PlainLink n) (PlainLink o) h k =
     chain_living (w.link_lives m) (w.link_lives n) (w.link_lives o) (slice_cmp nat_cmp (link_key w m) (link_key w n)) (slice_cmp nat_cmp (link_key w n) (link_key w o)) (slice_cmp nat_cmp (link_key w m) (link_key w o))
-      (nat_list_cmp_total.trans (link_key w m) (link_key w n) (link_key w o)) h k
+    (nat_list_cmp_total.trans (link_key w m) (link_key w n) (link_key w o)) h k
 transitive w (PlainLink m) (PlainLink n) c h k = absurd (none_some Less k)
 transitive w a b c h k = absurd (none_some Less h)
 
@@ -75,8 +75,8 @@ both_ways false false f g = refl
 eq-link_key : (w : Living) (m n : ℕ) → (m == n) ≡ bytes_eq (link_key w m) (link_key w n)
 eq-link_key w m n =
     both_ways (m == n) (bytes_eq (link_key w m) (link_key w n))
-      (λ e. (bytes_eq-Decides (link_key w m) (link_key w n)).1 (ap (link_key w) ((Decides-eqb m n).0 e)))
-      (λ e. (Decides-eqb m n).1 (ap (λ (xs : List ℕ). get_or xs 3 0) ((bytes_eq-Decides (link_key w m) (link_key w n)).0 e)))
+    (λ e. (bytes_eq-Decides (link_key w m) (link_key w n)).1 (ap (link_key w) ((Decides-eqb m n).0 e)))
+    (λ e. (Decides-eqb m n).1 (ap (λ (xs : List ℕ). get_or xs 3 0) ((bytes_eq-Decides (link_key w m) (link_key w n)).0 e)))
 
 -- what a choice of a comparison says
 lives_both : (a b : Bool) (q r : Ordering) → (if a && b then Some q else None) ≡ Some r → (a ≡ true) × (b ≡ true) × (q ≡ r)

@@ -85,5 +85,5 @@ no_life = record {
   turtle_fits = λ turtle. true;
   patch_fits = λ patch. true;
   link_fits = λ link. true;
-  set_fits = λ set. true
+  set_fits = λ set. true;
 }

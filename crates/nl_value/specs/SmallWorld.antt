@@ -24,9 +24,9 @@ small_members (SomeLinks numbers) = filter small_link_lives numbers
 
 abbrev pub small_place : ℕ → LinkPlace
 small_place n =
-  if n == 1 then record { end1 = 1; end2 = 2; breed = 0 } else
-  if n == 3 then record { end1 = 0; end2 = 1; breed = 1 } else
-  record { end1 = 0; end2 = 1; breed = 0 }
+    if n == 1 then record { end1 = 1; end2 = 2; breed = 0 } else
+    if n == 3 then record { end1 = 0; end2 = 1; breed = 1 } else
+    record { end1 = 0; end2 = 1; breed = 0 }
 
 abbrev pub small_set_name : AgentSet → List ℕ
 small_set_name (Breed breed) = codes "(agentset, 1 foxes)"
@@ -48,5 +48,5 @@ small_world = record {
   turtle_fits = λ turtle. true;
   patch_fits = λ patch. true;
   link_fits = λ link. true;
-  set_fits = λ set. true
+  set_fits = λ set. true;
 }

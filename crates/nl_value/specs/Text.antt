@@ -24,11 +24,11 @@ close_bracket = 93
 -- the four escapes: the line feed, the tab, the backslash and the quote
 abbrev pub escaped : ℕ → List ℕ
 escaped b =
-  if b == 10 then codes "\\n" else
-  if b == 9 then codes "\\t" else
-  if b == backslash then codes "\\\\" else
-  if b == quote then codes "\\\"" else
-  b ∷ []
+    if b == 10 then codes "\\n" else
+    if b == 9 then codes "\\t" else
+    if b == backslash then codes "\\\\" else
+    if b == quote then codes "\\\"" else
+    b ∷ []
 
 abbrev pub quoted_text : List ℕ → List ℕ
 quoted_text bytes = quote ∷ (flat_map escaped bytes ++ quote ∷ [])

@@ -15,7 +15,11 @@ fn living_turtles(alloc: Global, numbers: &Serials) -> Result<Vec<u64>, NoMemory
     ensures { IfOk result (λ members. members.items ≡ filter small_turtle_lives numbers.now) }
 {
     let numbers = numbers.as_slice();
-    let members = numbers.iter().copied().filter(|n| *n == 1 || *n == 2).collect(alloc)?;
+    let members = numbers
+        .iter()
+        .copied()
+        .filter(|n| *n == 1 || *n == 2)
+        .collect(alloc)?;
     Ok(members)
 }
 
@@ -24,7 +28,11 @@ fn living_links(alloc: Global, numbers: &Serials) -> Result<Vec<u64>, NoMemory>
     ensures { IfOk result (λ members. members.items ≡ filter small_link_lives numbers.now) }
 {
     let numbers = numbers.as_slice();
-    let members = numbers.iter().copied().filter(|n| 1 <= *n && *n <= 4).collect(alloc)?;
+    let members = numbers
+        .iter()
+        .copied()
+        .filter(|n| 1 <= *n && *n <= 4)
+        .collect(alloc)?;
     Ok(members)
 }
 

@@ -105,12 +105,7 @@ fn put_truth(alloc: Global, out: &mut Str, truth: bool) -> Result<(), TextFail>
 }
 
 /// Appends the text of an agent or a set.
-fn put_named<L: Life>(
-    alloc: Global,
-    out: &mut Str,
-    value: &Value,
-    life: &L,
-) -> Result<(), TextFail>
+fn put_named<L: Life>(alloc: Global, out: &mut Str, value: &Value, life: &L) -> Result<(), TextFail>
     requires named { IsTrue (has_name (plain value.now)) }
     requires fit { IsTrue (fits (L.living life.now) (plain value.now)) }
     ensures ok { OnOk result (out.new ≡ out.old ++ text_of (L.living life.now) false (plain value.now)) }
@@ -149,12 +144,7 @@ fn put_spaced<L: Life>(
 
 /// Appends the text of a list.
 #[cycle(text)]
-fn put_items<L: Life>(
-    alloc: Global,
-    out: &mut Str,
-    items: &Items,
-    life: &L,
-) -> Result<(), TextFail>
+fn put_items<L: Life>(alloc: Global, out: &mut Str, items: &Items, life: &L) -> Result<(), TextFail>
     requires { IsTrue (all_fit (L.living life.now) (plains items.now)) }
     ensures ok { OnOk result (out.new ≡ out.old ++ text_of (L.living life.now) false (PlainItems (plains items.now))) }
     ensures within { OnOk result (length out.new ≤ most_bytes) }
@@ -198,12 +188,7 @@ fn put_value<L: Life>(
 /// The text of a value: a number's shortest decimal form, `true` or `false`, a text as it is or between quotes with the
 /// escapes `\n`, `\t`, `\\` and `\"`, a list as `[1 "a" [2]]` with its texts between quotes, and what the `Life` names an
 /// agent or a set. The text of nobody and of a dead agent is `nobody`. A text of more than 999,999 bytes is TooLarge.
-pub fn text<L: Life>(
-    alloc: Global,
-    value: &Value,
-    quoted: bool,
-    life: &L,
-) -> Result<Str, TextFail>
+pub fn text<L: Life>(alloc: Global, value: &Value, quoted: bool, life: &L) -> Result<Str, TextFail>
     requires { IsTrue (fits (L.living life.now) (plain value.now)) }
     ensures text { IfOk result (λ text. text ≡ text_of (L.living life.now) quoted (plain value.now)) }
     ensures within { IfOk result (λ text. 1 + length text ≤ 1000000) }

@@ -8,7 +8,7 @@ use Rattle.nl_value.proofs.equality.+same.Goals as goal
 pub same_items-returns-then-len : goal.same_items-returns-then-len
 same_items-returns-then-len g t c =
     sym (lengths_differ (g.L.Life.living c.args.life.now) c.args.items.now c.args.others.now
-      (λ e. c.if-len.true (omega (arith, simp length-map at (ap length c.items.view_is), simp length-map at (ap length c.others.view_is)))))
+    (λ e. c.if-len.true (omega (arith, simp length-map at (ap length c.items.view_is), simp length-map at (ap length c.others.view_is)))))
 
 pub same_items-loop-i-init : goal.same_items-loop-i-init
 same_items-loop-i-init g t c = (omega arith, refl)

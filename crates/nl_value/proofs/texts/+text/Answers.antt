@@ -36,7 +36,7 @@ put_spaced-returns-in_err-put_value-2-clause-large g t c =
 pub put_spaced-loop-other-preserved : goal.put_spaced-loop-other-preserved
 put_spaced-loop-other-preserved g t c =
     written_on (g.L.Life.living c.args.life.now) c.put_value.new.out c.loop-other.out c.put.new.out c.put_value-in-loop-other.new.out c.in-Some.others.now c.loop-other.other-index c.other-item.result
-      c.loop-other-test.true c.other-item.is c.loop-other.invariant c.in_ok-put.ensures.ok c.in_ok-put_value-2.ensures.ok
+    c.loop-other-test.true c.other-item.is c.loop-other.invariant c.in_ok-put.ensures.ok c.in_ok-put_value-2.ensures.ok
 
 pub put_spaced-returns-clause-ok : goal.put_spaced-returns-clause-ok
 put_spaced-returns-clause-ok g t c =
