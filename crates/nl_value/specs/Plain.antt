@@ -1,0 +1,24 @@
+-- Values without where they lie in memory.
+use Rattle.std.specs.Prelude.{ℕ, ℤ, Bool, List, [], ◌∷◌}
+use Rattle.nl_value.specs.declared.sets.AgentSet.{AgentSet}
+
+mutual
+  pub data Plain : Type 0 where
+    PlainNumber : (count : ℤ) → Plain
+    PlainTruth : (truth : Bool) → Plain
+    PlainWords : (bytes : List ℕ) → Plain
+    PlainItems : (items : Plains) → Plain
+    PlainTurtle : (turtle : ℕ) → Plain
+    PlainPatch : (patch : ℕ) → Plain
+    PlainLink : (link : ℕ) → Plain
+    PlainNobody : Plain
+    PlainSet : (set : AgentSet) → Plain
+
+  pub data Plains : Type 0 where
+    no_items : Plains
+    item_then : (first : Plain) (rest : Plains) → Plains
+
+-- a list of plain values as the data has it
+abbrev pub plains : List Plain → Plains
+plains [] = no_items
+plains (p ∷ ps) = item_then p (plains ps)

@@ -1,0 +1,20 @@
+//! Values of the language: numbers, truths, texts, lists, agents and sets of agents, with their equality, order, text and
+//! size.
+#![tactic(auto)]
+
+pub mod equality;
+pub mod laws;
+pub mod life;
+mod measures;
+pub mod order;
+pub mod sets;
+#[cfg(test)]
+mod small_world;
+#[cfg(test)]
+mod tests;
+pub mod texts;
+pub mod values;
+
+pub use life::{Life, NoLife};
+pub use sets::{AgentKind, AgentSet, Serials};
+pub use values::{Items, Value};

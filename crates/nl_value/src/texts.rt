@@ -1,0 +1,200 @@
+//! The texts of values.
+ghost use Rattle.std.specs.Prelude.{◌≡◌, ◌+◌, ◌<◌, ◌≤◌, ◌++◌, ◌∷◌, [], length, IsTrue, IfOk, OnOk, Err, codes, false, if◌then◌else◌};
+ghost use Rattle.std.specs.List.{join_with_byte};
+ghost use Rattle.nl_value.specs.Plain.{PlainItems, plains};
+ghost use Rattle.nl_value.specs.Living.{fits, all_fit, has_name};
+ghost use Rattle.nl_value.specs.Text.{escaped, quoted_text, text_of, texts_of, space, most_bytes};
+ghost use Rattle.nl_value.specs.Views.{plain};
+
+use crate::life::Life;
+use crate::values::{Items, Value};
+use nl_fixed::{NoMemory, Str};
+use std::alloc::Global;
+use thiserror::Error;
+
+/// Why a value has no text.
+#[derive(Clone, Copy, Debug, PartialEq, Eq, Error)]
+pub enum TextFail {
+    /// The text as a value would be greater than 1,000,000.
+    #[error("the text is too large")]
+    TooLarge,
+    #[error("out of memory")]
+    NoMemory,
+}
+
+impl From<NoMemory> for TextFail {
+    ghost use Rattle.std.specs.Prelude.{◌≡◌};
+    ghost use Rattle.nl_value.specs.declared.texts.TextFail.TheVariants.{NoMemory};
+
+    ghost from_gives = { λ _ e. e ≡ NoMemory };
+
+    fn from(_refused: NoMemory) -> TextFail {
+        TextFail::NoMemory
+    }
+}
+
+/// How many bytes a text has at most.
+const MOST: usize = 999_999;
+
+/// Appends bytes, where the text stays within its limit.
+fn put(alloc: Global, out: &mut Str, more: &[u8]) -> Result<(), TextFail>
+    ensures ok { OnOk result (out.new ≡ out.old ++ more.now) }
+    ensures within { OnOk result (length out.new ≤ most_bytes) }
+    ensures large { result ≡ Err TextFail.TooLarge → most_bytes < length out.old + length more.now }
+{
+    if out.as_bytes().len().saturating_add(more.len()) > MOST {
+        return Err(TextFail::TooLarge);
+    }
+    out.append(alloc, more)?;
+    Ok(())
+}
+
+/// Appends a byte of a text between quotes.
+fn put_escaped(alloc: Global, out: &mut Str, byte: u8) -> Result<(), TextFail>
+    ensures ok { OnOk result (out.new ≡ out.old ++ escaped byte) }
+    ensures within { OnOk result (length out.new ≤ most_bytes) }
+    ensures large { result ≡ Err TextFail.TooLarge → most_bytes < length out.old + length (escaped byte) }
+{
+    match byte {
+        b'\n' => put(alloc, out, b"\\n"),
+        b'\t' => put(alloc, out, b"\\t"),
+        b'\\' => put(alloc, out, b"\\\\"),
+        b'"' => put(alloc, out, b"\\\""),
+        _ => put(alloc, out, &[byte]),
+    }
+}
+
+/// Appends a text between quotes.
+fn put_quoted(alloc: Global, out: &mut Str, bytes: &[u8]) -> Result<(), TextFail>
+    ensures ok { OnOk result (out.new ≡ out.old ++ quoted_text bytes.now) }
+    ensures within { OnOk result (length out.new ≤ most_bytes) }
+    ensures large { result ≡ Err TextFail.TooLarge → most_bytes < length out.old + length (quoted_text bytes.now) }
+{
+    put(alloc, out, b"\"")?;
+    for byte in bytes {
+        put_escaped(alloc, out, *byte)?;
+    }
+    put(alloc, out, b"\"")?;
+    Ok(())
+}
+
+/// Appends a text as it is, or between quotes.
+fn put_words(alloc: Global, out: &mut Str, words: &Str, quoted: bool) -> Result<(), TextFail>
+    ensures ok { OnOk result (out.new ≡ out.old ++ (if quoted then quoted_text words.now else words.now)) }
+    ensures within { OnOk result (length out.new ≤ most_bytes) }
+    ensures large { result ≡ Err TextFail.TooLarge → most_bytes < length out.old + length (if quoted then quoted_text words.now else words.now) }
+{
+    if quoted {
+        put_quoted(alloc, out, words.as_bytes())
+    } else {
+        put(alloc, out, words.as_bytes())
+    }
+}
+
+/// Appends the word of a truth.
+fn put_truth(alloc: Global, out: &mut Str, truth: bool) -> Result<(), TextFail>
+    ensures ok { OnOk result (out.new ≡ out.old ++ (if truth then codes "true" else codes "false")) }
+    ensures within { OnOk result (length out.new ≤ most_bytes) }
+    ensures large { result ≡ Err TextFail.TooLarge → most_bytes < length out.old + length (if truth then codes "true" else codes "false") }
+{
+    if truth {
+        put(alloc, out, b"true")
+    } else {
+        put(alloc, out, b"false")
+    }
+}
+
+/// Appends the text of an agent or a set.
+fn put_named<L: Life>(alloc: Global, out: &mut Str, value: &Value, life: &L) -> Result<(), TextFail>
+    requires named { IsTrue (has_name (plain value.now)) }
+    requires fit { IsTrue (fits (L.living life.now) (plain value.now)) }
+    ensures ok { OnOk result (out.new ≡ out.old ++ text_of (L.living life.now) false (plain value.now)) }
+    ensures within { OnOk result (length out.new ≤ most_bytes) }
+    ensures large { result ≡ Err TextFail.TooLarge → most_bytes < length out.old + length (text_of (L.living life.now) false (plain value.now)) }
+{
+    if value.is_gone(life) {
+        return put(alloc, out, b"nobody");
+    }
+    let name = life.name(alloc, value)?;
+    put(alloc, out, name.as_bytes())
+}
+
+/// Appends the texts of the items, with a space between each two.
+#[cycle(text)]
+fn put_spaced<L: Life>(
+    alloc: Global,
+    out: &mut Str,
+    items: &Items,
+    life: &L,
+) -> Result<(), TextFail>
+    requires { IsTrue (all_fit (L.living life.now) (plains items.now)) }
+    ensures ok { OnOk result (out.new ≡ out.old ++ join_with_byte space (texts_of (L.living life.now) (plains items.now))) }
+    ensures large { result ≡ Err TextFail.TooLarge → most_bytes < length out.old + length (join_with_byte space (texts_of (L.living life.now) (plains items.now))) }
+{
+    let Some((first, others)) = items.list.split_first() else {
+        return Ok(());
+    };
+    put_value(alloc, out, first, true, life)?;
+    for other in others {
+        put(alloc, out, b" ")?;
+        put_value(alloc, out, other, true, life)?;
+    }
+    Ok(())
+}
+
+/// Appends the text of a list.
+#[cycle(text)]
+fn put_items<L: Life>(alloc: Global, out: &mut Str, items: &Items, life: &L) -> Result<(), TextFail>
+    requires { IsTrue (all_fit (L.living life.now) (plains items.now)) }
+    ensures ok { OnOk result (out.new ≡ out.old ++ text_of (L.living life.now) false (PlainItems (plains items.now))) }
+    ensures within { OnOk result (length out.new ≤ most_bytes) }
+    ensures large { result ≡ Err TextFail.TooLarge → most_bytes < length out.old + length (text_of (L.living life.now) false (PlainItems (plains items.now))) }
+{
+    put(alloc, out, b"[")?;
+    put_spaced(alloc, out, items, life)?;
+    put(alloc, out, b"]")?;
+    Ok(())
+}
+
+/// Appends the text of a value.
+#[cycle(text)]
+fn put_value<L: Life>(
+    alloc: Global,
+    out: &mut Str,
+    value: &Value,
+    quoted: bool,
+    life: &L,
+) -> Result<(), TextFail>
+    requires { IsTrue (fits (L.living life.now) (plain value.now)) }
+    ensures ok { OnOk result (out.new ≡ out.old ++ text_of (L.living life.now) quoted (plain value.now)) }
+    ensures within { OnOk result (length out.new ≤ most_bytes) }
+    ensures large { result ≡ Err TextFail.TooLarge → most_bytes < length out.old + length (text_of (L.living life.now) quoted (plain value.now)) }
+{
+    match value {
+        Value::Number(number) => {
+            let digits = number.text(alloc)?;
+            put(alloc, out, digits.as_bytes())
+        }
+        Value::Truth(truth) => put_truth(alloc, out, *truth),
+        Value::Words(words) => put_words(alloc, out, words, quoted),
+        Value::Items(items) => put_items(alloc, out, items, life),
+        Value::Nobody => put(alloc, out, b"nobody"),
+        Value::Turtle(_) | Value::Patch(_) | Value::Link(_) | Value::Set(_) => {
+            put_named(alloc, out, value, life)
+        }
+    }
+}
+
+/// The text of a value: a number's shortest decimal form, `true` or `false`, a text as it is or between quotes with the
+/// escapes `\n`, `\t`, `\\` and `\"`, a list as `[1 "a" [2]]` with its texts between quotes, and what the `Life` names an
+/// agent or a set. The text of nobody and of a dead agent is `nobody`. A text of more than 999,999 bytes is TooLarge.
+pub fn text<L: Life>(alloc: Global, value: &Value, quoted: bool, life: &L) -> Result<Str, TextFail>
+    requires { IsTrue (fits (L.living life.now) (plain value.now)) }
+    ensures text { IfOk result (λ text. text ≡ text_of (L.living life.now) quoted (plain value.now)) }
+    ensures within { IfOk result (λ text. 1 + length text ≤ 1000000) }
+    ensures large { result ≡ Err TextFail.TooLarge → 1000000 < 1 + length (text_of (L.living life.now) quoted (plain value.now)) }
+{
+    let mut out = Str::of_vec(Vec::new(alloc));
+    put_value(alloc, &mut out, value, quoted, life)?;
+    Ok(out)
+}

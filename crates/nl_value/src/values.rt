@@ -1,0 +1,138 @@
+//! Values that own their memory.
+//!
+//! A value nests through its lists. What walks a value here recurses as deep as the value nests and no deeper: for values
+//! that the language makes that is at most 200. A value that is built by hand may nest deeper; each call then still gives
+//! the answer of its contract, and takes stack in proportion to the nesting.
+
+use crate::sets::AgentSet;
+use nl_fixed::{NoMemory, Num, Str};
+use std::alloc::Global;
+use std::marker::Model;
+
+/// A value. A turtle or a link is named by its serial, a patch by its number, and a value may name an agent that has died.
+#[cycle(value)]
+#[derive(Drop)]
+pub enum Value {
+    Number(Num),
+    Truth(bool),
+    Words(Str),
+    Items(Items),
+    Turtle(u64),
+    Patch(u32),
+    Link(u64),
+    Nobody,
+    Set(AgentSet),
+}
+
+/// Values in order, seen by contracts as a list of plain values.
+#[cycle(value)]
+#[derive(Drop)]
+pub struct Items {
+    pub(crate) list: Vec<Value>,
+}
+
+impl Model for Items {
+    ghost use Rattle.std.specs.Prelude.{List};
+    ghost use Rattle.std.specs.Coded.{coded_list};
+    ghost use Rattle.nl_value.specs.Plain.{Plain};
+    ghost use Rattle.nl_value.specs.Codes.{plain_code};
+    ghost use Rattle.nl_value.specs.Weights.{list_weight};
+
+    ghost Value = { List Plain };
+
+    ghost coded = { coded_list plain_code };
+
+    ghost use Rattle.std.specs.Prelude.{map};
+    ghost use Rattle.nl_value.specs.Views.{plain};
+
+    ghost view = { λ a. map plain a.list.items };
+
+    ghost size = { list_weight };
+
+    ghost use Rattle.std.proofs.Common.{arith};
+    ghost use Rattle.nl_value.specs.Falls.{falls};
+
+    ghost size_decreases = { λ a h. omega (arith, falls a.list.items) };
+}
+
+impl Items {
+    ghost use Rattle.std.specs.Prelude.{◌≡◌, ◌<◌, List, [], ◌∷◌, ◌++◌, length, map, slice_get, slice_set, Some, IfOk, OnOk, OnErr};
+    ghost use Rattle.nl_value.specs.Views.{plain};
+
+    /// No values.
+    pub fn empty(alloc: Global) -> Items
+        ensures { result ≡ [] }
+    {
+        Items {
+            list: Vec::new(alloc),
+        }
+    }
+
+    /// The values of a vector, in order, without a copy.
+    pub fn of_vec(list: Vec<Value>) -> Items
+        ensures { result ≡ map plain list.items }
+    {
+        Items { list }
+    }
+
+    /// The values, in order.
+    pub fn as_slice(&self) -> &[Value]
+        ensures { map plain result.now ≡ self.now }
+    {
+        self.list.as_slice()
+    }
+
+    /// Appends a value, or leaves the list as it was.
+    pub fn push(&mut self, _alloc: Global, value: Value) -> Result<(), NoMemory>
+        ensures ok { OnOk result (self.new ≡ self.old ++ plain value ∷ []) }
+        ensures err { OnErr result (self.new ≡ self.old) }
+    {
+        self.list.push(value)?;
+        Ok(())
+    }
+
+    /// Puts the value at a place, counted from 0, and hands back the one that stood there.
+    pub fn replace(&mut self, at: usize, value: Value) -> Value
+        requires { at < length self.old }
+        ensures new { self.new ≡ slice_set self.old at (plain value) }
+        ensures old { slice_get self.old at ≡ Some (plain result) }
+    {
+        let place = &mut self.list[at];
+        std::mem::replace(place, value)
+    }
+
+    /// The same values again.
+    #[cycle(copy)]
+    pub fn copy(&self, alloc: Global) -> Result<Items, NoMemory>
+        ensures { IfOk result (λ items. items ≡ self.now) }
+    {
+        let mut copied = Items::empty(alloc);
+        for value in &self.list {
+            let again = value.copy(alloc)?;
+            copied.push(alloc, again)?;
+        }
+        Ok(copied)
+    }
+}
+
+impl Value {
+    ghost use Rattle.std.specs.Prelude.{◌≡◌, IfOk};
+
+    /// The same value again.
+    #[cycle(copy)]
+    pub fn copy(&self, alloc: Global) -> Result<Value, NoMemory>
+        ensures { IfOk result (λ value. value ≡ self.now) }
+    {
+        match self {
+            Value::Number(number) => Ok(Value::Number(*number)),
+            Value::Truth(truth) => Ok(Value::Truth(*truth)),
+            Value::Words(words) => Ok(Value::Words(words.copy(alloc)?)),
+            Value::Items(items) => Ok(Value::Items(items.copy(alloc)?)),
+            Value::Turtle(turtle) => Ok(Value::Turtle(*turtle)),
+            Value::Patch(patch) => Ok(Value::Patch(*patch)),
+            Value::Link(link) => Ok(Value::Link(*link)),
+            Value::Nobody => Ok(Value::Nobody),
+            Value::Set(set) => Ok(Value::Set(set.copy(alloc)?)),
+        }
+    }
+}
