@@ -1,0 +1,8 @@
+//! Trees of texts, the names that a model declares, and the checked program.
+#![tactic(auto)]
+
+pub mod declared;
+pub mod tree;
+
+pub use declared::{Breed, Breeds, Declared, Form, KindsList, NamedWhat, NamedWhats, Procedure, Procedures, What};
+pub use tree::{Label, Tree, Trees};

@@ -1,0 +1,100 @@
+//! Trees of texts.
+ghost use Rattle.std.specs.Prelude.{◌≡◌, ℕ, ◌+◌, ◌<◌, [], ◌∷◌, ◌++◌, OnOk, OnErr, IfSome, map, length, slice_get};
+ghost use Rattle.std.specs.Option.{option_copied, option_map};
+ghost use Rattle.nl_tree.specs.Tree.{Node, label, span, parts};
+ghost use Rattle.nl_tree.specs.Views.{plain};
+
+use nl_fixed::{NoMemory, Num, Span, Str};
+use std::alloc::Global;
+use std::marker::Model;
+
+/// What a node of a tree is.
+#[derive(Drop)]
+pub enum Label {
+    /// A number as it is written.
+    Number(Num),
+    /// A text with its escapes resolved.
+    Text(Str),
+    /// A literal list; its parts are the items.
+    List,
+    /// A word, in lower case, with its inputs as parts: a call, an operator, a constant or a variable. `let` and `set` have the name as
+    /// first part, and `of` its block.
+    Named(Str),
+    /// The negative of its one part.
+    Negate,
+    /// A pair of parentheses; its one part is what they hold.
+    Paren,
+    /// A block of commands, or a whole body of them; its parts are the statements.
+    Commands,
+    /// A block of one expression.
+    Reporter,
+}
+
+/// A tree: what its node is, where that stands in the text, and its parts in order.
+///
+/// The span is that of a word for a node of a word, of `-` for a negation, and of the literal for a number or a text; else that of the
+/// opening bracket. The commands of a whole body have the span of their first token, or of what ends them.
+#[cycle(tree)]
+#[derive(Drop)]
+pub struct Tree {
+    pub label: Label,
+    pub span: Span,
+    pub parts: Trees,
+}
+
+/// Trees, in order.
+#[cycle(tree)]
+#[derive(Drop)]
+pub struct Trees {
+    list: Vec<Tree>,
+}
+
+impl Model for Trees {
+    ghost use Rattle.std.specs.Prelude.{List};
+    ghost use Rattle.std.specs.Coded.{coded_list};
+    ghost use Rattle.nl_tree.specs.Tree.{Node, list_size};
+    ghost use Rattle.nl_tree.specs.TreeCode.{node_code};
+
+    ghost Value = { List Node };
+
+    ghost coded = { coded_list node_code };
+
+    ghost use Rattle.std.specs.Prelude.{map};
+    ghost use Rattle.nl_tree.specs.Views.{plain};
+
+    ghost view = { λ trees. map plain trees.list.items };
+
+    ghost size = { list_size };
+
+    ghost use Rattle.std.proofs.Common.{arith};
+    ghost use Rattle.nl_tree.specs.TreeFalls.{falls};
+
+    ghost size_decreases = { λ trees h. omega (arith, falls trees.list.items) };
+}
+
+impl Trees {
+    /// No trees.
+    pub fn empty(alloc: Global) -> Trees
+        ensures { result ≡ [] }
+    {
+        Trees {
+            list: Vec::new(alloc),
+        }
+    }
+
+    /// The trees, in order.
+    pub fn as_slice(&self) -> &[Tree]
+        ensures { map plain result.now ≡ self.now }
+    {
+        self.list.as_slice()
+    }
+
+    /// Appends a tree, or leaves the list as it was.
+    pub fn push(&mut self, _alloc: Global, tree: Tree) -> Result<(), NoMemory>
+        ensures ok { OnOk result (self.new ≡ self.old ++ plain tree ∷ []) }
+        ensures err { OnErr result (self.new ≡ self.old) }
+    {
+        self.list.push(tree)?;
+        Ok(())
+    }
+}
