@@ -1,4 +1,6 @@
+pub mod Names
 pub mod Tree
 pub mod TreeCode
 pub mod TreeFalls
 pub mod Views
+pub mod Vocabulary

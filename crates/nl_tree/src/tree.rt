@@ -1,7 +1,7 @@
 //! Trees of texts.
-ghost use Rattle.std.specs.Prelude.{◌≡◌, ℕ, ◌+◌, ◌<◌, [], ◌∷◌, ◌++◌, OnOk, OnErr, IfSome, map, length, slice_get};
+ghost use Rattle.std.specs.Prelude.{◌≡◌, ℕ, ◌+◌, ◌<◌, ◌↔◌, [], ◌∷◌, ◌++◌, OnOk, OnErr, IfSome, IsSome, MatchOption, map, length, drop, slice_get};
 ghost use Rattle.std.specs.Option.{option_copied, option_map};
-ghost use Rattle.nl_tree.specs.Tree.{Node, label, span, parts};
+ghost use Rattle.nl_tree.specs.Tree.{label, span, parts, size};
 ghost use Rattle.nl_tree.specs.Views.{plain};
 
 use nl_fixed::{NoMemory, Num, Span, Str};
@@ -72,6 +72,39 @@ impl Model for Trees {
     ghost size_decreases = { λ trees h. omega (arith, falls trees.list.items) };
 }
 
+impl Tree {
+    /// What the node is.
+    pub fn label(&self) -> &Label
+        ensures { result.now ≡ label (plain self.now) }
+    {
+        &self.label
+    }
+
+    /// Where the node stands in its text.
+    pub fn span(&self) -> Span
+        ensures { result ≡ span (plain self.now) }
+    {
+        self.span
+    }
+
+    /// How many parts the node has.
+    pub fn len(&self) -> usize
+        ensures { result ≡ length (parts (plain self.now)) }
+    {
+        self.parts.len()
+    }
+
+    /// The part at a place, counted from 0.
+    pub fn part(&self, at: usize) -> Option<&Tree>
+        ensures value { option_map plain (option_copied result) ≡ slice_get (parts (plain self.now)) at }
+        ensures rest { MatchOption result (drop at (parts (plain self.now)) ≡ []) (λ part. drop at (parts (plain self.now)) ≡ plain part.now ∷ drop (at + 1) (parts (plain self.now))) }
+        ensures within { IsSome result ↔ (at < length (parts (plain self.now))) }
+        ensures smaller { IfSome result (λ part. size (plain part.now) < size (plain self.now)) }
+    {
+        self.parts.get(at)
+    }
+}
+
 impl Trees {
     /// No trees.
     pub fn empty(alloc: Global) -> Trees
@@ -89,6 +122,22 @@ impl Trees {
         self.list.as_slice()
     }
 
+    /// How many trees there are.
+    pub fn len(&self) -> usize
+        ensures { result ≡ length self.now }
+    {
+        self.list.len()
+    }
+
+    /// The tree at a place, counted from 0.
+    pub fn get(&self, at: usize) -> Option<&Tree>
+        ensures value { option_map plain (option_copied result) ≡ slice_get self.now at }
+        ensures rest { MatchOption result (drop at self.now ≡ []) (λ tree. drop at self.now ≡ plain tree.now ∷ drop (at + 1) self.now) }
+        ensures within { IsSome result ↔ (at < length self.now) }
+    {
+        tree_at(self.list.as_slice(), at)
+    }
+
     /// Appends a tree, or leaves the list as it was.
     pub fn push(&mut self, _alloc: Global, tree: Tree) -> Result<(), NoMemory>
         ensures ok { OnOk result (self.new ≡ self.old ++ plain tree ∷ []) }
@@ -97,4 +146,12 @@ impl Trees {
         self.list.push(tree)?;
         Ok(())
     }
+}
+
+fn tree_at(trees: &[Tree], at: usize) -> Option<&Tree>
+    ensures value { option_copied result ≡ slice_get trees.now at }
+    ensures rest { MatchOption result (drop at trees.now ≡ []) (λ tree. drop at trees.now ≡ tree.now ∷ drop (at + 1) trees.now) }
+    ensures within { IsSome result ↔ (at < length trees.now) }
+{
+    trees.get(at)
 }
