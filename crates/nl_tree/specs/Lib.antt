@@ -1,4 +1,6 @@
+pub mod Grammar
 pub mod Names
+pub mod Tokens
 pub mod Tree
 pub mod TreeCode
 pub mod TreeFalls
