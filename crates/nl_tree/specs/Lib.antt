@@ -1,3 +1,6 @@
+pub mod BodyFault
+pub mod Checked
+pub mod Context
 pub mod Grammar
 pub mod Names
 pub mod Tokens
