@@ -1,5 +1,6 @@
 //! The names that a model declares, and what its words are.
 ghost use Rattle.std.specs.Prelude.{◌≡◌, [], ◌∷◌, ◌++◌, OnOk, OnErr};
+ghost use Rattle.std.specs.List.Sorted.{IsPermutation, IsSortedBy};
 
 use nl_fixed::{Names, NoMemory, Str};
 use nl_words::Kinds;
@@ -174,6 +175,10 @@ impl Model for NamedWhats {
 }
 
 impl NamedWhats {
+    ghost use Rattle.std.specs.Prelude.{◌≡◌, [], ◌∷◌, ◌++◌, OnOk, OnErr};
+    ghost use Rattle.std.specs.List.Sorted.{IsPermutation, IsSortedBy};
+    ghost use Rattle.nl_tree.specs.Checked.{comes_before};
+
     /// No words.
     pub fn empty(alloc: Global) -> NamedWhats
         ensures { result ≡ [] }
@@ -181,6 +186,16 @@ impl NamedWhats {
         NamedWhats {
             list: Vec::new(alloc),
         }
+    }
+
+    /// The same words in the order of their names.
+    pub(crate) fn sorted(self) -> Vec<NamedWhat>
+        ensures moved { IsPermutation self result.items }
+        ensures sorted { IsSortedBy comes_before result.items }
+    {
+        let mut rows = self.list;
+        rows.sort_unstable_by(|a, b| a.name.as_bytes().cmp(b.name.as_bytes()));
+        rows
     }
 
     /// The words, in order.

@@ -2,7 +2,9 @@
 #![tactic(auto)]
 
 pub mod declared;
+pub mod program;
 pub mod tree;
 
 pub use declared::{Breed, Breeds, Declared, Form, KindsList, NamedWhat, NamedWhats, Procedure, Procedures, What};
+pub use program::Program;
 pub use tree::{Label, Tree, Trees};
