@@ -129,10 +129,17 @@ set_is_right first may (suc k) d h = absurd (omega (arith, h))
 
 who_is_not_set : IsFirstFault (terms bare) (sets_who ∷ []) false (uses (terms bare) everyone sets_who) NotSettable (at 1)
 unfolding rows
-who_is_not_set =
-    (set_use everyone ∷ [], who_use everyone, [],
-    (refl, set_is_right everyone refl,
-    (λ wrong. wrong Turtle (refl, unbarred (terms bare) (sets_who ∷ []) Turtle (codes "set" ∷ codes "who" ∷ []) refl), refl), refl))
+who_is_not_set = (
+  set_use everyone ∷ [],
+  who_use everyone,
+  [],
+  (
+    refl,
+    set_is_right everyone refl,
+    (λ wrong. wrong Turtle (refl, unbarred (terms bare) (sets_who ∷ []) Turtle (codes "set" ∷ codes "who" ∷ []) refl), refl),
+    refl,
+  ),
+)
 
 -- in a lone text the observer may not run it, and that comes first
 observer_has_no_who : IsWrongContext (terms bare) [] (who_use observers)
@@ -154,10 +161,17 @@ report_use = record { name = codes "report"; span = at 0; manner = Run; so_far =
 
 report_has_no_place : IsFirstFault (terms bare) (reports ∷ []) false (uses (terms bare) everyone reports) NoReport (at 0)
 unfolding rows
-report_has_no_place =
-    ([], report_use, [],
-    (refl, (λ k d h. absurd (omega (arith, h))),
-    ((λ wrong. wrong Observer (refl, unbarred (terms bare) (reports ∷ []) Observer (codes "report" ∷ []) refl)), refl, refl), refl))
+report_has_no_place = (
+  [],
+  report_use,
+  [],
+  (
+    refl,
+    (λ k d h. absurd (omega (arith, h))),
+    ((λ wrong. wrong Observer (refl, unbarred (terms bare) (reports ∷ []) Observer (codes "report" ∷ []) refl)), refl, refl),
+    refl,
+  ),
+)
 
 report_is_right_in_a_reporter : IsRight (terms bare) (reports ∷ []) true report_use
 unfolding rows

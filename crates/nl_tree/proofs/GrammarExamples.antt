@@ -56,7 +56,7 @@ minus_twice = (at 5, level_up (level_up (level_up (level_binary (level_binary (l
 of_with : IsTextOf label.Reporter
     (token Open 0 ∷ w "who" 1 ∷ token Close 2 ∷ w "of" 3 ∷ w "turtles" 4 ∷ w "with" 5 ∷ token Open 6 ∷ w "color" 7 ∷ w "=" 8 ∷ w "red" 9 ∷ token Close 10 ∷ token End 11 ∷ [])
     (named "of" 3 (two (node label.Reporter (at 0) (one (named "who" 1 none)))
-        (named "with" 5 (two (named "turtles" 4 none) (node label.Reporter (at 6) (one (named "=" 8 (two (named "color" 7 none) (named "red" 9 none)))))))))
+    (named "with" 5 (two (named "turtles" 4 none) (node label.Reporter (at 6) (one (named "=" 8 (two (named "color" 7 none) (named "red" 9 none)))))))))
 unfolding rows
 of_with =
     let equal = level_up (level_binary (lifted 5 (item closed_variable)) (lifted 4 (item closed_constant))) in
@@ -118,25 +118,31 @@ nothing_at_all = (none, refl, at_end)
 made_is_known : IsTextOf label.Commands (w "let" 0 ∷ w "x" 1 ∷ n 5 2 ∷ w "print" 3 ∷ w "x" 4 ∷ token End 5 ∷ [])
     (node label.Commands (at 0) (two (named "let" 0 (two (named "x" 1 none) (num 5 2))) (named "print" 3 (one (named "x" 4 none)))))
 unfolding rows
-made_is_known =
-    (two (named "let" 0 (two (named "x" 1 none) (num 5 2))) (named "print" 3 (one (named "x" 4 none))), refl,
-    statements (make refl (lifted 6 (item closed_number))) (statements (command (arg (arg_whole (lifted 6 (item (closed_local refl)))) no_arg)) at_end))
+made_is_known = (
+  two (named "let" 0 (two (named "x" 1 none) (num 5 2))) (named "print" 3 (one (named "x" 4 none))),
+  refl,
+  statements (make refl (lifted 6 (item closed_number))) (statements (command (arg (arg_whole (lifted 6 (item (closed_local refl)))) no_arg)) at_end),
+)
 
 made_in_parentheses_is_known : IsTextOf label.Commands (token OpenParen 0 ∷ w "let" 1 ∷ w "x" 2 ∷ n 5 3 ∷ token CloseParen 4 ∷ w "print" 5 ∷ w "x" 6 ∷ token End 7 ∷ [])
     (node label.Commands (at 0) (two (node label.Paren (at 0) (one (named "let" 1 (two (named "x" 2 none) (num 5 3))))) (named "print" 5 (one (named "x" 6 none)))))
 unfolding rows
-made_in_parentheses_is_known =
-    (two (node label.Paren (at 0) (one (named "let" 1 (two (named "x" 2 none) (num 5 3))))) (named "print" 5 (one (named "x" 6 none))), refl,
-    statements (statement_paren (make refl (lifted 6 (item closed_number)))) (statements (command (arg (arg_whole (lifted 6 (item (closed_local refl)))) no_arg)) at_end))
+made_in_parentheses_is_known = (
+  two (node label.Paren (at 0) (one (named "let" 1 (two (named "x" 2 none) (num 5 3))))) (named "print" 5 (one (named "x" 6 none))),
+  refl,
+  statements (statement_paren (make refl (lifted 6 (item closed_number)))) (statements (command (arg (arg_whole (lifted 6 (item (closed_local refl)))) no_arg)) at_end),
+)
 
 -- loop [ let x 5 ] let x 6: a block ends what it makes, and the name may be made again
 made_in_a_block_ends_with_it : IsTextOf label.Commands (w "loop" 0 ∷ token Open 1 ∷ w "let" 2 ∷ w "x" 3 ∷ n 5 4 ∷ token Close 5 ∷ w "let" 6 ∷ w "x" 7 ∷ n 6 8 ∷ token End 9 ∷ [])
     (node label.Commands (at 0) (two (named "loop" 0 (one (node label.Commands (at 1) (one (named "let" 2 (two (named "x" 3 none) (num 5 4))))))) (named "let" 6 (two (named "x" 7 none) (num 6 8)))))
 unfolding rows
 made_in_a_block_ends_with_it =
-    let block = arg_commands (statements (make refl (lifted 6 (item closed_number))) at_bracket) in
-    (two (named "loop" 0 (one (node label.Commands (at 1) (one (named "let" 2 (two (named "x" 3 none) (num 5 4))))))) (named "let" 6 (two (named "x" 7 none) (num 6 8))), refl,
-    statements (command (arg block no_arg)) (statements (make refl (lifted 6 (item closed_number))) at_end))
+    let block = arg_commands (statements (make refl (lifted 6 (item closed_number))) at_bracket) in (
+      two (named "loop" 0 (one (node label.Commands (at 1) (one (named "let" 2 (two (named "x" 3 none) (num 5 4))))))) (named "let" 6 (two (named "x" 7 none) (num 6 8))),
+      refl,
+      statements (command (arg block no_arg)) (statements (make refl (lifted 6 (item closed_number))) at_end),
+    )
 
 -- crt 1 and crt 1 [ die ]
 block_is_missing : IsTextOf label.Commands (w "crt" 0 ∷ n 1 1 ∷ token End 2 ∷ []) (node label.Commands (at 0) (one (named "crt" 0 (one (num 1 1)))))
@@ -146,17 +152,21 @@ block_is_missing = (one (named "crt" 0 (one (num 1 1))), refl, statements (comma
 block_is_there : IsTextOf label.Commands (w "crt" 0 ∷ n 1 1 ∷ token Open 2 ∷ w "die" 3 ∷ token Close 4 ∷ token End 5 ∷ [])
     (node label.Commands (at 0) (one (named "crt" 0 (two (num 1 1) (node label.Commands (at 2) (one (named "die" 3 none)))))))
 unfolding rows
-block_is_there =
-    (one (named "crt" 0 (two (num 1 1) (node label.Commands (at 2) (one (named "die" 3 none))))), refl,
-    statements (command (arg (arg_whole (lifted 6 (item closed_number))) (maybe_there (arg_commands (statements (command no_arg) at_bracket)) no_arg))) at_end)
+block_is_there = (
+  one (named "crt" 0 (two (num 1 1) (node label.Commands (at 2) (one (named "die" 3 none))))),
+  refl,
+  statements (command (arg (arg_whole (lifted 6 (item closed_number))) (maybe_there (arg_commands (statements (command no_arg) at_bracket)) no_arg))) at_end,
+)
 
 -- set color red, and ask turtles [ fd 1 ]
 variable_is_set : IsTextOf label.Commands (w "set" 0 ∷ w "color" 1 ∷ w "red" 2 ∷ token End 3 ∷ [])
     (node label.Commands (at 0) (one (named "set" 0 (two (named "color" 1 none) (named "red" 2 none)))))
 unfolding rows
-variable_is_set =
-    (one (named "set" 0 (two (named "color" 1 none) (named "red" 2 none))), refl,
-    statements (command (arg arg_variable (arg (arg_whole (lifted 6 (item closed_constant))) no_arg))) at_end)
+variable_is_set = (
+  one (named "set" 0 (two (named "color" 1 none) (named "red" 2 none))),
+  refl,
+  statements (command (arg arg_variable (arg (arg_whole (lifted 6 (item closed_constant))) no_arg))) at_end,
+)
 
 -- Depth is 1 plus the greatest depth of the parts.
 depth_counts : depth (named "-" 3 (two (named "-" 1 (two (num 2 0) (num 1 2))) (num 1 4))) ≡ 3

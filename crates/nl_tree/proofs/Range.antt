@@ -55,8 +55,8 @@ module _ (d : Declared) where
   fit_made n b [] low = tt
   fit_made n b (p ∷ ps) low =
       fit_append (made_as n (made_name b p) (row_named rows p.base)) (made_terms n b ps)
-          (fit_made_as n (made_name b p) (row_named rows p.base) low (λ r here. ltb-true r.code (length rows) (found_passes (λ x. bytes_eq x.name p.base) has_place rows r all_codes here)))
-          (fit_made n b ps low)
+      (fit_made_as n (made_name b p) (row_named rows p.base) low (λ r here. ltb-true r.code (length rows) (found_passes (λ x. bytes_eq x.name p.base) has_place rows r all_codes here)))
+      (fit_made n b ps low)
 
   fit_breeds : (n : ℕ) (bs : List Breed) → n + length bs ≤ length d.breeds → Fit (breed_terms n bs)
   fit_breeds n [] h = tt

@@ -89,13 +89,14 @@ words_of_directed_links = refl
 -- a widget that is declared as a global too, a variable of a turtle breed and of a link breed, and one of patches
 abbrev shared : Declared
 shared = record {
-    widgets = codes "speed" ∷ [];
-    globals = codes "total" ∷ codes "speed" ∷ [];
-    turtles_own = codes "energy" ∷ [];
-    patches_own = codes "grass" ∷ [];
-    links_own = [];
-    breeds = foxes ∷ ties ∷ [];
-    procedures = record { name = codes "go"; reporter = false; inputs = codes "x" ∷ []; first = 0; after = 0 } ∷ [] }
+  widgets = codes "speed" ∷ [];
+  globals = codes "total" ∷ codes "speed" ∷ [];
+  turtles_own = codes "energy" ∷ [];
+  patches_own = codes "grass" ∷ [];
+  links_own = [];
+  breeds = foxes ∷ ties ∷ [];
+  procedures = record { name = codes "go"; reporter = false; inputs = codes "x" ∷ []; first = 0; after = 0 } ∷ [];
+}
 
 sharing_is_no_duplicate : has_no_duplicate shared ≡ true
 unfolding rows

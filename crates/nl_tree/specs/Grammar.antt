@@ -46,17 +46,17 @@ pub data Ending : Type 0 where
 pub data Part : Type 0 where
   Closed : Part
   Chain : Part
-  Sides : ℕ → Part                     -- n + 1 closed
-  Call : Part                          -- a call with inputs, whose last one is an item
-  LastCall : ℕ → Part                  -- n closed and such a call
-  Items : ℕ → Part                     -- n + 1 items
-  AnyItems : Part                      -- any number of items
-  Level : ℕ → Part                     -- 0: an item; n + 1: an expression of operators up to level n + 4
-  Literals : Part                      -- what a literal list holds, and its closing bracket
-  Arg : Need → Part                    -- one input
-  Args : List Need → Part              -- inputs in order
-  Statement : List (List ℕ) → Part     -- one statement, after which these names are known
-  Statements : Ending → Part           -- statements and what ends them
+  Sides : ℕ → Part  -- n + 1 closed
+  Call : Part  -- a call with inputs, whose last one is an item
+  LastCall : ℕ → Part  -- n closed and such a call
+  Items : ℕ → Part  -- n + 1 items
+  AnyItems : Part  -- any number of items
+  Level : ℕ → Part  -- 0: an item; n + 1: an expression of operators up to level n + 4
+  Literals : Part  -- what a literal list holds, and its closing bracket
+  Arg : Need → Part  -- one input
+  Args : List Need → Part  -- inputs in order
+  Statement : List (List ℕ) → Part  -- one statement, after which these names are known
+  Statements : Ending → Part  -- statements and what ends them
 
 -- `Reads p e a c ts`: where the names `e` are known, the tokens of `a` up to its rest `c` are a `p`, with the trees `ts`.
 pub data Reads : Part → List (List ℕ) → List Tok → List Tok → Nodes → Type 0 where

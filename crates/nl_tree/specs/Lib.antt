@@ -3,6 +3,7 @@ pub mod Checked
 pub mod Context
 pub mod Grammar
 pub mod Names
+pub mod Samples
 pub mod Tokens
 pub mod Tree
 pub mod TreeCode

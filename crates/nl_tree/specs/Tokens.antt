@@ -55,20 +55,20 @@ pub data Need : Type 0 where
 -- What a word is to the grammar. A reporter's last input is told apart from those before it: with an item last it is a call that goes on as
 -- far as the item does, and with a block last it ends with the block.
 pub data Class : Type 0 where
-  Unknown : Class                      -- no row: perhaps a local
-  Constant : Class                     -- may stand in a literal list
-  Plain : Class                        -- a reporter without inputs
-  Named : Class                        -- a variable that has a row
-  Prefix : List Need → Class           -- a reporter: these inputs, then an item
-  Many : ℕ → Class                     -- a reporter of n + 1 items, or in parentheses of any number
+  Unknown : Class  -- no row: perhaps a local
+  Constant : Class  -- may stand in a literal list
+  Plain : Class  -- a reporter without inputs
+  Named : Class  -- a variable that has a row
+  Prefix : List Need → Class  -- a reporter: these inputs, then an item
+  Many : ℕ → Class  -- a reporter of n + 1 items, or in parentheses of any number
   Closing : List Need → Block → Class  -- a reporter: these inputs, then a block
   Command : List Need → Class
-  Let : Class                          -- a command: a new name, then a whole expression
-  With : Class                         -- level 1, with a reporter block on the right
-  Near : ℕ → Class                     -- level 1, with n + 1 closed right sides
+  Let : Class  -- a command: a new name, then a whole expression
+  With : Class  -- level 1, with a reporter block on the right
+  Near : ℕ → Class  -- level 1, with n + 1 closed right sides
   Of : Class
-  Binary : ℕ → Bool → Class            -- an operator of level n + 4; whether it is the minus sign
-  Nowhere : Class                      -- may stand nowhere in a body
+  Binary : ℕ → Bool → Class  -- an operator of level n + 4; whether it is the minus sign
+  Nowhere : Class  -- may stand nowhere in a body
 
 -- an input of a command, where a value is a whole expression
 abbrev pub need_of_command : Input → Need

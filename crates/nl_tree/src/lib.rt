@@ -5,6 +5,11 @@ pub mod declared;
 pub mod program;
 pub mod tree;
 
-pub use declared::{Breed, Breeds, Declared, Form, KindsList, NamedWhat, NamedWhats, Procedure, Procedures, What};
+pub use declared::{
+    Breed, Breeds, Declared, Form, KindsList, NamedWhat, NamedWhats, Procedure, Procedures, What,
+};
 pub use program::Program;
 pub use tree::{Label, Tree, Trees};
+
+#[cfg(test)]
+mod tests;

@@ -44,7 +44,13 @@ impl Model for Program {
 impl Program {
     /// The program of these declarations and bodies, with the kinds of agents that may run each body and the model's whole word table in any
     /// order.
-    pub fn new(_alloc: Global, declared: Declared, bodies: Trees, kinds: KindsList, rows: NamedWhats) -> Result<Program, NoMemory>
+    pub fn new(
+        _alloc: Global,
+        declared: Declared,
+        bodies: Trees,
+        kinds: KindsList,
+        rows: NamedWhats,
+    ) -> Result<Program, NoMemory>
         requires names { IsDeclared declared }
         requires many { AreAsMany declared bodies kinds }
         requires fit { BodiesFit declared bodies }
