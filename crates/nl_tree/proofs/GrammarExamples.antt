@@ -39,10 +39,10 @@ abbrev pub IsTextOf : Label → List Token → Node → Type 0
 IsTextOf (label.Commands) ts t = IsText form.Commands [] (marked (terms bare) ts) t
 IsTextOf l ts t = IsText form.Reporter [] (marked (terms bare) ts) t
 
-abbrev item : {e : List (List ℕ)} {a c : List Tok} {t : Node} → Reads Closed e a c (one t) → Reads (Level zero) e a c (one t)
+abbrev pub item : {e : List (List ℕ)} {a c : List Tok} {t : Node} → Reads Closed e a c (one t) → Reads (Level zero) e a c (one t)
 item d = item_chain (chain_closed d)
 
-abbrev lifted : {e : List (List ℕ)} {a c : List Tok} {t : Node} (k : ℕ) → Reads (Level zero) e a c (one t) → Reads (Level k) e a c (one t)
+abbrev pub lifted : {e : List (List ℕ)} {a c : List Tok} {t : Node} (k : ℕ) → Reads (Level zero) e a c (one t) → Reads (Level k) e a c (one t)
 lifted zero d = d
 lifted (suc k) d = level_up (lifted k d)
 

@@ -1,10 +1,12 @@
 -- What a checked program is.
-use Rattle.std.specs.Prelude.{◌≡◌, ℕ, ◌<◌, Bool, List, [], ◌∷◌, Option, Some, None, length, slice_get, refl}
+use Rattle.std.specs.Prelude.{◌≡◌, ℕ, ◌<◌, Bool, false, List, [], ◌∷◌, Option, Some, None, length, slice_get, refl}
 use Rattle.std.specs.Coded.{Coded, code_by, coded_list, coded_ℕ, coded_bool, coded×}
 use Rattle.std.specs.List.Sorted.{IsPermutation}
 use Rattle.nl_words.specs.Rows.{rows}
 use Rattle.nl_words.specs.Table.{is_before}
+use Rattle.nl_words.specs.Kinds.{everyone, observers}
 use Rattle.nl_words.specs.declared.entry.Kinds.{Kinds}
+use Rattle.nl_fixed.specs.declared.span.Span.{Span}
 use Rattle.nl_tree.specs.declared.declared.Breed.{Breed}
 use Rattle.nl_tree.specs.declared.declared.Procedure.{Procedure}
 use Rattle.nl_tree.specs.declared.declared.Declared.{Declared}
@@ -17,7 +19,7 @@ use Rattle.nl_tree.specs.TreeCode.{node_code}
 use Rattle.nl_tree.specs.Names.{IsDeclared}
 use Rattle.nl_tree.specs.Vocabulary.{terms, whats, global_names, owned_names}
 use Rattle.nl_tree.specs.BodyFault.{Fits}
-use Rattle.nl_tree.specs.Context.{IsRightBody, AreLeft}
+use Rattle.nl_tree.specs.Context.{ContextFault, uses, IsFirstFault, IsRightBody, AreLeft}
 
 -- a program without where it lies in memory
 pub record Checked : Type 0 where
@@ -36,6 +38,17 @@ BodiesFit d bodies = (i : ℕ) (p : Procedure) (t : Node) → slice_get d.proced
 -- no body has a word that no kind may run, a variable that can't be set, or a report or stop out of place
 abbrev pub BodiesAreRight : Declared → List Node → Type 0
 BodiesAreRight d bodies = (i : ℕ) (p : Procedure) (t : Node) → slice_get d.procedures i ≡ Some p → slice_get bodies i ≡ Some t → IsRightBody (terms d) bodies p.reporter t
+
+-- the first fault of a model's bodies: the first body by the order of the text that has one, and its first
+abbrev pub IsModelFault : Declared → List Node → ℕ → ContextFault → Span → Type 0
+IsModelFault d bodies i fault place =
+    (p : Procedure) × (t : Node)
+    × ((slice_get d.procedures i ≡ Some p) × (slice_get bodies i ≡ Some t) × IsFirstFault (terms d) bodies p.reporter (uses (terms d) everyone t) fault place
+    × ((j : ℕ) (q : Procedure) (u : Node) → j < i → slice_get d.procedures j ≡ Some q → slice_get bodies j ≡ Some u → IsRightBody (terms d) bodies q.reporter u))
+
+-- the first fault of a lone text that the observer runs
+abbrev pub IsLoneFault : Declared → List Node → Node → ContextFault → Span → Type 0
+IsLoneFault d bodies t fault place = IsFirstFault (terms d) bodies false (uses (terms d) observers t) fault place
 
 -- each entry has the kinds that are left at the last word of its body
 abbrev pub KindsAreLeft : Declared → List Node → List Kinds → Type 0

@@ -6,7 +6,7 @@ ghost use Rattle.nl_tree.specs.Samples.{declaring, going, going_body, base_whats
 ghost use Rattle.nl_tree.specs.Vocabulary.{whats};
 
 use crate::declared::{
-    Breeds, Declared, KindsList, NamedWhat, NamedWhats, Procedure, Procedures, What,
+    Breed, Breeds, Declared, KindsList, NamedWhat, NamedWhats, Procedure, Procedures, What,
 };
 use crate::program::Program;
 use crate::tree::{Label, Tree, Trees};
@@ -130,6 +130,29 @@ fn going_program(alloc: Global) -> Result<Program, NoMemory>
     let rows = all_rows(alloc)?;
     let program = Program::new(alloc, declared(alloc, procedures), bodies, kinds, rows)?;
     Ok(program)
+}
+
+// A breed is appended, with its names.
+#[test]
+fn breed_is_appended(rt: HostRuntime) {
+    let alloc = rt.alloc();
+    let mut breeds = Breeds::empty(alloc);
+    let Ok(plural) = Str::of(alloc, b"foxes") else {
+        panic!(rt);
+    };
+    let Ok(singular) = Str::of(alloc, b"fox") else {
+        panic!(rt);
+    };
+    let breed = Breed {
+        plural,
+        singular,
+        link: false,
+        directed: false,
+        own: Names::empty(alloc),
+    };
+    assert!(rt; breeds.push(alloc, breed).is_ok());
+    assert!(rt; breeds.as_slice().len() == 1);
+    assert!(rt; breeds.as_slice()[0].singular.as_bytes() == b"fox".as_slice());
 }
 
 // A model that declares nothing has its built-in words, and no bodies.
