@@ -1,13 +1,13 @@
 -- The faults of some texts, with the tokens marked by the whole word table of a model that declares nothing.
-use Rattle.std.proofs.Common.{◌≡◌, ℕ, zero, suc, ◌+◌, ◌<◌, ◌≤◌, Bool, true, false, not, IsTrue, List, [], ◌∷◌, ◌++◌, Option, Some, None, take, slice_get, length, get_or, All, refl, ap, ◌∙◌, sym, subst, arith, ℤ, codes}
+use Rattle.std.proofs.Common.{◌≡◌, ℕ, zero, suc, ◌+◌, ◌<◌, Bool, true, false, not, List, [], ◌∷◌, Option, Some, None, take, All, refl, ap, ◌∙◌, sym, subst, arith, ℤ, codes}
 use Rattle.nl_fixed.specs.declared.span.Span.{Span}
 use Rattle.nl_words.specs.Rows.{rows}
 use Rattle.nl_tree.specs.declared.declared.Form.TheVariants as form
 use Rattle.nl_tree.specs.Tree.{Node, Nodes}
-use Rattle.nl_tree.specs.Vocabulary.{among, terms, term_named}
-use Rattle.nl_tree.specs.Tokens.{Lexeme, Word, End, Token, IsToken, Tok, number, word, end, Class, Unknown, Binary, marked}
-use Rattle.nl_tree.specs.Grammar.{two, one, Part, Closed, Chain, Sides, Call, LastCall, Items, AnyItems, Level, Literals, Arg, Args, Statement, Statements, Reads, closed_number, closed_text, closed_constant, closed_plain, closed_variable, closed_local, closed_list, closed_block, paren, paren_many, paren_minus, chain_closed, chain_with, chain_near, call_prefix, call_many, item_chain, item_call, item_near, item_of, level_up, level_binary, arg_reporter, IsText}
-use Rattle.nl_tree.specs.BodyFault.{BeginsGood, BeginsReadable, Knows, IsUnknown, IsFaultPlace, IsTextFault, TextFault, UnknownName, Unexpected, TooDeep}
+use Rattle.nl_tree.specs.Vocabulary.{among, terms}
+use Rattle.nl_tree.specs.Tokens.{Lexeme, Word, End, Token, IsToken, Tok, number, word, end, Unknown, Binary}
+use Rattle.nl_tree.specs.Grammar.{two, Part, Closed, Chain, Sides, Call, LastCall, Items, AnyItems, Level, Literals, Arg, Args, Statement, Statements, Reads, closed_number, closed_text, closed_constant, closed_plain, closed_variable, closed_local, closed_list, closed_block, paren, paren_many, paren_minus, chain_closed, chain_with, chain_near, call_prefix, call_many, item_chain, item_call, item_near, item_of, level_up, level_binary, arg_reporter, IsText}
+use Rattle.nl_tree.specs.BodyFault.{BeginsGood, BeginsReadable, IsUnknown, IsTextFault, UnknownName, Unexpected}
 use Rattle.nl_tree.proofs.GrammarExamples.{bare, at, token, w, n, num, named, item, lifted}
 
 -- A part of one value that begins here.

@@ -1,5 +1,5 @@
 -- Who may run some texts.
-use Rattle.std.proofs.Common.{◌≡◌, ℕ, zero, suc, ◌+◌, ◌<◌, ◌⊎◌, inl, inr, Bool, true, false, not, ◌&&◌, IsTrue, List, [], ◌∷◌, ◌++◌, length, get_or, Option, Some, None, All, refl, ap, ◌∙◌, sym, subst, arith, codes}
+use Rattle.std.proofs.Common.{◌≡◌, ℕ, zero, suc, ◌<◌, inl, inr, Bool, true, false, not, ◌&&◌, List, [], ◌∷◌, length, get_or, Option, Some, None, All, refl, subst, arith, codes}
 use Rattle.std.specs.List.{list_all, Contains}
 use Rattle.std.specs.Cmp.{first_so, second_so}
 use Rattle.nl_words.specs.Rows.{rows}
@@ -10,10 +10,10 @@ use Rattle.nl_tree.specs.declared.declared.Declared.{Declared}
 use Rattle.nl_tree.specs.declared.declared.Procedure.{Procedure}
 use Rattle.nl_tree.specs.declared.declared.What.{What}
 use Rattle.nl_tree.specs.declared.declared.What.TheVariants as what
-use Rattle.nl_tree.specs.Tree.{Node, node, Nodes, none, more}
+use Rattle.nl_tree.specs.Tree.{Node, node, none}
 use Rattle.nl_tree.specs.Vocabulary.{Term, terms, term_named}
 use Rattle.nl_tree.specs.Grammar.{one, two}
-use Rattle.nl_tree.specs.Context.{Kind, Observer, Turtle, Patch, Link, allows, given, Use, uses, site_words, Run, Set, Spread, words_at, Leads, at_word, by_call, Bars, IsLeft, IsWrongContext, IsRight, IsFaultAt, IsFirstFault, IsRightBody, IsRightText, ContextFault, WrongContext, NotSettable, NoReport, is_not_settable, has_no_report, AreLeft}
+use Rattle.nl_tree.specs.Context.{Kind, Observer, Turtle, Patch, Link, allows, given, Use, uses, Run, Set, Spread, words_at, Leads, at_word, by_call, Bars, IsWrongContext, IsRight, IsFaultAt, IsFirstFault, IsRightText, WrongContext, NotSettable, NoReport, is_not_settable, has_no_report, AreLeft}
 use Rattle.nl_tree.proofs.GrammarExamples.{bare, at, num, named}
 
 -- A test: the words have no row, or one that the kind may run and that calls no procedure. Then none of them bars the kind.

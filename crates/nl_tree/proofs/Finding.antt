@@ -1,8 +1,8 @@
 -- What a look-up by name gives among a model's words.
-use Rattle.std.proofs.Common.{◌≡◌, ℕ, zero, suc, ◌+◌, ◌<◌, Bool, true, false, cond, not, List, [], ◌∷◌, map, length, get_or, Option, Some, None, Result, Ok, Err, All, bytes_eq, Ordering, sym, ap, subst, ◌∙◌, refl, arith, inl, inr, ◌&&◌, ◌||◌, find}
-use Rattle.std.specs.List.{list_any, list_all, Contains}
+use Rattle.std.proofs.Common.{◌≡◌, ℕ, zero, suc, ◌<◌, Bool, true, false, not, List, [], ◌∷◌, map, length, get_or, Some, None, Ok, Err, All, bytes_eq, Ordering, sym, ap, subst, ◌∙◌, refl, arith, inl, inr, ◌&&◌, ◌||◌, find}
+use Rattle.std.specs.List.{list_all, Contains}
 use Rattle.std.specs.List.Sorted.{IsBinarySearchResult, IsNonDecreasingBy, IsSortedBy, IsPermutation}
-use Rattle.std.specs.declared.cmp.Ordering.TheVariants.{Less, Equal, Greater}
+use Rattle.std.specs.declared.cmp.Ordering.TheVariants.{Less, Greater}
 use Rattle.std.specs.Ordering.{is_eq, nat_cmp, ordering_index}
 use Rattle.std.specs.Cmp.{first_so, second_so}
 use Rattle.std.specs.Cmp.Lexicographic.{slice_cmp}

@@ -1,5 +1,5 @@
 -- Trees of some texts, with the tokens marked by the whole word table of a model that declares nothing.
-use Rattle.std.proofs.Common.{◌≡◌, ℕ, zero, suc, ◌≤◌, Bool, true, false, IsTrue, List, [], ◌∷◌, ◌++◌, refl, arith, ℤ, pos, codes}
+use Rattle.std.proofs.Common.{◌≡◌, ℕ, zero, suc, List, [], ◌∷◌, refl, pos, codes}
 use Prim.Native.String.{String}
 use Rattle.nl_fixed.specs.declared.span.Span.{Span}
 use Rattle.nl_words.specs.Rows.{rows}
@@ -8,9 +8,9 @@ use Rattle.nl_tree.specs.declared.tree.Label.TheVariants as label
 use Rattle.nl_tree.specs.declared.declared.Declared.{Declared}
 use Rattle.nl_tree.specs.declared.declared.Form.TheVariants as form
 use Rattle.nl_tree.specs.Tree.{Node, node, Nodes, none, more, depth}
-use Rattle.nl_tree.specs.Vocabulary.{Term, terms}
-use Rattle.nl_tree.specs.Tokens.{Lexeme, Number, Text, Word, Open, Close, OpenParen, CloseParen, End, Token, Tok, marked}
-use Rattle.nl_tree.specs.Grammar.{one, two, leaf, Reads, Level, Closed, closed_number, closed_text, closed_constant, closed_plain, closed_variable, closed_local, closed_list, closed_block, paren, paren_many, paren_minus, chain_closed, chain_with, chain_near, one_side, call_prefix, last_call, call_many, one_item, more_items, no_item, any_item, item_chain, item_call, item_near, item_of, level_up, level_binary, literal_end, literal_number, literal_constant, literal_list, arg_item, arg_whole, arg_commands, arg_reporter, arg_variable, arg_local, no_arg, arg, maybe_there, maybe_missing, command, make, statement_paren, at_bracket, at_end, statements, IsText}
+use Rattle.nl_tree.specs.Vocabulary.{terms}
+use Rattle.nl_tree.specs.Tokens.{Lexeme, Number, Word, Open, Close, OpenParen, CloseParen, End, Token, Tok, marked}
+use Rattle.nl_tree.specs.Grammar.{one, two, leaf, Reads, Level, Closed, closed_number, closed_constant, closed_plain, closed_variable, closed_local, closed_list, paren, paren_many, paren_minus, chain_closed, chain_with, call_prefix, last_call, no_item, any_item, item_chain, item_call, item_near, item_of, level_up, level_binary, literal_end, literal_constant, arg_whole, arg_commands, arg_reporter, arg_variable, no_arg, arg, maybe_there, maybe_missing, command, make, statement_paren, at_bracket, at_end, statements, IsText}
 
 -- a model that declares nothing
 abbrev pub bare : Declared

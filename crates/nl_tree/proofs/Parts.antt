@@ -1,11 +1,9 @@
 -- The parts of a plain tree are those of the tree.
-use Rattle.std.proofs.Common.{◌≡◌, ℕ, zero, suc, ◌+◌, ◌<◌, ◌≤◌, List, [], ◌∷◌, map, drop, Option, Some, None, slice_get, MatchOption, IfSome, IsSome, refl, ap, ◌∙◌, sym, subst, arith, length, ◌↔◌}
+use Rattle.std.proofs.Common.{◌≡◌, ℕ, zero, suc, ◌+◌, ◌<◌, ◌≤◌, List, [], ◌∷◌, map, drop, Option, Some, None, MatchOption, IfSome, refl, ap, ◌∙◌, sym, arith}
 use Rattle.std.specs.Borrow.{Bor}
-use Rattle.std.specs.Option.{option_map, option_copied}
-use Rattle.std.proofs.lemmas.Option.{slice_get-map}
 use Rattle.std.proofs.lemmas.List.{drop-map}
 use Rattle.nl_tree.specs.declared.tree.Tree.{Tree}
-use Rattle.nl_tree.specs.Tree.{Node, node, nodes, listed, label, span, parts, size, sizes}
+use Rattle.nl_tree.specs.Tree.{Node, nodes, listed, size, sizes}
 use Rattle.nl_tree.specs.Views.{plain}
 
 pub listed_nodes : (ts : List Node) → listed (nodes ts) ≡ ts

@@ -1,5 +1,5 @@
 -- The rows of the built-in words, one after another.
-use Rattle.std.proofs.Common.{◌≡◌, ℕ, zero, suc, ◌+◌, subst, arith, lit<, List, [], ◌∷◌, ◌++◌, take, length, get_or, Option, Some, slice_get, option_map, refl, ap, ◌∙◌, sym}
+use Rattle.std.proofs.Common.{◌≡◌, ℕ, zero, suc, ◌+◌, subst, arith, lit<, List, [], ◌∷◌, ◌++◌, take, Some, slice_get, option_map, refl, ap, ◌∙◌, sym}
 use Rattle.std.proofs.lemmas.List.{take_more}
 use Rattle.std.proofs.lemmas.Option.{slice_get-map, slice_get_within, get_or_from_slice_get}
 use Rattle.nl_words.specs.Row.{Row}

@@ -1,11 +1,11 @@
 -- Good texts, and the first fault of a text that isn't good. That a text is refused at the first token with which it can no longer be read,
 -- the limit on depth and the three kinds of fault are this project's own choice.
-use Rattle.std.specs.Prelude.{◌≡◌, ℕ, ◌+◌, ◌<◌, ◌≤◌, ◌⊎◌, IsTrue, List, [], ◌∷◌, ◌++◌, Option, Some, None, length, take, slice_get, All}
+use Rattle.std.specs.Prelude.{◌≡◌, ℕ, ◌+◌, ◌<◌, ◌≤◌, IsTrue, List, [], ◌∷◌, ◌++◌, Some, None, length, take, slice_get, All}
 use Rattle.nl_fixed.specs.declared.span.Span.{Span}
 use Rattle.nl_tree.specs.declared.declared.Form.{Form}
 use Rattle.nl_tree.specs.Tree.{Node, depth}
 use Rattle.nl_tree.specs.Vocabulary.{Term, term_named}
-use Rattle.nl_tree.specs.Tokens.{Lexeme, Word, End, Token, IsToken, Tok, marked}
+use Rattle.nl_tree.specs.Tokens.{Word, End, Token, IsToken, marked}
 use Rattle.nl_tree.specs.Grammar.{IsText, knows_in}
 
 -- the greatest depth of a tree

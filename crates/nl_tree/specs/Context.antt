@@ -4,7 +4,7 @@
 use Rattle.std.specs.Prelude.{◌≡◌, ℕ, ◌==◌, ◌↔◌, ◌⊎◌, Bool, true, false, not, ◌&&◌, ◌||◌, if◌then◌else◌, IsTrue, List, [], ◌∷◌, ◌++◌, Option, Some, None, slice_get, All, bytes_eq, codes}
 use Rattle.std.specs.List.{Contains}
 use Rattle.nl_fixed.specs.declared.span.Span.{Span}
-use Rattle.nl_words.specs.Kinds.{kinds, none as nobody, everyone, observers, turtles, links, agents}
+use Rattle.nl_words.specs.Kinds.{everyone, observers, turtles, links, agents}
 use Rattle.nl_words.specs.Row.{Row, row_at}
 use Rattle.nl_words.specs.Rows.{rows}
 use Rattle.nl_words.specs.declared.entry.Role.{Role}

@@ -1,8 +1,7 @@
 -- Which declarations are accepted. That a name is declared once is the rule of the NetLogo Programming Guide; what counts as the same name,
 -- the three exceptions and the limits on numbers are this project's own choice.
-use Rattle.std.specs.Prelude.{ℕ, ◌+◌, ◌^◌, ◌<◌, Bool, true, false, ◌&&◌, ◌||◌, not, if◌then◌else◌, IsTrue, List, [], ◌∷◌, ◌++◌, map, length}
-use Rattle.std.specs.List.{list_all, list_any}
-use Rattle.nl_words.specs.Row.{row_named}
+use Rattle.std.specs.Prelude.{ℕ, ◌+◌, ◌^◌, ◌<◌, Bool, true, ◌&&◌, ◌||◌, not, if◌then◌else◌, IsTrue, List, [], ◌∷◌, ◌++◌, map, length}
+use Rattle.std.specs.List.{list_all}
 use Rattle.nl_words.specs.Rows.{rows}
 use Rattle.nl_words.specs.Table.{is_name}
 use Rattle.nl_tree.specs.declared.declared.Breed.{Breed}

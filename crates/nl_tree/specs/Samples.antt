@@ -1,6 +1,5 @@
 -- A small model, by which the tests show that a program can be had.
-use Rattle.std.specs.Prelude.{ℕ, false, List, [], ◌∷◌, map, codes}
-use Rattle.nl_fixed.specs.declared.span.Span.{Span}
+use Rattle.std.specs.Prelude.{false, List, [], map, codes}
 use Rattle.nl_words.specs.Row.{Row}
 use Rattle.nl_tree.specs.declared.tree.Label.TheVariants as label
 use Rattle.nl_tree.specs.declared.declared.Procedure.{Procedure}

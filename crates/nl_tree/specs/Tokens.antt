@@ -1,5 +1,5 @@
 -- The tokens of a text as plain data, and what a word's row makes of it for the grammar.
-use Rattle.std.specs.Prelude.{◌≡◌, ℕ, zero, suc, ◌+◌, ◌-◌, ◌==◌, Bool, true, false, ◌&&◌, if◌then◌else◌, nat_le, ℤ, IsTrue, List, [], ◌∷◌, ◌++◌, Option, Some, None, map, bytes_eq, codes}
+use Rattle.std.specs.Prelude.{ℕ, zero, suc, ◌+◌, ◌-◌, ◌==◌, Bool, true, false, ◌&&◌, if◌then◌else◌, nat_le, ℤ, IsTrue, List, [], ◌∷◌, ◌++◌, Option, Some, None, map, bytes_eq, codes}
 use Rattle.std.specs.Str.{IsUtf8}
 use Rattle.nl_words.specs.Table.{is_name}
 use Rattle.nl_words.specs.declared.entry.Role.{Role}

@@ -1,5 +1,4 @@
 -- A tree of the code, as a plain one.
-use Rattle.std.specs.Prelude.{ℕ, List, [], ◌∷◌}
 use Rattle.nl_tree.specs.declared.tree.Tree.{Tree}
 use Rattle.nl_tree.specs.Tree.{Node, node, nodes}
 

@@ -1,11 +1,11 @@
 -- The whole word table of a model: the built-in words and all words that its declarations make.
 -- What declarations make words of, and which, is that of the NetLogo Programming Guide ("Variables", "Breeds", "Procedures") and of the
 -- Dictionary. The numbers of variables, and that a variable has one row however many breeds own it, are this project's own choice.
-use Rattle.std.specs.Prelude.{ℕ, zero, suc, ◌+◌, ◌==◌, Bool, true, false, ◌||◌, ◌&&◌, not, if◌then◌else◌, List, [], ◌∷◌, ◌++◌, Option, Some, None, map, find, length, filter, bytes_eq, codes}
+use Rattle.std.specs.Prelude.{ℕ, ◌+◌, Bool, true, false, ◌||◌, not, if◌then◌else◌, List, [], ◌∷◌, ◌++◌, Option, Some, None, map, find, length, filter, bytes_eq, codes}
 use Rattle.std.specs.List.{list_any}
 use Prim.Native.String.{String}
 use Rattle.nl_words.specs.Kinds.{kinds, none, everyone}
-use Rattle.nl_words.specs.Row.{Row, row_named, row_at}
+use Rattle.nl_words.specs.Row.{Row, row_named}
 use Rattle.nl_words.specs.Rows.{rows}
 use Rattle.nl_words.specs.declared.entry.Role.{Role}
 use Rattle.nl_words.specs.declared.entry.Role.TheVariants as role

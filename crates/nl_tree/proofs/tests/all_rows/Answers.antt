@@ -1,4 +1,4 @@
-use Rattle.std.proofs.Common.{◌≡◌, sym}
+use Rattle.std.proofs.Common.{sym}
 use Rattle.nl_tree.proofs.SampleRows.{going_rows}
 use Rattle.nl_tree.proofs.tests.all_rows.Goals as goal
 

@@ -1,4 +1,3 @@
-use Rattle.std.proofs.Common.{◌≡◌}
 use Rattle.std.proofs.lemmas.List.Sorted.{IsPermutation-refl}
 use Rattle.nl_words.specs.Rows.{rows}
 use Rattle.nl_tree.specs.Samples.{base_whats}

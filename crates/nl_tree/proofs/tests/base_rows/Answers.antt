@@ -1,4 +1,4 @@
-use Rattle.std.proofs.Common.{◌≡◌, sym}
+use Rattle.std.proofs.Common.{sym}
 use Rattle.nl_words.specs.Row.{row_of}
 use Rattle.nl_words.specs.Rows.{rows}
 use Rattle.nl_tree.proofs.SampleRows.{next_row}

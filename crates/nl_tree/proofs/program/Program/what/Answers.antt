@@ -1,4 +1,4 @@
-use Rattle.std.proofs.Common.{◌≡◌, subst}
+use Rattle.std.proofs.Common.{subst}
 use Rattle.std.specs.List.{Contains}
 use Rattle.nl_tree.proofs.Finding.{looked_up, nothing}
 use Rattle.nl_tree.proofs.Range.{in_range}

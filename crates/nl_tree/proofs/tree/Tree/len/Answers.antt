@@ -1,4 +1,3 @@
-use Rattle.std.proofs.Common.{◌≡◌}
 use Rattle.nl_tree.proofs.Parts.{listed_nodes}
 use Rattle.nl_tree.proofs.tree.Tree.len.Goals as goal
 

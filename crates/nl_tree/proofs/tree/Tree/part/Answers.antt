@@ -1,4 +1,3 @@
-use Rattle.std.proofs.Common.{◌≡◌}
 use Rattle.nl_tree.proofs.Parts.{listed_nodes, smaller}
 use Rattle.nl_tree.proofs.tree.Tree.part.Goals as goal
 

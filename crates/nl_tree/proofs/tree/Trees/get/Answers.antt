@@ -1,4 +1,3 @@
-use Rattle.std.proofs.Common.{◌≡◌}
 use Rattle.nl_tree.proofs.Parts.{rest_map}
 use Rattle.nl_tree.proofs.tree.Trees.get.Goals as goal
 
