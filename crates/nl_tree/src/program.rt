@@ -3,7 +3,7 @@ ghost use Rattle.std.specs.Prelude.{◌≡◌, ◌<◌, ◌↔◌, IfOk, IfSome,
 ghost use Rattle.std.specs.Option.{option_copied, option_map};
 ghost use Rattle.std.specs.List.{Contains};
 ghost use Rattle.std.specs.List.Sorted.{IsPermutation, IsSortedBy};
-ghost use Rattle.nl_tree.specs.Checked.{comes_before, AreAsMany, BodiesFit, BodiesAreRight, KindsAreLeft, AreRows, IsInRange};
+ghost use Rattle.nl_tree.specs.Checked.{comes_before, AreAsMany, BodiesFit, BodiesAreRight, KindsAreLeft, AreRows, IsInRange, IsProgram};
 ghost use Rattle.nl_tree.specs.Names.{IsDeclared};
 ghost use Rattle.nl_tree.specs.Views.{plain};
 ghost use Rattle.nl_tree.specs.Vocabulary.{what_named};
@@ -70,7 +70,8 @@ impl Program {
 
     /// What the model declares.
     pub fn declared(&self) -> &Declared
-        ensures { result.now ≡ self.now.declared }
+        ensures value { result.now ≡ self.now.declared }
+        ensures checked { IsProgram self.now }
     {
         &self.declared
     }
@@ -78,6 +79,7 @@ impl Program {
     /// The body of the procedure at a place.
     pub fn body(&self, procedure: usize) -> Option<&Tree>
         ensures value { option_map plain (option_copied result) ≡ slice_get self.now.bodies procedure }
+        ensures checked { IsProgram self.now }
         ensures within { IsSome result ↔ (procedure < length self.now.declared.procedures) }
     {
         self.bodies.get(procedure)
