@@ -1,0 +1,12 @@
+pub mod BodyFault
+pub mod Checked
+pub mod Context
+pub mod Grammar
+pub mod Names
+pub mod Samples
+pub mod Tokens
+pub mod Tree
+pub mod TreeCode
+pub mod TreeFalls
+pub mod Views
+pub mod Vocabulary

@@ -1,0 +1,198 @@
+-- The tokens of a text as plain data, and what a word's row makes of it for the grammar.
+use Rattle.std.specs.Prelude.{ℕ, zero, suc, ◌+◌, ◌-◌, ◌==◌, Bool, true, false, ◌&&◌, if◌then◌else◌, nat_le, ℤ, IsTrue, List, [], ◌∷◌, ◌++◌, Option, Some, None, map, bytes_eq, codes}
+use Rattle.std.specs.Str.{IsUtf8}
+use Rattle.nl_words.specs.Table.{is_name}
+use Rattle.nl_words.specs.declared.entry.Role.{Role}
+use Rattle.nl_words.specs.declared.entry.Role.TheVariants as role
+use Rattle.nl_words.specs.declared.entry.Input.{Input}
+use Rattle.nl_words.specs.declared.entry.Input.TheVariants as input
+use Rattle.nl_fixed.specs.declared.span.Span.{Span}
+use Rattle.nl_tree.specs.Vocabulary.{Term, term_named}
+
+-- A token. A word is in lower case, a text has its escapes resolved, and `End` is what follows a text: the word `end` of a body, or the end
+-- of a lone text.
+pub data Lexeme : Type 0 where
+  Number : (value : ℤ) → Lexeme
+  Text : (bytes : List ℕ) → Lexeme
+  Word : (name : List ℕ) → Lexeme
+  Open : Lexeme
+  Close : Lexeme
+  OpenParen : Lexeme
+  CloseParen : Lexeme
+  End : Lexeme
+
+pub record Token : Type 0 where
+  pub lexeme : Lexeme
+  pub span : Span
+
+-- what a text can have: a word has a name's form, and the content of a text is UTF-8
+abbrev pub IsLexeme : Lexeme → Type 0
+IsLexeme (Number n) = Unit {0}
+IsLexeme (Text bytes) = IsUtf8 bytes
+IsLexeme (Word name) = IsTrue (is_name name)
+IsLexeme Open = Unit {0}
+IsLexeme Close = Unit {0}
+IsLexeme OpenParen = Unit {0}
+IsLexeme CloseParen = Unit {0}
+IsLexeme End = Unit {0}
+
+abbrev pub IsToken : Token → Type 0
+IsToken t = IsLexeme t.lexeme
+
+-- a block of commands, or of one expression
+pub data Block : Type 0 where
+  CommandsBlock : Block
+  ReporterBlock : Block
+
+-- what a word reads at one place: an item, a whole expression, a block, a block of commands that may be missing, the name of a variable
+pub data Need : Type 0 where
+  Item : Need
+  Whole : Need
+  Within : Block → Need
+  Maybe : Need
+  Variable : Need
+
+-- What a word is to the grammar. A reporter's last input is told apart from those before it: with an item last it is a call that goes on as
+-- far as the item does, and with a block last it ends with the block.
+pub data Class : Type 0 where
+  Unknown : Class  -- no row: perhaps a local
+  Constant : Class  -- may stand in a literal list
+  Plain : Class  -- a reporter without inputs
+  Named : Class  -- a variable that has a row
+  Prefix : List Need → Class  -- a reporter: these inputs, then an item
+  Many : ℕ → Class  -- a reporter of n + 1 items, or in parentheses of any number
+  Closing : List Need → Block → Class  -- a reporter: these inputs, then a block
+  Command : List Need → Class
+  Let : Class  -- a command: a new name, then a whole expression
+  With : Class  -- level 1, with a reporter block on the right
+  Near : ℕ → Class  -- level 1, with n + 1 closed right sides
+  Of : Class
+  Binary : ℕ → Bool → Class  -- an operator of level n + 4; whether it is the minus sign
+  Nowhere : Class  -- may stand nowhere in a body
+
+-- an input of a command, where a value is a whole expression
+abbrev pub need_of_command : Input → Need
+need_of_command input.Value = Whole
+need_of_command input.Expression = Whole
+need_of_command input.Commands = Within CommandsBlock
+need_of_command input.MaybeCommands = Maybe
+need_of_command input.Reporter = Within ReporterBlock
+need_of_command input.Variable = Variable
+need_of_command input.Fresh = Whole
+
+-- and of a reporter, where it is an item
+abbrev pub need_of_reporter : Input → Need
+need_of_reporter input.Value = Item
+need_of_reporter input.Expression = Whole
+need_of_reporter input.Commands = Within CommandsBlock
+need_of_reporter input.MaybeCommands = Maybe
+need_of_reporter input.Reporter = Within ReporterBlock
+need_of_reporter input.Variable = Variable
+need_of_reporter input.Fresh = Whole
+
+-- the inputs of a term: those of its row, or so many values
+abbrev pub repeated : ℕ → List Input
+repeated zero = []
+repeated (suc n) = input.Value ∷ repeated n
+
+abbrev pub inputs_of : Term → List Input
+inputs_of t = t.inputs ++ repeated t.values
+
+-- one input among those of a reporter, before what follows it
+abbrev pub before : Need → Class → Class
+before i (Prefix is) = Prefix (i ∷ is)
+before i (Closing is b) = Closing (i ∷ is) b
+before i c = Nowhere
+
+abbrev pub last_need : Need → Class
+last_need Item = Prefix []
+last_need (Within b) = Closing [] b
+last_need i = Nowhere
+
+-- a reporter with inputs, the last one told apart
+abbrev pub reporter_class : List Input → Class
+reporter_class [] = Plain
+reporter_class (i ∷ []) = last_need (need_of_reporter i)
+reporter_class (i ∷ j ∷ is) = before (need_of_reporter i) (reporter_class (j ∷ is))
+
+abbrev pub one_more : Class → Class
+one_more (Many n) = Many (n + 1)
+one_more c = Nowhere
+
+-- a reporter of any number of values
+abbrev pub many_class : List Input → Class
+many_class (input.Value ∷ []) = Many 0
+many_class (input.Value ∷ is) = one_more (many_class is)
+many_class is = Nowhere
+
+abbrev pub command_class : List Input → Class
+command_class (input.Fresh ∷ input.Value ∷ []) = Let
+command_class is = Command (map need_of_command is)
+
+-- level 1: a chain on the left, and on the right a block, or closed values
+abbrev pub near_class : List Input → Class
+near_class (input.Value ∷ input.Reporter ∷ []) = With
+near_class (input.Value ∷ input.Value ∷ []) = Near 0
+near_class (input.Value ∷ input.Value ∷ input.Value ∷ []) = Near 1
+near_class is = Nowhere
+
+-- an operator of a level
+abbrev pub operator_class : ℕ → Bool → List Input → Class
+operator_class level minus is =
+    if level == 1 then near_class is
+    else (if level == 2 then Of
+    else (if nat_le 4 level && nat_le level 9 then Binary (level - 4) minus
+    else Nowhere))
+
+abbrev pub class_by : Role → Bool → Bool → List Input → Class
+class_by role.Command many minus is = command_class is
+class_by role.Reporter true minus is = many_class is
+class_by role.Reporter false minus is = reporter_class is
+class_by (role.Operator level) many minus is = operator_class level minus is
+class_by role.Constant many minus is = Constant
+class_by role.Variable many minus is = Named
+class_by role.Reserved many minus is = Nowhere
+
+abbrev pub class_of_term : Term → Class
+class_of_term t = class_by t.role t.many (bytes_eq t.name (codes "-")) (inputs_of t)
+
+abbrev pub class_of : Option Term → Class
+class_of None = Unknown
+class_of (Some t) = class_of_term t
+
+-- A token with what its row makes of it.
+pub data Tok : Type 0 where
+  number : ℤ → Span → Tok
+  text : List ℕ → Span → Tok
+  word : List ℕ → Class → Span → Tok
+  open_bracket : Span → Tok
+  close_bracket : Span → Tok
+  open_paren : Span → Tok
+  close_paren : Span → Tok
+  end : Span → Tok
+
+abbrev pub marked_as : List Term → Span → Lexeme → Tok
+marked_as table s (Number n) = number n s
+marked_as table s (Text bytes) = text bytes s
+marked_as table s (Word name) = word name (class_of (term_named table name)) s
+marked_as table s Open = open_bracket s
+marked_as table s Close = close_bracket s
+marked_as table s OpenParen = open_paren s
+marked_as table s CloseParen = close_paren s
+marked_as table s End = end s
+
+abbrev pub mark : List Term → Token → Tok
+mark table t = marked_as table t.span t.lexeme
+
+abbrev pub marked : List Term → List Token → List Tok
+marked table ts = map (mark table) ts
+
+abbrev pub span_of : Tok → Span
+span_of (number n s) = s
+span_of (text bytes s) = s
+span_of (word w c s) = s
+span_of (open_bracket s) = s
+span_of (close_bracket s) = s
+span_of (open_paren s) = s
+span_of (close_paren s) = s
+span_of (end s) = s
