@@ -61,7 +61,10 @@ impl Life for NoLife {
         Ok(a.kind() == b.kind())
     }
 
-    fn link_before(&self, a: u64, b: u64) -> bool {
+    // No two links live here, so this asks for none.
+    fn link_before(&self, a: u64, b: u64) -> bool
+        ensures { result ≡ link_comes_before no_life a b }
+    {
         a < b
     }
 
