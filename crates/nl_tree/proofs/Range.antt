@@ -47,27 +47,28 @@ module _ (d : Declared) where
   fit_counted f limit each n [] h = tt
   fit_counted f limit each n (x ∷ xs) h = (each n x (omega (arith, h)), fit_counted f limit each (n + 1) xs (omega (arith, h)))
 
-  fit_made_as : (n : ℕ) (name : List ℕ) (o : Option Row) → n < length d.breeds → ((r : Row) → o ≡ Some r → r.code < length rows) → Fit (made_as n name o)
-  fit_made_as n name None low codes = tt
-  fit_made_as n name (Some r) low codes = ((low, codes r refl), tt)
+  fit_made_as : (n : ℕ) (name : List ℕ) (o : Option Row) → 0 < n → n ≤ length d.breeds → ((r : Row) → o ≡ Some r → r.code < length rows) → Fit (made_as n name o)
+  fit_made_as n name None some low codes = tt
+  fit_made_as n name (Some r) some low codes = ((some, low, codes r refl), tt)
 
-  fit_made : (n : ℕ) (b : Breed) (ps : List Pattern) → n < length d.breeds → Fit (made_terms n b ps)
-  fit_made n b [] low = tt
-  fit_made n b (p ∷ ps) low =
+  fit_made : (n : ℕ) (b : Breed) (ps : List Pattern) → 0 < n → n ≤ length d.breeds → Fit (made_terms n b ps)
+  fit_made n b [] some low = tt
+  fit_made n b (p ∷ ps) some low =
       fit_append (made_as n (made_name b p) (row_named rows p.base)) (made_terms n b ps)
-      (fit_made_as n (made_name b p) (row_named rows p.base) low (λ r here. ltb-true r.code (length rows) (found_passes (λ x. bytes_eq x.name p.base) has_place rows r all_codes here)))
-      (fit_made n b ps low)
+      (fit_made_as n (made_name b p) (row_named rows p.base) some low (λ r here. ltb-true r.code (length rows) (found_passes (λ x. bytes_eq x.name p.base) has_place rows r all_codes here)))
+      (fit_made n b ps some low)
 
-  fit_breeds : (n : ℕ) (bs : List Breed) → n + length bs ≤ length d.breeds → Fit (breed_terms n bs)
-  fit_breeds n [] h = tt
-  fit_breeds n (b ∷ bs) h = fit_append (made_terms n b (patterns b)) (breed_terms (n + 1) bs) (fit_made n b (patterns b) (omega (arith, h))) (fit_breeds (n + 1) bs (omega (arith, h)))
+  fit_breeds : (n : ℕ) (bs : List Breed) → 0 < n → n + length bs ≤ length d.breeds + 1 → Fit (breed_terms n bs)
+  fit_breeds n [] some h = tt
+  fit_breeds n (b ∷ bs) some h =
+      fit_append (made_terms n b (patterns b)) (breed_terms (n + 1) bs) (fit_made n b (patterns b) some (omega (arith, h))) (fit_breeds (n + 1) bs (omega arith) (omega (arith, h)))
 
   fit_terms : Fit (terms d)
   fit_terms =
       let base = fit_base rows all_codes in
       let globals = fit_counted global_term (length (global_names d)) (λ n x h. h) 0 (global_names d) (omega arith) in
       let owned = fit_counted (owned_term d) (length (owned_names d)) (λ n x h. h) 0 (owned_names d) (omega arith) in
-      let breeds = fit_breeds 0 d.breeds (omega arith) in
+      let breeds = fit_breeds 1 d.breeds (omega arith) (omega arith) in
       let procedures = fit_counted procedure_term (length d.procedures) (λ n x h. h) 0 d.procedures (omega arith) in
       fit_append _ _ (fit_append _ _ (fit_append _ _ (fit_append _ _ base globals) owned) breeds) procedures
 

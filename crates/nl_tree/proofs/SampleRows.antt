@@ -35,7 +35,7 @@ all_taken = refl
 
 pub bare_names : IsDeclared (declaring [])
 unfolding rows
-bare_names = (refl, lit< tt, lit< tt)
+bare_names = (refl, lit< tt)
 
 pub bare_rows : whats (declaring []) ≡ base_whats rows
 unfolding rows
@@ -48,7 +48,7 @@ one = declaring (going ∷ [])
 
 pub going_names : IsDeclared one
 unfolding rows
-going_names = (refl, lit< tt, lit< tt)
+going_names = (refl, lit< tt)
 
 pub going_rows : whats one ≡ base_whats rows ++ (record { name = going.name; what = what.Procedure 0 }) ∷ []
 unfolding rows

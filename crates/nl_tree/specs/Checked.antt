@@ -1,5 +1,5 @@
 -- What a checked program is.
-use Rattle.std.specs.Prelude.{◌≡◌, ℕ, ◌<◌, Bool, false, List, Some, length, slice_get, refl}
+use Rattle.std.specs.Prelude.{◌≡◌, ℕ, ◌<◌, ◌≤◌, Bool, false, List, Some, length, slice_get, refl}
 use Rattle.std.specs.Coded.{Coded, code_by, coded_list, coded_ℕ, coded_bool, coded×}
 use Rattle.std.specs.List.Sorted.{IsPermutation}
 use Rattle.nl_words.specs.Rows.{rows}
@@ -63,7 +63,7 @@ abbrev pub IsInRange : Declared → What → Type 0
 IsInRange d (what.Base code) = code < length rows
 IsInRange d (what.Global n) = n < length (global_names d)
 IsInRange d (what.Own n) = n < length (owned_names d)
-IsInRange d (what.Made n code) = (n < length d.breeds) × (code < length rows)
+IsInRange d (what.Made n code) = (0 < n) × (n ≤ length d.breeds) × (code < length rows)
 IsInRange d (what.Procedure n) = n < length d.procedures
 
 -- all that is true of every checked program

@@ -133,7 +133,8 @@ abbrev pub IsText : Form → List (List ℕ) → List Tok → Node → Type 0
 IsText form.Commands e a t = (ts : Nodes) × (t ≡ node label.Commands (span_of_first a) ts) × Reads (Statements AtEnd) e a [] ts
 IsText form.Reporter e a t = (s : Span) × Reads (Level top) e a (end s ∷ []) (one t)
 
--- Which names are known where `left` tokens are left, in a reading: those known to the statements in which that place lies.
+-- Which names are known where `left` tokens are left, in a reading: those known to the statements in which that place lies. At a closing
+-- parenthesis the statement inside of it is over, so what it makes is known there.
 abbrev lies_in : List Tok → List Tok → ℕ → Bool
 lies_in a c left = nat_lt (length c) left && nat_le left (length a)
 
@@ -143,7 +144,7 @@ knows n left (arg d ds) = knows n left d || knows n left ds
 knows n left (maybe_there d ds) = knows n left d || knows n left ds
 knows n left (maybe_missing h ds) = knows n left ds
 knows n left (command ds) = knows n left ds
-knows n left (statement_paren d) = knows n left d
+knows n left (statement_paren {f = f} {c = c} d) = (left == length c + 1) && among n f || knows n left d
 knows n left (at_bracket {e = e} {c = c}) = (left == length c + 1) && among n e
 knows n left (at_end {e = e}) = (left == 1) && among n e
 knows n left (statements {e = e} {a = a} {b = b} d ds) = lies_in a b left && among n e || knows n left d || knows n left ds

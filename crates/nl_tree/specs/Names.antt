@@ -65,5 +65,4 @@ AreWidgets names = IsTrue (are_distinct names && are_apart names (map (λ r. r.n
 abbrev pub IsDeclared : Declared → Type 0
 IsDeclared d =
     IsTrue (has_no_duplicate d && list_all is_name (all_names d) && directions_fit d)
-    × (length d.widgets < 2 ^ 24)
     × (length (all_names d) + length d.breeds + length d.procedures < 2 ^ 31)

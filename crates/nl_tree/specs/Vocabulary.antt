@@ -173,6 +173,7 @@ abbrev pub made_terms : ℕ → Breed → List Pattern → List Term
 made_terms n b [] = []
 made_terms n b (p ∷ ps) = made_as n (made_name b p) (row_named rows p.base) ++ made_terms n b ps
 
+-- The first breed has the number 1: 0 stands for turtles, or links, of no breed.
 abbrev pub breed_terms : ℕ → List Breed → List Term
 breed_terms n [] = []
 breed_terms n (b ∷ bs) = made_terms n b (patterns b) ++ breed_terms (n + 1) bs
@@ -188,7 +189,7 @@ abbrev pub terms : Declared → List Term
 terms d = map base_term rows
     ++ counted global_term 0 (global_names d)
     ++ counted (owned_term d) 0 (owned_names d)
-    ++ breed_terms 0 d.breeds
+    ++ breed_terms 1 d.breeds
     ++ counted procedure_term 0 d.procedures
 
 abbrev pub term_named : List Term → List ℕ → Option Term

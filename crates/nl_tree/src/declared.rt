@@ -62,7 +62,7 @@ pub enum What {
     /// A variable that agents own, by its place among all such names: those of turtles, patches, links and then of each breed, each name
     /// once.
     Own(u32),
-    /// A word of a breed: the breed's place, and the code of the word without a breed.
+    /// A word of a breed: the breed's number, which is 1 for the first, and the code of the word without a breed.
     Made(u32, u16),
     /// A procedure, by its place.
     Procedure(u32),
