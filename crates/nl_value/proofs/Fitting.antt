@@ -1,7 +1,7 @@
 -- Every value fits a world that asks for nothing.
 use Rattle.std.specs.Prelude.{◌≡◌, ℕ, true, refl}
 use Rattle.nl_value.specs.declared.sets.AgentSet.{AgentSet}
-use Rattle.nl_value.specs.Plain.{Plain, Plains, PlainNumber, PlainTruth, PlainWords, PlainItems, PlainTurtle, PlainPatch, PlainLink, PlainNobody, PlainSet, no_items, item_then}
+use Rattle.nl_value.specs.Plain.{Plain, Plains, PlainItems, PlainTurtle, PlainPatch, PlainLink, PlainSet, no_items, item_then}
 use Rattle.nl_value.specs.Living.{Living, fits, all_fit, no_life}
 use Rattle.nl_value.specs.SmallWorld.{small_world}
 

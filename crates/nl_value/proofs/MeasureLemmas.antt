@@ -1,5 +1,5 @@
 -- Sizes and depths of lists that grow by an item.
-use Rattle.std.specs.Prelude.{◌≡◌, ℕ, ◌+◌, ◌<◌, max, List, [], ◌∷◌, ◌++◌, length, map, take, refl}
+use Rattle.std.specs.Prelude.{◌≡◌, ℕ, ◌+◌, ◌<◌, max, List, [], ◌∷◌, ◌++◌, length, map, take}
 use Rattle.std.proofs.Common.{arith, get_or, ap, ◌∙◌, sym}
 use Rattle.std.proofs.lemmas.List.{take_more, map-append}
 use Rattle.nl_value.specs.declared.values.Value.{Value}

@@ -1,16 +1,13 @@
 -- Equality of lists, item by item.
-use Rattle.std.specs.Prelude.{◌≡◌, ℕ, zero, ℤ, ◌+◌, ◌<◌, ◌≤◌, ◌⊎◌, Bool, true, false, ◌&&◌, if◌then◌else◌, List, [], ◌∷◌, length, map, refl}
-use Rattle.std.proofs.Common.{arith, get_or, drop, suc, eqb, inl, inr, ap, ◌∙◌, sym}
+use Rattle.std.specs.Prelude.{◌≡◌, ℕ, zero, ◌+◌, ◌<◌, ◌≤◌, Bool, true, false, ◌&&◌, List, [], ◌∷◌, length, map, refl}
+use Rattle.std.proofs.Common.{arith, get_or, drop, suc, ap, ◌∙◌, sym}
 use Rattle.std.proofs.lemmas.Bool.{false≢true}
-use Rattle.std.proofs.lemmas.Bool.Decides.{nat_tests}
 use Rattle.std.proofs.lemmas.List.{drop_more}
 use Rattle.std.proofs.Math.ListN.{drop_of_length-le}
-use Rattle.std.specs.Ordering.{int_eq}
 use Rattle.nl_value.specs.declared.values.Value.{Value}
-use Rattle.nl_value.specs.declared.sets.AgentSet.{AgentSet}
-use Rattle.nl_value.specs.Plain.{Plain, Plains, PlainNumber, PlainTruth, PlainWords, PlainItems, PlainTurtle, PlainPatch, PlainLink, PlainNobody, PlainSet, no_items, item_then, plains}
-use Rattle.nl_value.specs.Living.{Living, fits, all_fit, same_sets}
-use Rattle.nl_value.specs.Equality.{settled, all_settled, alike, all_alike, same_values, equals_number, equals_truth, equals_words, equals_turtle, equals_patch, equals_link, is_gone}
+use Rattle.nl_value.specs.Plain.{Plain, plains}
+use Rattle.nl_value.specs.Living.{Living, fits, all_fit}
+use Rattle.nl_value.specs.Equality.{settled, all_settled, alike, all_alike, same_values}
 use Rattle.nl_value.specs.Views.{plain}
 
 -- two lists, as equality sees them

@@ -1,5 +1,5 @@
 -- An item weighs less than its list.
-use Rattle.std.specs.Prelude.{◌≡◌, ℕ, zero, ◌+◌, ◌<◌, List, [], ◌∷◌, length, map}
+use Rattle.std.specs.Prelude.{◌≡◌, ℕ, zero, ◌<◌, List, [], ◌∷◌, length, map}
 use Rattle.std.proofs.Common.{arith, get_or, suc, ap}
 use Rattle.nl_value.specs.declared.values.Value.{Value}
 use Rattle.nl_value.specs.Plain.{Plain, plains}

@@ -1,5 +1,5 @@
 -- An item is less than the list that holds it.
-use Rattle.std.specs.Prelude.{ℕ, ◌+◌, ◌≤◌, max, List, [], ◌∷◌, map}
+use Rattle.std.specs.Prelude.{◌≤◌, List, [], ◌∷◌, map}
 use Rattle.std.proofs.Common.{arith}
 use denote.Param.Weighed.{most, w_this}
 use Rattle.nl_value.specs.declared.values.Value.{Value}

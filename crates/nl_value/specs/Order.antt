@@ -1,10 +1,10 @@
 -- How two values compare, and which of them comes first.
-use Rattle.std.specs.Prelude.{ℕ, Bool, ◌&&◌, if◌then◌else◌, List, [], ◌∷◌, Option, Some, None}
+use Rattle.std.specs.Prelude.{Bool, ◌&&◌, if◌then◌else◌, Option, Some, None}
 use Rattle.std.specs.declared.cmp.Ordering.{Ordering}
 use Rattle.std.specs.Option.{option_map}
 use Rattle.std.specs.Ordering.{nat_cmp, int_cmp, is_lt}
 use Rattle.std.specs.Cmp.Lexicographic.{slice_cmp}
-use Rattle.nl_value.specs.Plain.{Plain, PlainNumber, PlainTruth, PlainWords, PlainItems, PlainTurtle, PlainPatch, PlainLink, PlainNobody, PlainSet}
+use Rattle.nl_value.specs.Plain.{Plain, PlainNumber, PlainWords, PlainTurtle, PlainPatch, PlainLink}
 use Rattle.nl_value.specs.Living.{Living, link_key}
 
 -- numbers compare, texts by their bytes, and two living agents of one kind: turtles and patches by their numbers, links by

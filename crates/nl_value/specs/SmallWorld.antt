@@ -3,7 +3,7 @@ use Rattle.std.specs.Prelude.{ℕ, Bool, true, ◌||◌, ◌&&◌, ◌==◌, nat
 use Rattle.std.specs.List.{filter}
 use Rattle.nl_value.specs.declared.sets.AgentSet.{AgentSet}
 use Rattle.nl_value.specs.declared.sets.AgentSet.TheVariants.{Turtles, Breed, Patches, Links, LinkBreed, SomeTurtles, SomePatches, SomeLinks}
-use Rattle.nl_value.specs.Plain.{Plain, PlainNumber, PlainTruth, PlainWords, PlainItems, PlainTurtle, PlainPatch, PlainLink, PlainNobody, PlainSet}
+use Rattle.nl_value.specs.Plain.{Plain, PlainTurtle, PlainLink, PlainSet}
 use Rattle.nl_value.specs.Living.{Living, LinkPlace}
 
 abbrev pub small_turtle_lives : ℕ → Bool

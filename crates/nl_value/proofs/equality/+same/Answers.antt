@@ -1,7 +1,6 @@
-use Rattle.std.proofs.Common.{arith, rules, refl, ap, sym, ◌∙◌, length}
+use Rattle.std.proofs.Common.{arith, refl, ap, sym, ◌∙◌, length}
 use Rattle.std.proofs.lemmas.List.{length-map}
-use Rattle.nl_value.specs.Views.{plain}
-use Rattle.nl_value.proofs.Sameness.{lengths_differ, lists_seen, rest_alike-step, rest_alike-end, rest_differs, rest_goes_on, item_fits}
+use Rattle.nl_value.proofs.Sameness.{lengths_differ, lists_seen, rest_alike-end, rest_differs, rest_goes_on, item_fits}
 use Rattle.nl_value.proofs.Weighing.{item_weighs}
 use Rattle.nl_value.proofs.equality.+same.Goals as goal
 

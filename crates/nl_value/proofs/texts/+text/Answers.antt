@@ -1,4 +1,4 @@
-use Rattle.std.proofs.Common.{◌∷◌, arith, rules, ap, sym, ◌∙◌, ◌++◌, length, length-append, append_assoc, suc}
+use Rattle.std.proofs.Common.{◌∷◌, arith, ap, sym, ◌∙◌, ◌++◌, length, length-append, suc}
 use Rattle.nl_value.proofs.Sameness.{item_fits}
 use Rattle.nl_value.proofs.Weighing.{item_weighs}
 use Rattle.nl_value.proofs.Joined.{split_seen, joined_seen, spaced_within, written_on, written_so_far}

@@ -1,4 +1,4 @@
-use Rattle.std.proofs.Common.{arith, rules, get_or, length, refl, length-append}
+use Rattle.std.proofs.Common.{arith, get_or, refl, length-append}
 use Rattle.nl_value.specs.Text.{escaped}
 use Rattle.nl_value.proofs.Joined.{pieces_within}
 use Rattle.nl_value.proofs.texts.put_quoted.Goals as goal
