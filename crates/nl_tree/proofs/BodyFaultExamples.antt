@@ -11,7 +11,7 @@ use Rattle.nl_tree.specs.BodyFault.{BeginsGood, BeginsReadable, IsUnknown, IsTex
 use Rattle.nl_tree.proofs.GrammarExamples.{bare, at, token, w, n, num, named, item, lifted}
 
 -- A part of one value that begins here.
-abbrev IsValue : Part → Type 0
+abbrev pub IsValue : Part → Type 0
 IsValue Closed = Unit {0}
 IsValue Chain = Unit {0}
 IsValue (Level l) = Unit {0}
@@ -105,7 +105,7 @@ after_number d v m s r same stops = absurd v
 refused : (m : ℤ) (s : Span) (r : List Tok) (t : Node) → Stops [] r → IsText form.Reporter [] (number m s ∷ r) t → ⊥
 refused m s r t stops (q, d) = absurd (subst (Stops []) (sym (after_number d tt m s r refl stops)) stops)
 
-all_one : (t : Token) → IsToken t → All IsToken (t ∷ [])
+pub all_one : (t : Token) → IsToken t → All IsToken (t ∷ [])
 all_one t h zero d l = h
 all_one t h (suc k) d l = absurd (omega (arith, l))
 
@@ -141,11 +141,11 @@ two_before_more next last zero h = number_begins
 two_before_more next last (suc zero) h = sum_begins
 two_before_more next last (suc (suc j)) h = absurd (omega (arith, h))
 
-abbrev is_word : Lexeme → Bool
+abbrev pub is_word : Lexeme → Bool
 is_word (Word name) = true
 is_word l = false
 
-abbrev word_there : Option Token → Bool
+abbrev pub word_there : Option Token → Bool
 word_there None = false
 word_there (Some t) = is_word t.lexeme
 

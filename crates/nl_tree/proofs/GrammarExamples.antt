@@ -1,5 +1,5 @@
 -- Trees of some texts, with the tokens marked by the whole word table of a model that declares nothing.
-use Rattle.std.proofs.Common.{◌≡◌, ℕ, zero, suc, List, [], ◌∷◌, refl, pos, codes}
+use Rattle.std.proofs.Common.{◌≡◌, ℕ, zero, suc, true, false, List, [], ◌∷◌, refl, pos, codes}
 use Prim.Native.String.{String}
 use Rattle.nl_fixed.specs.declared.span.Span.{Span}
 use Rattle.nl_words.specs.Rows.{rows}
@@ -10,7 +10,7 @@ use Rattle.nl_tree.specs.declared.declared.Form.TheVariants as form
 use Rattle.nl_tree.specs.Tree.{Node, node, Nodes, none, more, depth}
 use Rattle.nl_tree.specs.Vocabulary.{terms}
 use Rattle.nl_tree.specs.Tokens.{Lexeme, Number, Word, Open, Close, OpenParen, CloseParen, End, Token, Tok, marked}
-use Rattle.nl_tree.specs.Grammar.{one, two, leaf, Reads, Level, Closed, closed_number, closed_constant, closed_plain, closed_variable, closed_local, closed_list, paren, paren_many, paren_minus, chain_closed, chain_with, call_prefix, last_call, no_item, any_item, item_chain, item_call, item_near, item_of, level_up, level_binary, literal_end, literal_constant, arg_whole, arg_commands, arg_reporter, arg_variable, no_arg, arg, maybe_there, maybe_missing, command, make, statement_paren, at_bracket, at_end, statements, IsText}
+use Rattle.nl_tree.specs.Grammar.{one, two, leaf, Reads, Level, Closed, Statements, AtEnd, knows, closed_number, closed_constant, closed_plain, closed_variable, closed_local, closed_list, paren, paren_many, paren_minus, chain_closed, chain_with, call_prefix, last_call, no_item, any_item, item_chain, item_call, item_near, item_of, level_up, level_binary, literal_end, literal_constant, arg_whole, arg_commands, arg_reporter, arg_variable, no_arg, arg, maybe_there, maybe_missing, command, make, statement_paren, at_bracket, at_end, statements, IsText}
 
 -- a model that declares nothing
 abbrev pub bare : Declared
@@ -132,6 +132,19 @@ made_in_parentheses_is_known = (
   refl,
   statements (statement_paren (make refl (lifted 6 (item closed_number)))) (statements (command (arg (arg_whole (lifted 6 (item (closed_local refl)))) no_arg)) at_end),
 )
+
+-- x is known at the parenthesis that closes its statement, and isn't at the number before it
+made_in_parentheses_reads : Reads (Statements AtEnd) [] (marked (terms bare) (token OpenParen 0 ∷ w "let" 1 ∷ w "x" 2 ∷ n 5 3 ∷ token CloseParen 4 ∷ token End 5 ∷ [])) [] (one (node label.Paren (at 0) (one (named "let" 1 (two (named "x" 2 none) (num 5 3))))))
+unfolding rows
+made_in_parentheses_reads = statements (statement_paren (make refl (lifted 6 (item closed_number)))) at_end
+
+known_at_the_parenthesis : knows (codes "x") 2 made_in_parentheses_reads ≡ true
+unfolding rows made_in_parentheses_reads
+known_at_the_parenthesis = refl
+
+not_known_at_the_number : knows (codes "x") 3 made_in_parentheses_reads ≡ false
+unfolding rows made_in_parentheses_reads
+not_known_at_the_number = refl
 
 -- loop [ let x 5 ] let x 6: a block ends what it makes, and the name may be made again
 made_in_a_block_ends_with_it : IsTextOf label.Commands (w "loop" 0 ∷ token Open 1 ∷ w "let" 2 ∷ w "x" 3 ∷ n 5 4 ∷ token Close 5 ∷ w "let" 6 ∷ w "x" 7 ∷ n 6 8 ∷ token End 9 ∷ [])

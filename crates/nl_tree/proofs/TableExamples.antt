@@ -9,6 +9,7 @@ use Rattle.nl_words.specs.Kinds.{kinds}
 use Rattle.nl_words.specs.declared.entry.Kinds.{Kinds}
 use Rattle.nl_tree.specs.declared.declared.Declared.{Declared}
 use Rattle.nl_tree.specs.declared.declared.Breed.{Breed}
+use Rattle.nl_tree.specs.declared.declared.What.{What}
 use Rattle.nl_tree.specs.declared.declared.What.TheVariants as what
 use Rattle.nl_tree.specs.Vocabulary.{Term, Pattern, base_term, terms, term_named, what_named, made_terms, turtle_patterns, undirected_patterns, directed_patterns, patterns}
 use Rattle.nl_tree.specs.Tokens.{Class, Unknown, Constant, Plain, Named, Prefix, Many, Closing, Command, Let, With, Near, Of, Binary, Nowhere, class_of_term}
@@ -116,6 +117,19 @@ shared_variable_has_one_row = refl
 procedure_has_its_place : what_named shared (codes "go") ≡ Some (what.Procedure 0)
 unfolding rows
 procedure_has_its_place = refl
+
+-- breeds are numbered from 1
+abbrev breed_of : Option What → ℕ
+breed_of (Some (what.Made number code)) = number
+breed_of found = 0
+
+first_breed_has_number_one : breed_of (what_named shared foxes.plural) ≡ 1
+unfolding rows
+first_breed_has_number_one = refl
+
+second_breed_has_number_two : breed_of (what_named shared ties.singular) ≡ 2
+unfolding rows
+second_breed_has_number_two = refl
 
 input_is_no_word : what_named shared (codes "x") ≡ None
 unfolding rows
