@@ -113,6 +113,8 @@ fn values_have_these_texts(rt: HostRuntime) -> Result<(), Fail> {
     assert!(rt; all_print(alloc, agent_texts(alloc)?.as_slice())?);
     let literal = text(alloc, &Value::Turtle(1), false, &NoLife)?;
     assert!(rt; literal.as_bytes() == "nobody".as_bytes());
+    let nameless = text(alloc, &Value::Patch(0), true, &NoLife)?;
+    assert!(rt; nameless.as_bytes().is_empty());
     Ok(())
 }
 
@@ -292,5 +294,29 @@ fn a_replaced_item_is_handed_back(rt: HostRuntime) -> Result<(), Fail> {
     let old = items.replace(1, Value::Nobody);
     assert!(rt; matches!(old, Value::Number(_)));
     assert!(rt; matches!(items.as_slice(), [Value::Truth(true), Value::Nobody]));
+    Ok(())
+}
+
+/// Nobody inside of so many lists.
+fn nested(alloc: Global, times: u32) -> Result<Value, NoMemory> {
+    let mut value = Value::Nobody;
+    for _ in 0..times {
+        let mut items = Items::empty(alloc);
+        items.push(alloc, value)?;
+        value = Value::Items(items);
+    }
+    Ok(value)
+}
+
+// Values of the language nest 200 times at most; one that is built by hand may nest deeper.
+#[test]
+fn lists_may_nest_a_thousand_times(rt: HostRuntime) -> Result<(), Fail> {
+    let alloc = rt.alloc();
+    let deep = nested(alloc, 1_000)?;
+    let deeper = nested(alloc, 1_001)?;
+    assert!(rt; measures(alloc, &deep, 1_001, 1_001)?);
+    assert!(rt; text_len(alloc, &deep, false)? == 2_006);
+    assert!(rt; same(alloc, &deep, &deep.copy(alloc)?, &NoLife)?);
+    assert!(rt; !same(alloc, &deep, &deeper, &NoLife)?);
     Ok(())
 }
