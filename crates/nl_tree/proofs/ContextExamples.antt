@@ -11,7 +11,8 @@ use Rattle.nl_tree.specs.declared.declared.Procedure.{Procedure}
 use Rattle.nl_tree.specs.declared.declared.What.{What}
 use Rattle.nl_tree.specs.declared.declared.What.TheVariants as what
 use Rattle.nl_tree.specs.Tree.{Node, node, none}
-use Rattle.nl_tree.specs.Vocabulary.{Term, terms, term_named}
+use Rattle.nl_tree.specs.Term.{Term}
+use Rattle.nl_tree.specs.Vocabulary.{terms, term_named}
 use Rattle.nl_tree.specs.Grammar.{one, two}
 use Rattle.nl_tree.specs.Context.{Kind, Observer, Turtle, Patch, Link, allows, given, Use, uses, Run, Set, Spread, words_at, Leads, at_word, by_call, Bars, IsWrongContext, IsRight, IsFaultAt, IsFirstFault, IsRightText, WrongContext, NotSettable, NoReport, is_not_settable, has_no_report, AreLeft}
 use Rattle.nl_tree.proofs.GrammarExamples.{bare, at, num, named}

@@ -14,7 +14,7 @@ use Rattle.nl_tree.specs.Grammar.{one, two, leaf, Reads, Level, Closed, Statemen
 
 -- a model that declares nothing
 abbrev pub bare : Declared
-bare = record { widgets = []; globals = []; turtles_own = []; patches_own = []; links_own = []; breeds = []; procedures = [] }
+bare = record { widgets = []; globals = []; turtles_own = []; patches_own = []; links_own = []; breeds = []; procedures = []; index = [] }
 
 -- tokens that are one byte long, at places counted from 0
 abbrev pub at : ℕ → Span

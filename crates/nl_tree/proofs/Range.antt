@@ -11,7 +11,8 @@ use Rattle.nl_tree.specs.declared.declared.Declared.{Declared}
 use Rattle.nl_tree.specs.declared.declared.Breed.{Breed}
 use Rattle.nl_tree.specs.declared.declared.NamedWhat.{NamedWhat}
 use Rattle.nl_tree.specs.Checked.{IsInRange}
-use Rattle.nl_tree.specs.Vocabulary.{Term, Pattern, base_term, counted, global_names, global_term, owned_names, owned_term, made_as, made_name, made_terms, patterns, breed_terms, procedure_term, terms, named_what, whats}
+use Rattle.nl_tree.specs.Term.{Term}
+use Rattle.nl_tree.specs.Vocabulary.{Pattern, base_term, counted, global_names, global_term, owned_names, owned_term, made_as, made_name, made_terms, patterns, breed_terms, procedure_term, terms, term_named, named_what, whats}
 
 found_first : (p q : Row → Bool) (x : Row) (rs : List Row) (r : Row) (same : Bool) → p x ≡ same → q x ≡ true → cond same (Some x) (find p rs) ≡ Some r → (find p rs ≡ Some r → q r ≡ true) → q r ≡ true
 found_first p q x rs r true is passes here later = let it : x ≡ r = cc in subst (λ y. q y ≡ true) it passes
@@ -70,7 +71,19 @@ module _ (d : Declared) where
       let owned = fit_counted (owned_term d) (length (owned_names d)) (λ n x h. h) 0 (owned_names d) (omega arith) in
       let breeds = fit_breeds 1 d.breeds (omega arith) (omega arith) in
       let procedures = fit_counted procedure_term (length d.procedures) (λ n x h. h) 0 d.procedures (omega arith) in
-      fit_append _ _ (fit_append _ _ (fit_append _ _ (fit_append _ _ base globals) owned) breeds) procedures
+      fit_append _ _ base (fit_append _ _ (fit_append _ _ (fit_append _ _ globals owned) breeds) procedures)
+
+  found_fits : (name : List ℕ) (t u : Term) (ts : List Term) (same : Bool) → Fit (u ∷ ts) → cond same (Some u) (term_named ts name) ≡ Some t → (term_named ts name ≡ Some t → IsInRange d t.what) → IsInRange d t.what
+  found_fits name t u ts true fit here later = let it : u ≡ t = cc in subst (λ (x : Term). IsInRange d x.what) it fit.0
+  found_fits name t u ts false fit here later = later here
+
+  named_fits : (name : List ℕ) (t : Term) (ts : List Term) → Fit ts → term_named ts name ≡ Some t → IsInRange d t.what
+  named_fits name t [] fit here = cc
+  named_fits name t (u ∷ ts) fit here = found_fits name t u ts (bytes_eq u.name name) fit here (named_fits name t ts fit.1)
+
+  -- and so are those of the row of a name
+  pub named_in_range : (name : List ℕ) (t : Term) → term_named (terms d) name ≡ Some t → IsInRange d t.what
+  named_in_range name t here = named_fits name t (terms d) fit_terms here
 
   all_of : (ts : List Term) → Fit ts → All (λ w. IsInRange d w.what) (map named_what ts)
   all_of [] h k w within = absurd (omega (arith, within))

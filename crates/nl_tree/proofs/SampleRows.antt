@@ -1,6 +1,7 @@
 -- The rows of the built-in words, one after another.
 use Rattle.std.proofs.Common.{◌≡◌, ℕ, zero, suc, ◌+◌, subst, arith, lit<, List, [], ◌∷◌, ◌++◌, take, Some, slice_get, option_map, refl, ap, ◌∙◌, sym}
 use Rattle.std.proofs.lemmas.List.{take_more}
+use Rattle.std.proofs.lemmas.List.Sorted.{IsPermutation-refl}
 use Rattle.std.proofs.lemmas.Option.{slice_get-map, slice_get_within, get_or_from_slice_get}
 use Rattle.nl_words.specs.Row.{Row}
 use Rattle.nl_words.specs.Rows.{rows}
@@ -10,7 +11,7 @@ use Rattle.nl_tree.specs.declared.declared.Declared.{Declared}
 use Rattle.nl_tree.specs.declared.declared.Form.TheVariants as form
 use Rattle.nl_tree.specs.declared.declared.What.TheVariants as what
 use Rattle.nl_tree.specs.Tree.{none}
-use Rattle.nl_tree.specs.Vocabulary.{base_term, named_what, terms, whats}
+use Rattle.nl_tree.specs.Vocabulary.{base_term, named_what, own_terms, terms, whats}
 use Rattle.nl_tree.specs.Names.{IsDeclared}
 use Rattle.nl_tree.specs.Grammar.{at_end}
 use Rattle.nl_tree.specs.BodyFault.{Fits}
@@ -35,7 +36,7 @@ all_taken = refl
 
 pub bare_names : IsDeclared (declaring [])
 unfolding rows
-bare_names = (refl, lit< tt)
+bare_names = (refl, lit< tt, IsPermutation-refl [])
 
 pub bare_rows : whats (declaring []) ≡ base_whats rows
 unfolding rows
@@ -48,7 +49,7 @@ one = declaring (going ∷ [])
 
 pub going_names : IsDeclared one
 unfolding rows
-going_names = (refl, lit< tt)
+going_names = (refl, lit< tt, IsPermutation-refl (own_terms one))
 
 pub going_rows : whats one ≡ base_whats rows ++ (record { name = going.name; what = what.Procedure 0 }) ∷ []
 unfolding rows

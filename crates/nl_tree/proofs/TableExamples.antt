@@ -11,7 +11,8 @@ use Rattle.nl_tree.specs.declared.declared.Declared.{Declared}
 use Rattle.nl_tree.specs.declared.declared.Breed.{Breed}
 use Rattle.nl_tree.specs.declared.declared.What.{What}
 use Rattle.nl_tree.specs.declared.declared.What.TheVariants as what
-use Rattle.nl_tree.specs.Vocabulary.{Term, Pattern, base_term, terms, term_named, what_named, made_terms, turtle_patterns, undirected_patterns, directed_patterns, patterns}
+use Rattle.nl_tree.specs.Term.{Term}
+use Rattle.nl_tree.specs.Vocabulary.{Pattern, base_term, terms, term_named, what_named, made_terms, turtle_patterns, undirected_patterns, directed_patterns, patterns}
 use Rattle.nl_tree.specs.Tokens.{Class, Unknown, Constant, Plain, Named, Prefix, Many, Closing, Command, Let, With, Near, Of, Binary, Nowhere, class_of_term}
 use Rattle.nl_tree.specs.Names.{has_no_duplicate}
 
@@ -96,6 +97,7 @@ shared = record {
   links_own = [];
   breeds = foxes ∷ ties ∷ [];
   procedures = record { name = codes "go"; reporter = false; inputs = codes "x" ∷ []; first = 0; after = 0 } ∷ [];
+  index = [];
 }
 
 sharing_is_no_duplicate : has_no_duplicate shared ≡ true

@@ -4,7 +4,8 @@ use Rattle.std.specs.Prelude.{◌≡◌, ℕ, ◌+◌, ◌<◌, ◌≤◌, IsTru
 use Rattle.nl_fixed.specs.declared.span.Span.{Span}
 use Rattle.nl_tree.specs.declared.declared.Form.{Form}
 use Rattle.nl_tree.specs.Tree.{Node, depth}
-use Rattle.nl_tree.specs.Vocabulary.{Term, term_named}
+use Rattle.nl_tree.specs.Term.{Term}
+use Rattle.nl_tree.specs.Vocabulary.{term_named}
 use Rattle.nl_tree.specs.Tokens.{Word, End, Token, IsToken, marked}
 use Rattle.nl_tree.specs.Grammar.{IsText, knows_in}
 

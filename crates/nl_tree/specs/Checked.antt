@@ -16,7 +16,9 @@ use Rattle.nl_tree.specs.declared.declared.What.TheVariants as what
 use Rattle.nl_tree.specs.declared.declared.Form.TheVariants as form
 use Rattle.nl_tree.specs.Tree.{Node}
 use Rattle.nl_tree.specs.TreeCode.{node_code}
+use Rattle.nl_tree.specs.TermCode.{kinds_code, term_code}
 use Rattle.nl_tree.specs.Names.{IsDeclared}
+use Rattle.nl_tree.specs.Term.{Term}
 use Rattle.nl_tree.specs.Vocabulary.{terms, whats, global_names, owned_names}
 use Rattle.nl_tree.specs.BodyFault.{Fits}
 use Rattle.nl_tree.specs.Context.{ContextFault, uses, IsFirstFault, IsRightBody, AreLeft}
@@ -97,16 +99,10 @@ procedure_code = code_by (List ℕ × (Bool × (List (List ℕ) × (ℕ × ℕ))
     (λ _. refl)
 
 abbrev pub declared_code : Coded Declared
-declared_code = code_by (List (List ℕ) × (List (List ℕ) × (List (List ℕ) × (List (List ℕ) × (List (List ℕ) × (List Breed × List Procedure))))))
-    (coded× coded_names (coded× coded_names (coded× coded_names (coded× coded_names (coded× coded_names (coded× (coded_list breed_code) (coded_list procedure_code)))))))
-    (λ d. (d.widgets, (d.globals, (d.turtles_own, (d.patches_own, (d.links_own, (d.breeds, d.procedures)))))))
-    (λ c. record { widgets = c.0; globals = c.1.0; turtles_own = c.1.1.0; patches_own = c.1.1.1.0; links_own = c.1.1.1.1.0; breeds = c.1.1.1.1.1.0; procedures = c.1.1.1.1.1.1 })
-    (λ _. refl)
-
-abbrev pub kinds_code : Coded Kinds
-kinds_code = code_by (Bool × (Bool × (Bool × Bool))) (coded× coded_bool (coded× coded_bool (coded× coded_bool coded_bool)))
-    (λ k. (k.observer, (k.turtle, (k.patch, k.link))))
-    (λ c. record { observer = c.0; turtle = c.1.0; patch = c.1.1.0; link = c.1.1.1 })
+declared_code = code_by (List (List ℕ) × (List (List ℕ) × (List (List ℕ) × (List (List ℕ) × (List (List ℕ) × (List Breed × (List Procedure × List Term)))))))
+    (coded× coded_names (coded× coded_names (coded× coded_names (coded× coded_names (coded× coded_names (coded× (coded_list breed_code) (coded× (coded_list procedure_code) (coded_list term_code))))))))
+    (λ d. (d.widgets, (d.globals, (d.turtles_own, (d.patches_own, (d.links_own, (d.breeds, (d.procedures, d.index))))))))
+    (λ c. record { widgets = c.0; globals = c.1.0; turtles_own = c.1.1.0; patches_own = c.1.1.1.0; links_own = c.1.1.1.1.0; breeds = c.1.1.1.1.1.0; procedures = c.1.1.1.1.1.1.0; index = c.1.1.1.1.1.1.1 })
     (λ _. refl)
 
 abbrev pub checked_code : Coded Checked

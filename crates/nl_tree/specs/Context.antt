@@ -17,7 +17,8 @@ use Rattle.nl_tree.specs.declared.tree.Label.TheVariants as label
 use Rattle.nl_tree.specs.declared.declared.What.{What}
 use Rattle.nl_tree.specs.declared.declared.What.TheVariants as what
 use Rattle.nl_tree.specs.Tree.{Node, node, Nodes, none, more}
-use Rattle.nl_tree.specs.Vocabulary.{Term, among, term_named}
+use Rattle.nl_tree.specs.Term.{Term}
+use Rattle.nl_tree.specs.Vocabulary.{among, term_named}
 use Rattle.nl_tree.specs.Tokens.{inputs_of}
 
 pub data Kind : Type 0 where

@@ -2,8 +2,12 @@ pub mod BodyFault
 pub mod Checked
 pub mod Context
 pub mod Grammar
+pub mod Index
 pub mod Names
 pub mod Samples
+pub mod Slots
+pub mod Term
+pub mod TermCode
 pub mod Tokens
 pub mod Tree
 pub mod TreeCode

@@ -2,12 +2,14 @@
 -- the three exceptions and the limits on numbers are this project's own choice.
 use Rattle.std.specs.Prelude.{ℕ, ◌+◌, ◌^◌, ◌<◌, Bool, true, ◌&&◌, ◌||◌, not, if◌then◌else◌, IsTrue, List, [], ◌∷◌, ◌++◌, map, length}
 use Rattle.std.specs.List.{list_all}
+use Rattle.std.specs.List.Sorted.{IsPermutation}
 use Rattle.nl_words.specs.Rows.{rows}
 use Rattle.nl_words.specs.Table.{is_name}
 use Rattle.nl_tree.specs.declared.declared.Breed.{Breed}
 use Rattle.nl_tree.specs.declared.declared.Procedure.{Procedure}
 use Rattle.nl_tree.specs.declared.declared.Declared.{Declared}
-use Rattle.nl_tree.specs.Vocabulary.{Term, among, terms}
+use Rattle.nl_tree.specs.Term.{Term}
+use Rattle.nl_tree.specs.Vocabulary.{among, own_terms, terms}
 
 -- no name stands in the list twice
 abbrev pub are_distinct : List (List ℕ) → Bool
@@ -61,8 +63,9 @@ directions_fit d = list_all (λ b. b.link || not b.directed) d.breeds
 abbrev pub AreWidgets : List (List ℕ) → Type 0
 AreWidgets names = IsTrue (are_distinct names && are_apart names (map (λ r. r.name) rows) && list_all is_name names) × (length names < 2 ^ 24)
 
--- the declarations of a model
+-- The declarations of a model. The index that comes with them has the row of each word that they make, once.
 abbrev pub IsDeclared : Declared → Type 0
 IsDeclared d =
     IsTrue (has_no_duplicate d && list_all is_name (all_names d) && directions_fit d)
     × (length (all_names d) + length d.breeds + length d.procedures < 2 ^ 31)
+    × IsPermutation (own_terms d) d.index

@@ -6,10 +6,10 @@ use Rattle.nl_tree.specs.declared.declared.Procedure.{Procedure}
 use Rattle.nl_tree.specs.declared.declared.Declared.{Declared}
 use Rattle.nl_tree.specs.declared.declared.NamedWhat.{NamedWhat}
 use Rattle.nl_tree.specs.Tree.{Node, node, none}
-use Rattle.nl_tree.specs.Vocabulary.{base_term, named_what}
+use Rattle.nl_tree.specs.Vocabulary.{counted, base_term, procedure_term, named_what}
 
 abbrev pub declaring : List Procedure → Declared
-declaring ps = record { widgets = []; globals = []; turtles_own = []; patches_own = []; links_own = []; breeds = []; procedures = ps }
+declaring ps = record { widgets = []; globals = []; turtles_own = []; patches_own = []; links_own = []; breeds = []; procedures = ps; index = counted procedure_term 0 ps }
 
 -- to go end
 abbrev pub going : Procedure

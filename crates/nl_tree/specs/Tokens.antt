@@ -7,7 +7,8 @@ use Rattle.nl_words.specs.declared.entry.Role.TheVariants as role
 use Rattle.nl_words.specs.declared.entry.Input.{Input}
 use Rattle.nl_words.specs.declared.entry.Input.TheVariants as input
 use Rattle.nl_fixed.specs.declared.span.Span.{Span}
-use Rattle.nl_tree.specs.Vocabulary.{Term, term_named}
+use Rattle.nl_tree.specs.Term.{Term}
+use Rattle.nl_tree.specs.Vocabulary.{term_named}
 
 -- A token. A word is in lower case, a text has its escapes resolved, and `End` is what follows a text: the word `end` of a body, or the end
 -- of a lone text.

@@ -7,9 +7,7 @@ use Prim.Native.String.{String}
 use Rattle.nl_words.specs.Kinds.{kinds, none, everyone}
 use Rattle.nl_words.specs.Row.{Row, row_named}
 use Rattle.nl_words.specs.Rows.{rows}
-use Rattle.nl_words.specs.declared.entry.Role.{Role}
 use Rattle.nl_words.specs.declared.entry.Role.TheVariants as role
-use Rattle.nl_words.specs.declared.entry.Input.{Input}
 use Rattle.nl_words.specs.declared.entry.Kinds.{Kinds}
 use Rattle.nl_tree.specs.declared.declared.Breed.{Breed}
 use Rattle.nl_tree.specs.declared.declared.Procedure.{Procedure}
@@ -17,17 +15,7 @@ use Rattle.nl_tree.specs.declared.declared.Declared.{Declared}
 use Rattle.nl_tree.specs.declared.declared.What.{What}
 use Rattle.nl_tree.specs.declared.declared.What.TheVariants as what
 use Rattle.nl_tree.specs.declared.declared.NamedWhat.{NamedWhat}
-
--- A row of the table. The inputs are those that the word's place in the language gives it; a procedure has so many values in their place.
-pub record Term : Type 0 where
-  pub name : List ℕ
-  pub role : Role
-  pub inputs : List Input
-  pub values : ℕ
-  pub many : Bool
-  pub runs : Kinds
-  pub gives : Kinds
-  pub what : What
+use Rattle.nl_tree.specs.Term.{Term}
 
 -- the name stands in the list
 abbrev pub among : List ℕ → List (List ℕ) → Bool
@@ -185,12 +173,16 @@ procedure_term n p = record { name = p.name; role = if p.reporter then role.Repo
 
 -- The table.
 
-abbrev pub terms : Declared → List Term
-terms d = map base_term rows
-    ++ counted global_term 0 (global_names d)
+-- the rows that a model's widgets and declarations make
+abbrev pub own_terms : Declared → List Term
+own_terms d =
+    counted global_term 0 (global_names d)
     ++ counted (owned_term d) 0 (owned_names d)
     ++ breed_terms 1 d.breeds
     ++ counted procedure_term 0 d.procedures
+
+abbrev pub terms : Declared → List Term
+terms d = map base_term rows ++ own_terms d
 
 abbrev pub term_named : List Term → List ℕ → Option Term
 term_named ts name = find (λ t. bytes_eq t.name name) ts

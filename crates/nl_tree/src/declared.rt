@@ -2,6 +2,7 @@
 ghost use Rattle.std.specs.Prelude.{◌≡◌, [], ◌∷◌, ◌++◌, OnOk, OnErr};
 ghost use Rattle.std.specs.List.Sorted.{IsPermutation, IsSortedBy};
 
+use crate::index::NamedWords;
 use nl_fixed::{Names, NoMemory, Str};
 use nl_words::Kinds;
 use std::alloc::Global;
@@ -41,6 +42,8 @@ pub struct Declared {
     pub links_own: Names,
     pub breeds: Breeds,
     pub procedures: Procedures,
+    /// The rows of all words that the widgets and declarations make, by which a word is found without a walk.
+    pub index: NamedWords,
 }
 
 /// What a text is.
@@ -98,6 +101,13 @@ impl Breeds {
         Breeds {
             list: Vec::new(alloc),
         }
+    }
+
+    /// These breeds.
+    pub fn of_vec(list: Vec<Breed>) -> Breeds
+        ensures { result ≡ list.items }
+    {
+        Breeds { list }
     }
 
     /// The breeds, in order.

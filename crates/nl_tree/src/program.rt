@@ -1,10 +1,12 @@
 //! The checked program.
-ghost use Rattle.std.specs.Prelude.{◌≡◌, ◌<◌, ◌↔◌, IfOk, IfSome, IsSome, All, MatchOption, length, slice_get, bytes_eq, false};
+ghost use Rattle.std.specs.Prelude.{◌≡◌, ◌<◌, ◌^◌, ◌↔◌, Some, IfOk, IfSome, IsSome, All, MatchOption, length, slice_get, bytes_eq, false, count_by};
 ghost use Rattle.std.specs.Option.{option_copied, option_map};
 ghost use Rattle.std.specs.List.{Contains};
 ghost use Rattle.std.specs.List.Sorted.{IsPermutation, IsSortedBy};
 ghost use Rattle.nl_tree.specs.Checked.{comes_before, AreAsMany, BodiesFit, BodiesAreRight, KindsAreLeft, AreRows, IsInRange, IsProgram};
 ghost use Rattle.nl_tree.specs.Names.{IsDeclared};
+ghost use Rattle.nl_tree.specs.Slots.{NamesHaveSlots, global_slot, is_global};
+ghost use Rattle.nl_tree.specs.declared.declared.Procedure.{Procedure};
 ghost use Rattle.nl_tree.specs.Views.{plain};
 ghost use Rattle.nl_tree.specs.Vocabulary.{what_named};
 
@@ -24,6 +26,8 @@ pub struct Program {
     bodies: Trees,
     kinds: KindsList,
     rows: Vec<NamedWhat>,
+    // How many widgets and globals there are.
+    globals: u32,
 }
 
 impl Model for Program {
@@ -33,12 +37,14 @@ impl Model for Program {
 
     ghost coded = { checked_code };
 
+    ghost use Rattle.std.specs.Prelude.{◌≡◌, length};
     ghost use Rattle.std.specs.List.Sorted.{IsPermutation, IsSortedBy};
     ghost use Rattle.nl_tree.specs.Checked.{comes_before, IsProgram, AreRows};
+    ghost use Rattle.nl_tree.specs.Vocabulary.{global_names};
 
     ghost view = { λ p. record { declared = p.declared; bodies = p.bodies; kinds = p.kinds } };
 
-    ghost invariant = { λ p. IsProgram (record { declared = p.declared; bodies = p.bodies; kinds = p.kinds }) × AreRows p.declared p.rows.items × IsSortedBy comes_before p.rows.items };
+    ghost invariant = { λ p. IsProgram (record { declared = p.declared; bodies = p.bodies; kinds = p.kinds }) × AreRows p.declared p.rows.items × IsSortedBy comes_before p.rows.items × (p.globals ≡ length (global_names p.declared)) };
 }
 
 impl Program {
@@ -60,11 +66,13 @@ impl Program {
         ensures { IfOk result (λ p. p ≡ record { declared = declared; bodies = bodies; kinds = kinds }) }
     {
         let rows = rows.sorted();
+        let globals = count_globals(rows.as_slice()) as u32;
         Ok(Program {
             declared,
             bodies,
             kinds,
             rows,
+            globals,
         })
     }
 
@@ -76,11 +84,13 @@ impl Program {
         &self.declared
     }
 
-    /// The body of the procedure at a place.
+    /// The body of the procedure at a place. Each name in it has a slot, or is an input of the procedure or made there by `let`, so a run
+    /// meets no other name.
     pub fn body(&self, procedure: usize) -> Option<&Tree>
         ensures value { option_map plain (option_copied result) ≡ slice_get self.now.bodies procedure }
         ensures checked { IsProgram self.now }
         ensures within { IsSome result ↔ (procedure < length self.now.declared.procedures) }
+        ensures slots { (p : Procedure) → slice_get self.now.declared.procedures procedure ≡ Some p → IfSome result (λ body. NamesHaveSlots self.now.declared p.inputs (plain body.now)) }
     {
         self.bodies.get(procedure)
     }
@@ -103,6 +113,34 @@ impl Program {
             None => None,
         }
     }
+
+    /// The slot of a global variable of this name, in lower case: that of a widget or global is its number in `What::Global`. The number of
+    /// the run and the name of the experiment have the two slots after all of these.
+    ///
+    /// The search is one of halves.
+    pub fn global(&self, name: &[u8]) -> Option<u32>
+        ensures { result ≡ global_slot self.now.declared name.now }
+    {
+        if name == b"behaviorspace-run-number".as_slice() {
+            return Some(self.globals);
+        }
+        if name == b"behaviorspace-experiment-name".as_slice() {
+            return Some(self.globals + 1);
+        }
+        match self.what(name) {
+            Some(What::Global(slot)) => Some(slot),
+            _ => None,
+        }
+    }
+}
+
+// How many rows are those of a widget or global.
+fn count_globals(rows: &[NamedWhat]) -> usize
+    ensures { result ≡ count_by is_global rows.now }
+{
+    rows.iter()
+        .filter(|row| matches!(row.what, What::Global(_)))
+        .count()
 }
 
 // The row of this name among rows in the order of their names.

@@ -3,18 +3,20 @@ ghost use Rattle.std.specs.Prelude.{◌≡◌, [], ◌∷◌, IfOk};
 ghost use Rattle.nl_words.specs.Kinds.{everyone};
 ghost use Rattle.nl_words.specs.Rows.{rows};
 ghost use Rattle.nl_tree.specs.Samples.{declaring, going, going_body, base_whats};
-ghost use Rattle.nl_tree.specs.Vocabulary.{whats};
+ghost use Rattle.nl_tree.specs.Vocabulary.{counted, procedure_term, whats};
 
 use crate::declared::{
     Breed, Breeds, Declared, KindsList, NamedWhat, NamedWhats, Procedure, Procedures, What,
 };
+use crate::index::{NamedWord, NamedWords, Word};
 use crate::program::Program;
 use crate::tree::{Label, Tree, Trees};
 use nl_fixed::{Names, NoMemory, Span, Str};
-use nl_words::{Kinds, ROWS, base_words};
+use nl_words::{Kinds, ROWS, Role, base_words};
 use std::alloc::Global;
 
-fn declared(alloc: Global, procedures: Procedures) -> Declared
+fn declared(alloc: Global, procedures: Procedures, index: NamedWords) -> Declared
+    requires { index ≡ counted procedure_term 0 procedures }
     ensures { result ≡ declaring procedures }
 {
     Declared {
@@ -25,7 +27,48 @@ fn declared(alloc: Global, procedures: Procedures) -> Declared
         links_own: Names::empty(alloc),
         breeds: Breeds::empty(alloc),
         procedures,
+        index,
     }
+}
+
+// An index of no words.
+fn no_word(alloc: Global) -> NamedWords
+    ensures { result ≡ [] }
+{
+    let words = NamedWords::new(Vec::new(alloc));
+    words
+}
+
+// The index of one word, `go`.
+fn one_word(alloc: Global) -> Result<NamedWords, NoMemory>
+    ensures { IfOk result (λ list. list ≡ counted procedure_term 0 (going ∷ [])) }
+{
+    let name = Str::of(alloc, b"go")?;
+    let mut list = Vec::new(alloc);
+    list.push(NamedWord {
+        name,
+        word: Word {
+            role: Role::Command,
+            inputs: &[],
+            values: 0,
+            many: false,
+            runs: Kinds {
+                observer: true,
+                turtle: true,
+                patch: true,
+                link: true,
+            },
+            gives: Kinds {
+                observer: false,
+                turtle: false,
+                patch: false,
+                link: false,
+            },
+            what: What::Procedure(0),
+        },
+    })?;
+    let words = NamedWords::new(list);
+    Ok(words)
 }
 
 fn one_procedure(alloc: Global) -> Result<Procedures, NoMemory>
@@ -109,7 +152,7 @@ fn all_rows(alloc: Global) -> Result<NamedWhats, NoMemory>
 fn bare_program(alloc: Global) -> Result<Program, NoMemory>
     ensures { IfOk result (λ p. p.declared ≡ declaring []) }
 {
-    let declared = declared(alloc, Procedures::empty(alloc));
+    let declared = declared(alloc, Procedures::empty(alloc), no_word(alloc));
     let rows = base_rows(alloc)?;
     let program = Program::new(
         alloc,
@@ -124,11 +167,13 @@ fn bare_program(alloc: Global) -> Result<Program, NoMemory>
 fn going_program(alloc: Global) -> Result<Program, NoMemory>
     ensures { IfOk result (λ p. p.declared ≡ declaring (going ∷ [])) }
 {
+    let index = one_word(alloc)?;
     let procedures = one_procedure(alloc)?;
     let bodies = one_body(alloc)?;
     let kinds = all_kinds(alloc)?;
     let rows = all_rows(alloc)?;
-    let program = Program::new(alloc, declared(alloc, procedures), bodies, kinds, rows)?;
+    let declared = declared(alloc, procedures, index);
+    let program = Program::new(alloc, declared, bodies, kinds, rows)?;
     Ok(program)
 }
 
@@ -166,6 +211,10 @@ fn bare_model_has_the_built_in_words(rt: HostRuntime) {
     assert!(rt; matches!(program.what(b"yellow"), Some(What::Base(333))));
     assert!(rt; program.what(b"as").is_none());
     assert!(rt; program.what(b"go").is_none());
+    assert!(rt; program.global(b"behaviorspace-run-number") == Some(0));
+    assert!(rt; program.global(b"behaviorspace-experiment-name") == Some(1));
+    assert!(rt; program.global(b"color").is_none());
+    assert!(rt; program.global(b"go").is_none());
     assert!(rt; program.body(0).is_none());
     assert!(rt; program.kinds(0).is_none());
 }

@@ -1,0 +1,114 @@
+-- Which names of a tree have a slot.
+-- A running program finds the place of a word by its row. The names without a row are those of inputs and of `let`.
+use Rattle.std.specs.Prelude.{◌≡◌, ℕ, ◌+◌, Bool, true, false, ◌||◌, ◌⊎◌, if◌then◌else◌, IsTrue, List, [], ◌∷◌, ◌++◌, Option, Some, None, All, length, bytes_eq, codes}
+use Rattle.nl_tree.specs.declared.tree.Label.{Label}
+use Rattle.nl_tree.specs.declared.tree.Label.TheVariants as label
+use Rattle.nl_tree.specs.declared.declared.Declared.{Declared}
+use Rattle.nl_tree.specs.declared.declared.What.{What}
+use Rattle.nl_tree.specs.declared.declared.NamedWhat.{NamedWhat}
+use Rattle.nl_tree.specs.declared.declared.What.TheVariants as what
+use Rattle.nl_tree.specs.Tree.{Node, node, Nodes, none, more}
+use Rattle.nl_tree.specs.Term.{Term}
+use Rattle.nl_tree.specs.Vocabulary.{among, term_named, terms, what_named, global_names}
+use Rattle.nl_tree.specs.Tokens.{Class, Unknown, Constant, Plain, Named, Prefix, Many, Closing, Command, Let, With, Near, Of, Binary, Nowhere, class_of}
+use Rattle.nl_tree.specs.Checked.{IsInRange}
+
+-- the name of a node of a word
+abbrev pub name_at : Label → List (List ℕ)
+name_at (label.Named w) = w ∷ []
+name_at (label.Number n) = []
+name_at (label.Text bytes) = []
+name_at label.List = []
+name_at label.Negate = []
+name_at label.Paren = []
+name_at label.Commands = []
+name_at label.Reporter = []
+
+-- the names of all words of a tree, new names among them, in the order of the tree
+abbrev mutual
+  pub names : Node → List (List ℕ)
+  names (node l s ts) = name_at l ++ names_in ts
+
+  pub names_in : Nodes → List (List ℕ)
+  names_in none = []
+  names_in (more t ts) = names t ++ names_in ts
+
+-- the word is `let`
+abbrev pub is_let : Class → Bool
+is_let Let = true
+is_let Unknown = false
+is_let Constant = false
+is_let Plain = false
+is_let Named = false
+is_let (Prefix is) = false
+is_let (Many n) = false
+is_let (Closing is k) = false
+is_let (Command is) = false
+is_let With = false
+is_let (Near n) = false
+is_let Of = false
+is_let (Binary l m) = false
+is_let Nowhere = false
+
+abbrev pub top_name : Node → List (List ℕ)
+top_name (node l s ts) = name_at l
+
+abbrev pub first_name : Nodes → List (List ℕ)
+first_name none = []
+first_name (more t ts) = top_name t
+
+-- the name that a node makes: the first part of a `let`
+abbrev pub made_at : List Term → Label → Nodes → List (List ℕ)
+made_at table (label.Named w) ts = if is_let (class_of (term_named table w)) then first_name ts else []
+made_at table (label.Number n) ts = []
+made_at table (label.Text bytes) ts = []
+made_at table label.List ts = []
+made_at table label.Negate ts = []
+made_at table label.Paren ts = []
+made_at table label.Commands ts = []
+made_at table label.Reporter ts = []
+
+-- the names that a tree makes by `let`
+abbrev mutual
+  pub made : List Term → Node → List (List ℕ)
+  made table (node l s ts) = made_at table l ts ++ made_in table ts
+
+  pub made_in : List Term → Nodes → List (List ℕ)
+  made_in table none = []
+  made_in table (more t ts) = made table t ++ made_in table ts
+
+-- the word has a row, whose numbers are places in the model
+abbrev pub HasSlot : Declared → List ℕ → Type 0
+HasSlot d name = (it : What) × ((what_named d name ≡ Some it) × IsInRange d it)
+
+-- each name of the tree has a slot, or is one of these inputs, or one that the tree makes by `let`
+abbrev pub NamesHaveSlots : Declared → List (List ℕ) → Node → Type 0
+NamesHaveSlots d inputs t = All (λ name. HasSlot d name ⊎ IsTrue (among name inputs || among name (made (terms d) t))) (names t)
+
+-- The slot of a global variable: that of a widget or global is its number. The run's number has the slot after all of these, and the
+-- experiment's name the next one; these two places are this project's own choice.
+
+abbrev pub is_global_what : What → Bool
+is_global_what (what.Global n) = true
+is_global_what (what.Base code) = false
+is_global_what (what.Own n) = false
+is_global_what (what.Made n code) = false
+is_global_what (what.Procedure n) = false
+
+-- the row is that of a widget or global
+abbrev pub is_global : NamedWhat → Bool
+is_global r = is_global_what r.what
+
+abbrev pub slot_of : Option What → Option ℕ
+slot_of None = None
+slot_of (Some (what.Global n)) = Some n
+slot_of (Some (what.Base code)) = None
+slot_of (Some (what.Own n)) = None
+slot_of (Some (what.Made n code)) = None
+slot_of (Some (what.Procedure n)) = None
+
+abbrev pub global_slot : Declared → List ℕ → Option ℕ
+global_slot d name =
+    if bytes_eq name (codes "behaviorspace-run-number") then Some (length (global_names d))
+    else (if bytes_eq name (codes "behaviorspace-experiment-name") then Some (length (global_names d) + 1)
+    else slot_of (what_named d name))
