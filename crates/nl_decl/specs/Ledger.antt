@@ -1,0 +1,43 @@
+-- The marks of the names so far, and what they tell of a further one.
+use Rattle.std.specs.Prelude.{◌≡◌, ℕ, Bool, false, ◌&&◌, ◌||◌, List, Option, Some, None, bytes_eq}
+use Rattle.std.specs.List.{list_any}
+use Rattle.nl_decl.specs.declared.claims.Claim.{Claim}
+use Rattle.nl_decl.specs.declared.claims.Claimed.{Claimed}
+use Rattle.nl_decl.specs.declared.marks.Mark.{Mark}
+use Rattle.nl_decl.specs.declared.marks.Marked.{Marked}
+use Rattle.nl_decl.specs.contracts.marks.MarkPartialEq.TheImpl as mark_impl
+use Rattle.nl_decl.specs.contracts.marks.MarkedPartialEq.TheImpl as marked_impl
+use Rattle.nl_decl.specs.Marks.{common_mark, own_mark}
+use Rattle.nl_decl.specs.Claims.{clashes, is_taken}
+
+abbrev pub same_mark : Mark → Mark → Bool
+same_mark = (mark_impl.ghosts).eq
+
+abbrev pub same_marked : Marked → Marked → Bool
+same_marked = (marked_impl.ghosts).eq
+
+abbrev pub has_own : Option Mark → Mark → Bool
+has_own None m = false
+has_own (Some o) m = same_mark o m
+
+-- a declaration leaves this mark
+abbrev pub leaves : Claim → Mark → Bool
+leaves c m = same_mark (common_mark c) m || has_own (own_mark c) m
+
+abbrev pub leaves_on : List ℕ → Claim → Marked → Bool
+leaves_on name c q = bytes_eq name q.name.items && leaves c q.mark
+
+-- the marks of one more declaration are there, and those before it
+abbrev pub Notes : List ℕ → Claim → (Marked → Bool) → (Marked → Bool) → Type 0
+Notes name c old new = (q : Marked) → new q ≡ (leaves_on name c q || old q)
+
+-- the marks are those of these declarations
+abbrev pub Holds : List Claimed → (Marked → Bool) → Type 0
+Holds seen has = (q : Marked) → has q ≡ list_any (λ e. leaves_on e.name e.claim q) seen
+
+-- whether an earlier declaration bars a name that is declared so, behind those whose marks these are; and whether the name is taken
+abbrev pub TellsBarred : (Marked → Bool) → List ℕ → Claim → Bool → Type 0
+TellsBarred has name c barred = (seen : List Claimed) (place : ℕ) → Holds seen has → barred ≡ list_any (λ e. clashes e (record { name = name; claim = c; place = place })) seen
+
+abbrev pub TellsTaken : (Marked → Bool) → List ℕ → Claim → Bool → Type 0
+TellsTaken has name c taken = (seen : List Claimed) (place : ℕ) → Holds seen has → taken ≡ is_taken seen (record { name = name; claim = c; place = place })
