@@ -1,0 +1,36 @@
+-- Steps that turn on the top of the machine's stack.
+use Rattle.std.proofs.Common.{◌≡◌, ℕ, suc, true, false, List, ◌∷◌, refl}
+use Rattle.nl_fixed.specs.declared.span.Span.{Span}
+use Rattle.nl_tree.specs.Tree.{Nodes, node, none, more}
+use Rattle.nl_tree.specs.declared.tree.Label.TheVariants as label
+use Rattle.nl_parse.specs.Limit.{is_one}
+use Rattle.nl_tree.specs.Tokens.{Need}
+use Rattle.nl_parse.specs.Machine.{Frame, InNear, InMany, InOf, ThenItem, Begin, st, go, stop, next, begin_call, begin_many, feed_of}
+use Rattle.nl_parse.specs.Asked.{more_sides}
+
+pub no_call : (w : List ℕ) (s : Span) (is : List Need) (e : List (List ℕ)) (K : List Frame) → more_sides K ≡ true → begin_call w s is e K ≡ stop
+no_call w s is e (InNear v r ts (suc n) ∷ K) h = refl
+no_call w s is e K h = cc h
+
+pub a_call : (w : List ℕ) (s : Span) (is : List Need) (e : List (List ℕ)) (K : List Frame) → more_sides K ≡ false → begin_call w s is e K ≡ go (next w s none is ThenItem e K)
+a_call w s is e (InNear v r ts (suc n) ∷ K) h = cc h
+a_call w s is e K h = refl
+
+pub no_many : (w : List ℕ) (s : Span) (m : ℕ) (e : List (List ℕ)) (K : List Frame) → more_sides K ≡ true → begin_many w s m e K ≡ stop
+no_many w s m e (InNear v r ts (suc n) ∷ K) h = refl
+no_many w s m e K h = cc h
+
+pub a_many : (w : List ℕ) (s : Span) (m : ℕ) (e : List (List ℕ)) (K : List Frame) → more_sides K ≡ false → begin_many w s m e K ≡ go (st Begin e (InMany w s none m ∷ K))
+a_many w s m e (InNear v r ts (suc n) ∷ K) h = cc h
+a_many w s m e K h = refl
+
+-- a list of one literal is also a block
+pub a_block : (w : List ℕ) (s r : Span) (ts : Nodes) (e : List (List ℕ)) (K : List Frame) → is_one ts ≡ true → feed_of w s (node label.List r ts) e K ≡ go (st Begin e (InOf w s (node label.Reporter r ts) ∷ K))
+a_block w s r none e K h = cc h
+a_block w s r (more t none) e K h = refl
+a_block w s r (more t (more u ts)) e K h = cc h
+
+pub no_block : (w : List ℕ) (s r : Span) (ts : Nodes) (e : List (List ℕ)) (K : List Frame) → is_one ts ≡ false → feed_of w s (node label.List r ts) e K ≡ stop
+no_block w s r none e K h = refl
+no_block w s r (more t none) e K h = cc h
+no_block w s r (more t (more u ts)) e K h = refl

@@ -1,0 +1,14 @@
+use Rattle.std.proofs.Common.{◌≡◌, ◌≤◌, take}
+use Rattle.nl_tree.specs.Vocabulary.{terms}
+use Rattle.nl_tree.specs.BodyFault.{deepest}
+use Rattle.nl_parse.specs.Machine.{go, run_from}
+use Rattle.nl_parse.specs.Depth.{least_depth}
+use Rattle.nl_parse.specs.State.{state_of}
+use Rattle.nl_parse.proofs.Run.{toks_of}
+use Rattle.nl_parse.proofs.reader.Reader.read_tokens.Given as goal
+
+abbrev pub invariant-loop-place : goal.invariant-loop-place
+invariant-loop-place l = record {
+  so_far : run_from (go (state_of l.initial.self)) (take l.place (toks_of (terms l.declared) l.text l.tokens)) ≡ go (state_of l.self);
+  allowed : least_depth (state_of l.self) ≤ deepest;
+}

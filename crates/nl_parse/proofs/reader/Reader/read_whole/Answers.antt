@@ -1,0 +1,27 @@
+use Rattle.std.proofs.Common.{◌∙◌, ap, sym}
+use Rattle.nl_tree.specs.Vocabulary.{terms}
+use Rattle.nl_tree.specs.Views.{plain}
+use Rattle.nl_parse.specs.Machine.{go, run_from}
+use Rattle.nl_parse.specs.State.{state_of}
+use Rattle.nl_parse.proofs.Good.{models_have_words}
+use Rattle.nl_parse.proofs.Reporters.{models_take_no_commands}
+use Rattle.nl_parse.proofs.Run.{good_text, refused_within, refused_end, toks_of}
+use Rattle.nl_parse.proofs.reader.Reader.read_whole.Goals as goal
+
+pub returns-in-Err-clause-fault : goal.returns-in-Err-clause-fault
+returns-in-Err-clause-fault c = λ form names q.
+    let d = c.args.declared.now in
+    refused_within form names (terms d) c.args.text.now c.args.tokens.now c.args.end (state_of c.args.self.now) c.in-Err.refusal (models_have_words d) (models_take_no_commands d) q c.in-Err.ensures.fault
+
+pub returns-in-Ok-clause-ok : goal.returns-in-Ok-clause-ok
+returns-in-Ok-clause-ok c = λ form names q.
+    let d = c.args.declared.now in
+    let a = toks_of (terms d) c.args.text.now c.args.tokens.now in
+    let r = c.in-Ok.ensures.ok in
+    good_text form names (terms d) c.args.text.now c.args.tokens.now c.args.end (state_of c.read_tokens.new.self) (plain c.in-Ok.tree) r.0 r.1 (ap (λ s. run_from (go s) a) (sym q) ∙ c.in_default.ensures.ok) r.2.0 r.2.1
+
+pub returns-in-Err-finish-clause-fault : goal.returns-in-Err-finish-clause-fault
+returns-in-Err-finish-clause-fault c = λ form names q.
+    let d = c.args.declared.now in
+    let a = toks_of (terms d) c.args.text.now c.args.tokens.now in
+    refused_end form names (terms d) c.args.text.now c.args.tokens.now c.args.end (state_of c.read_tokens.new.self) c.in-Err-finish.refusal (models_have_words d) (models_take_no_commands d) (ap (λ s. run_from (go s) a) (sym q) ∙ c.in_default.ensures.ok) c.in_default.ensures.allowed c.in-Err-finish.ensures.fault

@@ -1,0 +1,15 @@
+-- The state of the machine that a reader has.
+use Rattle.std.specs.Prelude.{ℕ, List, []}
+use Rattle.nl_parse.specs.Machine as M
+use Rattle.nl_parse.specs.Reading.{mode_of, mode_names, frames_onto, names_onto}
+use Rattle.nl_parse.specs.declared.reader.Reader.{Reader}
+
+abbrev pub stack_of : Reader → List M.Frame
+stack_of r = frames_onto r.stack.items r.inputs.now []
+
+-- the names known in its newest frame
+abbrev pub names_of : Reader → List (List ℕ)
+names_of r = names_onto r.stack.items r.inputs.now
+
+abbrev pub state_of : Reader → M.State
+state_of r = M.st (mode_of r.mode) (mode_names r.mode (names_of r)) (stack_of r)

@@ -1,0 +1,233 @@
+//! Tokens where an expression begins.
+ghost use Rattle.std.specs.Prelude.{◌≡◌, ◌∷◌, ℕ, List, OnOk, IfOk};
+ghost use Rattle.std.specs.Result.{IsErrOf};
+ghost use Rattle.nl_tree.specs.Vocabulary.{among};
+ghost use Rattle.nl_parse.specs.Machine.{go, stop, feed_begin, feed_local, begin_call, begin_many, begin_minus, begin_bracket, end_bracket, end_many, closed, InMany};
+ghost use Rattle.nl_parse.specs.Machine as M;
+ghost use Rattle.nl_parse.specs.declared.reader.Refusal.TheVariants.{Unexpected};
+ghost use Rattle.nl_parse.specs.View.{class_of, mark_of, needs_of};
+ghost use Rattle.nl_parse.specs.State.{stack_of, names_of, state_of};
+ghost use Rattle.nl_parse.specs.Reading.{frame_of, shape_of};
+ghost use Rattle.nl_parse.specs.Asked.{more_sides};
+ghost use Rattle.nl_tree.specs.Tokens.{word};
+ghost use Rattle.nl_tree.specs.Grammar.{leaf};
+ghost use Rattle.nl_tree.specs.declared.tree.Label.TheVariants as label;
+
+use crate::frames::{Frame, Last, Mode, Shape};
+use crate::marks::{Class, Head, Inputs, Mark};
+use crate::parts::{Grouped, Grown};
+use crate::reader::{Reader, Refusal, refuse};
+use nl_fixed::{NoMemory, Span};
+use nl_tree::Label;
+
+impl<'a> Reader<'a> {
+    /// A token where an expression begins.
+    pub fn feed_begin(&mut self, mark: Mark) -> Result<(), Refusal>
+        ensures ok { OnOk result (feed_begin (names_of self.old) (stack_of self.old) (mark_of mark) ≡ go (state_of self.new)) }
+        ensures fault { IsErrOf result Unexpected → feed_begin (names_of self.old) (stack_of self.old) (mark_of mark) ≡ stop }
+    {
+        match mark {
+            Mark::Number(number, place) => {
+                let tree = Grown::leaf(self.alloc, Label::Number(number), place);
+                self.closed(Shape::Literal, tree)?;
+                Ok(())
+            }
+            Mark::Text(text, place) => {
+                let tree = Grown::leaf(self.alloc, Label::Text(text), place);
+                self.closed(Shape::Literal, tree)?;
+                Ok(())
+            }
+            Mark::Word(head, class) => self.begin_word(head, class),
+            Mark::OpenBracket(place) => self.begin_bracket(place),
+            Mark::CloseBracket(_) => self.end_bracket(),
+            Mark::OpenParen(place) => {
+                self.enter(Mode::Begin, Frame::Paren(place))?;
+                Ok(())
+            }
+            Mark::CloseParen(_) => self.end_many(),
+            Mark::End(_) => Err(Refusal::Unexpected),
+        }
+    }
+
+    // A word where an expression begins.
+    fn begin_word(&mut self, head: Head, class: Class) -> Result<(), Refusal>
+        ensures ok { OnOk result (feed_begin (names_of self.old) (stack_of self.old) (word head.name (class_of class) head.place) ≡ go (state_of self.new)) }
+        ensures fault { IsErrOf result Unexpected → feed_begin (names_of self.old) (stack_of self.old) (word head.name (class_of class) head.place) ≡ stop }
+    {
+        match class {
+            Class::Unknown => self.begin_local(head),
+            Class::Constant => self.begin_leaf(head, Shape::Literal),
+            Class::Plain => self.begin_leaf(head, Shape::Fixed),
+            Class::Named => self.begin_leaf(head, Shape::Fixed),
+            Class::Prefix(inputs) => self.begin_call(head, inputs),
+            Class::Many(others) => self.begin_many(head, others),
+            Class::Closing(inputs, block) => {
+                let none = Grouped::new(self.alloc);
+                self.next(head, none, inputs, Last::Block(block))?;
+                Ok(())
+            }
+            Class::Binary(_, minus) => self.begin_minus(head.place, minus),
+            _ => Err(Refusal::Unexpected),
+        }
+    }
+
+    // A word that is an expression by itself.
+    fn begin_leaf(&mut self, head: Head, shape: Shape) -> Result<(), Refusal>
+        ensures ok { OnOk result (go (closed (shape_of shape) (leaf (label.Named head.name) head.place) (names_of self.old) (stack_of self.old)) ≡ go (state_of self.new)) }
+        ensures fault { IsErrOf result Unexpected → ⊥ }
+    {
+        let tree = Grown::leaf(self.alloc, Label::Named(head.name), head.place);
+        self.closed(shape, tree)?;
+        Ok(())
+    }
+
+    // A word that has no row.
+    fn begin_local(&mut self, head: Head) -> Result<(), Refusal>
+        ensures ok { OnOk result (feed_local (among head.name (names_of self.old)) head.name head.place (names_of self.old) (stack_of self.old) ≡ go (state_of self.new)) }
+        ensures fault { IsErrOf result Unexpected → feed_local (among head.name (names_of self.old)) head.name head.place (names_of self.old) (stack_of self.old) ≡ stop }
+    {
+        if !self.knows(head.name.as_bytes()) {
+            return Err(Refusal::Unexpected);
+        }
+        self.begin_leaf(head, Shape::Fixed)
+    }
+
+    // A call whose last input is an item.
+    #[tactic(auto, using(crate::proofs::Stacked::no_call, crate::proofs::Stacked::a_call))]
+    fn begin_call(&mut self, head: Head, inputs: Inputs) -> Result<(), Refusal>
+        ensures ok { OnOk result (begin_call head.name head.place (needs_of inputs) (names_of self.old) (stack_of self.old) ≡ go (state_of self.new)) }
+        ensures fault { IsErrOf result Unexpected → begin_call head.name head.place (needs_of inputs) (names_of self.old) (stack_of self.old) ≡ stop }
+    {
+        if self.has_more_sides()? {
+            return Err(Refusal::Unexpected);
+        }
+        let none = Grouped::new(self.alloc);
+        self.next(head, none, inputs, Last::Item)?;
+        Ok(())
+    }
+
+    // A call of any number of items.
+    #[tactic(auto, using(crate::proofs::Stacked::no_many, crate::proofs::Stacked::a_many))]
+    fn begin_many(&mut self, head: Head, others: u64) -> Result<(), Refusal>
+        ensures ok { OnOk result (begin_many head.name head.place others (names_of self.old) (stack_of self.old) ≡ go (state_of self.new)) }
+        ensures fault { IsErrOf result Unexpected → begin_many head.name head.place others (names_of self.old) (stack_of self.old) ≡ stop }
+    {
+        if self.has_more_sides()? {
+            return Err(Refusal::Unexpected);
+        }
+        let none = Grouped::new(self.alloc);
+        self.enter(Mode::Begin, Frame::Many(head, none, others))?;
+        Ok(())
+    }
+
+    // Whether a right side is read that others follow.
+    fn has_more_sides(&mut self) -> Result<bool, NoMemory>
+        ensures more { IfOk result (λ more. more ≡ more_sides (stack_of self.old)) }
+        ensures stack { OnOk result (stack_of self.new ≡ stack_of self.old) }
+        ensures names { OnOk result (names_of self.new ≡ names_of self.old) }
+    {
+        match self.take() {
+            Some(frame) => {
+                let more = is_more_sides(&frame);
+                self.put(frame)?;
+                Ok(more)
+            }
+            None => Ok(false),
+        }
+    }
+
+    // An operator, which is a negation where it is the minus sign and opens parentheses.
+    fn begin_minus(&mut self, place: Span, minus: bool) -> Result<(), Refusal>
+        ensures ok { OnOk result (begin_minus minus place (names_of self.old) (stack_of self.old) ≡ go (state_of self.new)) }
+        ensures fault { IsErrOf result Unexpected → begin_minus minus place (names_of self.old) (stack_of self.old) ≡ stop }
+    {
+        if !minus {
+            return Err(Refusal::Unexpected);
+        }
+        match self.take() {
+            Some(Frame::Paren(bracket)) => {
+                self.enter(Mode::Begin, Frame::Minus(bracket, place))?;
+                Ok(())
+            }
+            other => refuse(other),
+        }
+    }
+
+    // A bracket: a literal list where a right side begins, since that has no block.
+    fn begin_bracket(&mut self, place: Span) -> Result<(), Refusal>
+        ensures ok { OnOk result (begin_bracket place (names_of self.old) (stack_of self.old) ≡ go (state_of self.new)) }
+        ensures fault { IsErrOf result Unexpected → begin_bracket place (names_of self.old) (stack_of self.old) ≡ stop }
+    {
+        match self.take() {
+            Some(Frame::Near(head, sides, others)) => {
+                let none = Grouped::new(self.alloc);
+                self.put(Frame::Near(head, sides, others))?;
+                self.enter(Mode::Listing, Frame::List(place, none))?;
+            }
+            Some(frame) => {
+                self.put(frame)?;
+                self.enter(Mode::Begin, Frame::Bracket(place))?;
+            }
+            None => self.enter(Mode::Begin, Frame::Bracket(place))?,
+        }
+        Ok(())
+    }
+
+    // A closing bracket, which ends a list in which nothing is.
+    fn end_bracket(&mut self) -> Result<(), Refusal>
+        ensures ok { OnOk result (end_bracket (names_of self.old) (stack_of self.old) ≡ go (state_of self.new)) }
+        ensures fault { IsErrOf result Unexpected → end_bracket (names_of self.old) (stack_of self.old) ≡ stop }
+    {
+        match self.take() {
+            Some(Frame::Bracket(place)) => {
+                let tree = Grown::leaf(self.alloc, Label::List, place);
+                self.closed(Shape::Literal, tree)?;
+                Ok(())
+            }
+            other => refuse(other),
+        }
+    }
+
+    // A closing parenthesis, which ends a call of any number of items.
+    fn end_many(&mut self) -> Result<(), Refusal>
+        ensures ok { OnOk result (end_many (names_of self.old) (stack_of self.old) ≡ go (state_of self.new)) }
+        ensures fault { IsErrOf result Unexpected → end_many (names_of self.old) (stack_of self.old) ≡ stop }
+    {
+        match self.take() {
+            Some(Frame::Items(bracket, label, place, items)) => {
+                let call = items.under(label, place);
+                let tree = Grown::over(self.alloc, Label::Paren, bracket, call)?;
+                self.closed(Shape::Fixed, tree)?;
+                Ok(())
+            }
+            Some(Frame::Many(head, items, _)) => self.end_usual(head, items),
+            other => refuse(other),
+        }
+    }
+
+    // A closing parenthesis behind less than a call's usual number of items.
+    fn end_usual(&mut self, head: Head, items: Grouped) -> Result<(), Refusal>
+        ensures ok { (n : ℕ) → OnOk result (end_many (names_of self.old) (InMany head.name head.place items n ∷ stack_of self.old) ≡ go (state_of self.new)) }
+        ensures fault { (n : ℕ) → IsErrOf result Unexpected → end_many (names_of self.old) (InMany head.name head.place items n ∷ stack_of self.old) ≡ stop }
+    {
+        match self.take() {
+            Some(Frame::Paren(bracket)) => {
+                let call = items.under(Label::Named(head.name), head.place);
+                let tree = Grown::over(self.alloc, Label::Paren, bracket, call)?;
+                self.closed(Shape::Fixed, tree)?;
+                Ok(())
+            }
+            other => refuse(other),
+        }
+    }
+}
+
+// Whether the frame is that of a right side that others follow.
+fn is_more_sides(frame: &Frame) -> bool
+    ensures { (e : List (List ℕ)) (below : List M.Frame) → result ≡ more_sides (frame_of e frame.now ∷ below) }
+{
+    match frame {
+        Frame::Near(_, _, others) => *others > 0,
+        _ => false,
+    }
+}

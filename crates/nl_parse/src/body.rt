@@ -1,0 +1,244 @@
+//! The reader of one text.
+ghost use Rattle.std.specs.Prelude.{◌≡◌, ℕ, List, [], ◌∷◌, ◌+◌, ◌++◌, ◌≤◌, OnOk, IfOk, IfErr, IfSome, IfNone, All, length};
+ghost use Rattle.nl_scan.specs.Tokens.{IsTokenOf};
+ghost use Rattle.nl_decl.specs.Texts.{plain_token, plain_tokens, word_at};
+ghost use Rattle.nl_tree.specs.Tree.{Node, depth};
+ghost use Rattle.nl_tree.specs.Tokens as T;
+ghost use Rattle.nl_parse.specs.Machine as M;
+ghost use Rattle.nl_tree.specs.Names.{IsDeclared};
+ghost use Rattle.nl_tree.specs.Vocabulary.{terms};
+ghost use Rattle.nl_tree.specs.Views.{plain};
+ghost use Rattle.nl_tree.specs.Tokens.{mark, marked};
+ghost use Rattle.nl_tree.specs.BodyFault.{IsGood, ends_at, deepest};
+ghost use Rattle.nl_parse.specs.Machine.{start, feed, go, st, Over, run_from};
+ghost use Rattle.nl_parse.specs.Depth.{least_depth};
+ghost use Rattle.nl_tree.specs.declared.declared.Form.{Form};
+ghost use Rattle.nl_parse.specs.View.{mark_of};
+ghost use Rattle.nl_parse.specs.Outcome.{Refuses, StopsAt, StopsIn, first_span};
+ghost use Rattle.nl_parse.specs.Reading.{mode_of};
+ghost use Rattle.nl_parse.specs.State.{state_of};
+
+use crate::classes::class_of_word;
+use crate::frames::{Ending, Frame, Mode};
+use crate::marks::{Head, Mark};
+use crate::parts::{Grouped, Grown, TOO_DEEP};
+use crate::reader::{Reader, Refusal};
+use nl_decl::word;
+use nl_fixed::{Names, NoMemory, Span, Str};
+use nl_scan::{Lexeme, Token, text_of};
+use nl_tree::{Declared, Form, Tree};
+use std::alloc::Global;
+
+/// What is wrong with a text.
+#[derive(Clone, Copy, Debug, PartialEq, Eq)]
+pub enum BodyKind {
+    /// A word that has no row and is no known local or input.
+    UnknownName,
+    /// A token that can't follow those before it.
+    Unexpected,
+    /// The tokens can still be read, but only as a tree of more than 200 levels.
+    TooDeep,
+}
+
+/// Why a text isn't read: its first fault with the place of the token with which it can no longer be good, or want of memory.
+///
+/// The place of what ends the text is the number of its tokens.
+#[derive(Clone, Copy, Debug, PartialEq, Eq)]
+pub enum BodyRefusal {
+    Fault { kind: BodyKind, place: usize },
+    NoMemory,
+}
+
+impl From<NoMemory> for BodyRefusal {
+    ghost use Rattle.std.specs.Prelude.{◌≡◌};
+    ghost use Rattle.nl_parse.specs.declared.body.BodyRefusal.TheVariants as BodyRefusal;
+
+    ghost from_gives = { λ _ refusal. refusal ≡ BodyRefusal.NoMemory };
+
+    fn from(_refused: NoMemory) -> BodyRefusal {
+        BodyRefusal::NoMemory
+    }
+}
+
+/// Reads the tokens of a body, or of a lone text, as one tree.
+///
+/// The tokens are some of those that `scan` gives for the text, and `end` is the place of what ends them. In a body the inputs are known
+/// from the start.
+pub fn read_body(
+    alloc: Global,
+    text: &[u8],
+    tokens: &[Token],
+    end: Span,
+    form: Form,
+    inputs: &Names,
+    declared: &Declared,
+) -> Result<Tree, BodyRefusal>
+    requires declared { IsDeclared declared.now }
+    requires tokens { All (IsTokenOf text.now) tokens.now }
+    ensures ok { IfOk result (λ tree. IsGood form inputs.now (terms declared.now) (plain_tokens text.now tokens.now ++ ends_at end ∷ []) (plain tree)) }
+    ensures fault { IfErr result (Refuses form inputs.now (terms declared.now) (plain_tokens text.now tokens.now ++ ends_at end ∷ [])) }
+{
+    let mut reader = begin(alloc, form, inputs, first_place(tokens, end))?;
+    reader.read_whole(text, tokens, end, declared)
+}
+
+// Where the first token stands, or what ends them.
+fn first_place(tokens: &[Token], end: Span) -> Span
+    ensures { result ≡ first_span tokens.now end }
+{
+    match tokens {
+        [token, ..] => token.span,
+        [] => end,
+    }
+}
+
+// The reader before the first token, which stands there.
+fn begin<'a>(
+    alloc: Global,
+    form: Form,
+    inputs: &'a Names,
+    first: Span,
+) -> Result<Reader<'a>, NoMemory>
+    ensures { IfOk result (λ reader. state_of reader ≡ start form inputs.now first) }
+{
+    let mut stack = Vec::new(alloc);
+    let mode = match form {
+        Form::Commands => {
+            let names = Vec::new(alloc);
+            let statements = Grouped::new(alloc);
+            stack.push(Frame::Statements(first, Ending::AtEnd, names, statements))?;
+            Mode::Stating
+        }
+        Form::Reporter => Mode::Begin,
+    };
+    Ok(Reader {
+        alloc,
+        inputs,
+        mode,
+        stack,
+    })
+}
+
+impl<'a> Reader<'a> {
+    // Goes over these tokens of the text and what ends them, from the start.
+    fn read_whole(
+        &mut self,
+        text: &[u8],
+        tokens: &[Token],
+        end: Span,
+        declared: &Declared,
+    ) -> Result<Tree, BodyRefusal>
+        requires declared { IsDeclared declared.now }
+        requires tokens { All (IsTokenOf text.now) tokens.now }
+        requires allowed { least_depth (state_of self.old) ≤ deepest }
+        ensures ok { (form : Form) (names : List (List ℕ)) → state_of self.old ≡ start form names (first_span tokens.now end) → IfOk result (λ tree. IsGood form names (terms declared.now) (plain_tokens text.now tokens.now ++ ends_at end ∷ []) (plain tree)) }
+        ensures fault { (form : Form) (names : List (List ℕ)) → state_of self.old ≡ start form names (first_span tokens.now end) → IfErr result (Refuses form names (terms declared.now) (plain_tokens text.now tokens.now ++ ends_at end ∷ [])) }
+    {
+        if let Err(refusal) = self.read_tokens(text, tokens, declared) {
+            return Err(refusal);
+        }
+        match self.finish(end, tokens.len()) {
+            Ok(tree) => Ok(tree),
+            Err(refusal) => Err(refusal),
+        }
+    }
+
+    // Goes over these tokens of the text.
+    fn read_tokens(
+        &mut self,
+        text: &[u8],
+        tokens: &[Token],
+        declared: &Declared,
+    ) -> Result<(), BodyRefusal>
+        requires declared { IsDeclared declared.now }
+        requires tokens { All (IsTokenOf text.now) tokens.now }
+        requires allowed { least_depth (state_of self.old) ≤ deepest }
+        ensures ok { OnOk result (run_from (go (state_of self.old)) (marked (terms declared.now) (plain_tokens text.now tokens.now)) ≡ go (state_of self.new)) }
+        ensures allowed { OnOk result (least_depth (state_of self.new) ≤ deepest) }
+        ensures fault { IfErr result (StopsIn (terms declared.now) text.now (state_of self.old) tokens.now) }
+    {
+        for (place, token) in tokens.iter().enumerate() {
+            let mark = mark_at(self.alloc, text, token, declared)?;
+            if let Err(refusal) = self.step(place, mark) {
+                return Err(refusal);
+            }
+        }
+        Ok(())
+    }
+
+    // Goes over one token, which stands at this place among all.
+    fn step(&mut self, place: usize, mark: Mark) -> Result<(), BodyRefusal>
+        ensures ok { OnOk result (feed (state_of self.old) (mark_of mark) ≡ go (state_of self.new)) }
+        ensures allowed { OnOk result (least_depth (state_of self.new) ≤ deepest) }
+        ensures fault { IfErr result (StopsAt (state_of self.old) (mark_of mark) place) }
+    {
+        let kind = self.kind_before(&mark);
+        match self.feed(mark) {
+            Ok(()) => {}
+            Err(Refusal::Unexpected) => return Err(BodyRefusal::Fault { kind, place }),
+            Err(Refusal::NoMemory) => return Err(BodyRefusal::NoMemory),
+        }
+        if self.least_depth() >= TOO_DEEP {
+            let kind = BodyKind::TooDeep;
+            return Err(BodyRefusal::Fault { kind, place });
+        }
+        Ok(())
+    }
+
+    // Goes over what ends the text, and gives the tree.
+    fn finish(&mut self, end: Span, place: usize) -> Result<Tree, BodyRefusal>
+        ensures ok { IfOk result (λ tree. (e : List (List ℕ)) × (K : List M.Frame) × ((feed (state_of self.old) (T.end end) ≡ go (st (Over (plain tree)) e K)) × (depth (plain tree) ≤ deepest))) }
+        ensures fault { IfErr result (StopsAt (state_of self.old) (T.end end) place) }
+    {
+        if let Err(refusal) = self.step(place, Mark::End(end)) {
+            return Err(refusal);
+        }
+        match self.take_whole() {
+            Some(tree) => Ok(tree.into_tree()),
+            None => unreachable!(),
+        }
+    }
+
+    // The tree of the whole text, if it is there.
+    fn take_whole(&mut self) -> Option<Grown>
+        ensures some { IfSome result (λ tree. mode_of self.old.mode ≡ Over tree) }
+        ensures none { IfNone result ((t : Node) → mode_of self.old.mode ≡ Over t → ⊥) }
+    {
+        match self.take_mode() {
+            Mode::Over(tree) => Some(tree),
+            _ => None,
+        }
+    }
+}
+
+// A token of the text with what the row of its word makes of it.
+fn mark_at(alloc: Global, text: &[u8], token: &Token, declared: &Declared) -> Result<Mark, NoMemory>
+    requires declared { IsDeclared declared.now }
+    requires token { IsTokenOf text.now token.now }
+    ensures { IfOk result (λ made. mark_of made ≡ mark (terms declared.now) (plain_token text.now token.now)) }
+{
+    let span = token.span;
+    match token.lexeme {
+        Lexeme::Word => {
+            let name = name_at(alloc, text, span)?;
+            let class = class_of_word(name.as_bytes(), word(declared, name.as_bytes()));
+            Ok(Mark::Word(Head { name, place: span }, class))
+        }
+        Lexeme::Number(number) => Ok(Mark::Number(number, span)),
+        Lexeme::Text => Ok(Mark::Text(text_of(alloc, text, token)?, span)),
+        Lexeme::Open => Ok(Mark::OpenBracket(span)),
+        Lexeme::Close => Ok(Mark::CloseBracket(span)),
+        Lexeme::OpenParen => Ok(Mark::OpenParen(span)),
+        Lexeme::CloseParen => Ok(Mark::CloseParen(span)),
+    }
+}
+
+// The word at a place, in lower case.
+fn name_at(alloc: Global, text: &[u8], place: Span) -> Result<Str, NoMemory>
+    requires { place.start + place.len ≤ length text.now }
+    ensures { IfOk result (λ name. name ≡ word_at text.now place) }
+{
+    let start = place.start as usize;
+    let end = start + place.len as usize;
+    Ok(Str::of_vec(text[start..end].to_ascii_lowercase(alloc)?))
+}

@@ -1,0 +1,244 @@
+//! Trees handed to what waits for them.
+ghost use Rattle.std.specs.Prelude.{◌≡◌, ◌∷◌, OnOk, IfOk};
+ghost use Rattle.nl_parse.specs.Machine.{end_statement, next, closed, supply, accept, end_list, settle, got, InMany, InNear};
+ghost use Rattle.nl_parse.specs.View.{needs_of};
+ghost use Rattle.nl_parse.specs.Reading.{last_of, shape_of, maybe_over};
+ghost use Rattle.nl_parse.specs.State.{stack_of, names_of, state_of};
+
+use crate::frames::{Frame, Last, Mode, Shape, begin_mode, build, closes};
+use crate::marks::{Head, Inputs};
+use crate::parts::{Grouped, Grown};
+use crate::reader::Reader;
+use nl_fixed::{NoMemory, Str};
+use nl_tree::Label;
+
+impl<'a> Reader<'a> {
+    /// Ends a statement that makes this name.
+    #[tactic(auto, using(crate::proofs::Framed::made_push))]
+    pub fn end_statement(&mut self, tree: Grown, made: Option<Str>) -> Result<(), NoMemory>
+        ensures { OnOk result (state_of self.new ≡ end_statement tree (maybe_over made (names_of self.old)) (stack_of self.old)) }
+    {
+        match self.take() {
+            Some(Frame::Statements(bracket, ending, names, statements)) => {
+                let mut names = names;
+                let mut statements = statements;
+                statements.add(self.alloc, tree)?;
+                if let Some(name) = made {
+                    names.push(name)?;
+                }
+                self.enter(
+                    Mode::Stating,
+                    Frame::Statements(bracket, ending, names, statements),
+                )
+            }
+            Some(Frame::StatementParen(bracket)) => {
+                self.enter(Mode::Ended(tree, made), Frame::StatementParen(bracket))
+            }
+            other => {
+                self.turn(Mode::Dead(other, made));
+                Ok(())
+            }
+        }
+    }
+
+    /// Goes on with the next input of a call, or with what follows its inputs.
+    pub fn next(
+        &mut self,
+        head: Head,
+        inputs: Grouped,
+        rest: Inputs,
+        last: Last,
+    ) -> Result<(), NoMemory>
+        ensures { OnOk result (state_of self.new ≡ next head.name head.place inputs (needs_of rest) (last_of last) (names_of self.old) (stack_of self.old)) }
+    {
+        match rest.split() {
+            Some((need, rest)) => {
+                self.enter(
+                    begin_mode(need),
+                    Frame::Call(head, inputs, need, rest, last),
+                )
+            }
+            None => match last {
+                Last::Item => self.enter(Mode::Begin, Frame::LastItem(head, inputs)),
+                Last::Block(block) => {
+                    self.enter(Mode::Opening(block), Frame::LastBlock(head, inputs, block))
+                }
+                Last::Nothing => {
+                    self.end_statement(inputs.under(Label::Named(head.name), head.place), None)
+                }
+            },
+        }
+    }
+
+    /// Hands a closed to what waits for it.
+    pub fn closed(&mut self, shape: Shape, tree: Grown) -> Result<(), NoMemory>
+        ensures { OnOk result (state_of self.new ≡ closed (shape_of shape) tree (names_of self.old) (stack_of self.old)) }
+    {
+        match self.take() {
+            Some(Frame::Near(head, sides, others)) => {
+                self.another_side(head, sides, others, shape, tree)
+            }
+            Some(frame) => self.enter(Mode::Have(shape, tree), frame),
+            None => {
+                self.turn(Mode::Have(shape, tree));
+                Ok(())
+            }
+        }
+    }
+
+    // A right side of an operator that has so many more.
+    #[tactic(auto, using(crate::proofs::Needs::one_less))]
+    fn another_side(
+        &mut self,
+        head: Head,
+        sides: Grouped,
+        others: u64,
+        shape: Shape,
+        tree: Grown,
+    ) -> Result<(), NoMemory>
+        ensures { OnOk result (state_of self.new ≡ closed (shape_of shape) tree (names_of self.old) (InNear head.name head.place sides others ∷ stack_of self.old)) }
+    {
+        let mut sides = sides;
+        sides.add(self.alloc, tree)?;
+        if others == 0 {
+            let tree = sides.under(Label::Named(head.name), head.place);
+            self.turn(Mode::Have(Shape::Fixed, tree));
+            return Ok(());
+        }
+        self.enter(Mode::Begin, Frame::Near(head, sides, others - 1))
+    }
+
+    /// Hands a block, or a variable, to what waits for it.
+    pub fn supply(&mut self, tree: Grown) -> Result<(), NoMemory>
+        ensures { OnOk result (state_of self.new ≡ supply tree (names_of self.old) (stack_of self.old)) }
+    {
+        match self.take() {
+            Some(Frame::Call(head, inputs, _, rest, last)) => {
+                let mut inputs = inputs;
+                inputs.add(self.alloc, tree)?;
+                self.next(head, inputs, rest, last)
+            }
+            Some(Frame::LastBlock(head, inputs, _)) => {
+                let mut inputs = inputs;
+                inputs.add(self.alloc, tree)?;
+                self.closed(
+                    Shape::Fixed,
+                    inputs.under(Label::Named(head.name), head.place),
+                )
+            }
+            Some(Frame::With(head, left)) => {
+                let tree = Grown::pair(
+                    self.alloc,
+                    Label::Named(head.name),
+                    head.place,
+                    left,
+                    tree,
+                )?;
+                self.turn(Mode::Have(Shape::Fixed, tree));
+                Ok(())
+            }
+            other => {
+                self.turn(Mode::Dead(other, None));
+                Ok(())
+            }
+        }
+    }
+
+    /// Hands an expression, or an item, that no operator follows to what waits for it.
+    pub fn accept(&mut self, shape: Shape, tree: Grown) -> Result<(), NoMemory>
+        ensures { OnOk result (state_of self.new ≡ accept (shape_of shape) tree (names_of self.old) (stack_of self.old)) }
+    {
+        match self.take() {
+            Some(Frame::Call(head, inputs, _, rest, last)) => {
+                let mut inputs = inputs;
+                inputs.add(self.alloc, tree)?;
+                self.next(head, inputs, rest, last)
+            }
+            Some(Frame::Many(head, items, others)) => self.another_item(
+                head, items, others, shape, tree,
+            ),
+            Some(Frame::Items(bracket, label, place, items)) => {
+                let mut items = items;
+                items.add(self.alloc, tree)?;
+                self.enter(Mode::Begin, Frame::Items(bracket, label, place, items))
+            }
+            Some(Frame::Let(head, name)) => {
+                let made = name.name.copy(self.alloc)?;
+                let named = Grown::leaf(self.alloc, Label::Named(name.name), name.place);
+                let tree = Grown::pair(
+                    self.alloc,
+                    Label::Named(head.name),
+                    head.place,
+                    named,
+                    tree,
+                )?;
+                self.end_statement(tree, Some(made))
+            }
+            Some(frame) => self.enter(Mode::Shut(shape, tree), frame),
+            None => {
+                self.turn(Mode::Shut(shape, tree));
+                Ok(())
+            }
+        }
+    }
+
+    // An item of a call that has so many more as a rule.
+    #[tactic(auto, using(crate::proofs::Needs::one_less))]
+    fn another_item(
+        &mut self,
+        head: Head,
+        items: Grouped,
+        others: u64,
+        shape: Shape,
+        tree: Grown,
+    ) -> Result<(), NoMemory>
+        ensures { OnOk result (state_of self.new ≡ accept (shape_of shape) tree (names_of self.old) (InMany head.name head.place items others ∷ stack_of self.old)) }
+    {
+        if others == 0 {
+            return self.enter(Mode::Shut(shape, tree), Frame::Many(head, items, 0));
+        }
+        let mut items = items;
+        items.add(self.alloc, tree)?;
+        self.enter(Mode::Begin, Frame::Many(head, items, others - 1))
+    }
+
+    /// Ends all that an operator of this level ends.
+    #[tactic(auto, using(crate::proofs::Framed::closed_makes_none))]
+    pub fn settle(
+        &mut self,
+        level: u8,
+        shape: Shape,
+        tree: Grown,
+    ) -> Result<(Shape, Grown), NoMemory>
+        ensures settled { IfOk result (λ held. settle level (shape_of shape) tree (stack_of self.old) ≡ got (shape_of held.0) held.1 (stack_of self.new)) }
+        ensures names { OnOk result (names_of self.new ≡ names_of self.old) }
+    {
+        let mut held = (shape, tree);
+        'frames: while let Some(frame) = self.take() {
+            if !closes(level, &frame) {
+                self.put(frame)?;
+                break 'frames;
+            }
+            held = build(self.alloc, frame, held.1)?;
+        }
+        Ok(held)
+    }
+
+    /// Hands a literal list to what waits for it.
+    pub fn end_list(&mut self, tree: Grown) -> Result<(), NoMemory>
+        ensures { OnOk result (state_of self.new ≡ end_list tree (names_of self.old) (stack_of self.old)) }
+    {
+        match self.take() {
+            Some(Frame::List(bracket, items)) => {
+                let mut items = items;
+                items.add(self.alloc, tree)?;
+                self.enter(Mode::Listing, Frame::List(bracket, items))
+            }
+            Some(frame) => {
+                self.put(frame)?;
+                self.closed(Shape::Literal, tree)
+            }
+            None => self.closed(Shape::Literal, tree),
+        }
+    }
+}

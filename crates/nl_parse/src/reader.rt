@@ -1,0 +1,97 @@
+//! The reader between two tokens, and the ways to its stack.
+ghost use Rattle.std.specs.Prelude.{◌≡◌, ◌∷◌, [], ◌+◌, length, IfSome, IfNone, OnOk, Err};
+ghost use Rattle.nl_parse.specs.declared.reader.Refusal.TheVariants as Refusal;
+ghost use Rattle.nl_tree.specs.Vocabulary.{among};
+ghost use Rattle.nl_parse.specs.Machine.{st};
+ghost use Rattle.nl_parse.specs.Reading.{frame_of, mode_of, mode_names, names_with};
+ghost use Rattle.nl_parse.specs.State.{stack_of, names_of, state_of};
+
+use crate::frames::{Frame, Mode, has_name, make_name};
+use nl_fixed::{Names, NoMemory};
+use std::alloc::Global;
+
+/// Why a token is not taken.
+#[derive(Drop)]
+pub enum Refusal {
+    /// Nothing that can still be read goes on with it.
+    Unexpected,
+    NoMemory,
+}
+
+impl From<NoMemory> for Refusal {
+    ghost use Rattle.std.specs.Prelude.{◌≡◌};
+    ghost use Rattle.nl_parse.specs.declared.reader.Refusal.TheVariants as Refusal;
+
+    ghost from_gives = { λ _ refusal. refusal ≡ Refusal.NoMemory };
+
+    fn from(_refused: NoMemory) -> Refusal {
+        Refusal::NoMemory
+    }
+}
+
+/// Lets go of what is in the way of a token that is not taken, or of the token.
+pub fn refuse<T: Drop>(_in_the_way: T) -> Result<(), Refusal>
+    ensures { result ≡ Err Refusal.Unexpected }
+{
+    Err(Refusal::Unexpected)
+}
+
+/// A reader between two tokens.
+///
+/// The stack has what is open, the newest last. A name is kept in the frame of the statements that know it, so closing a block forgets its
+/// names.
+#[derive(Drop)]
+pub struct Reader<'a> {
+    pub alloc: Global,
+    pub inputs: &'a Names,
+    pub mode: Mode,
+    pub stack: Vec<Frame>,
+}
+
+impl<'a> Reader<'a> {
+    /// Puts a frame on the stack.
+    #[tactic(auto, using(crate::proofs::Framed::frames_push, crate::proofs::Framed::names_push))]
+    pub fn put(&mut self, frame: Frame) -> Result<(), NoMemory>
+        ensures stack { OnOk result (stack_of self.new ≡ frame_of (names_of self.old) frame ∷ stack_of self.old) }
+        ensures names { OnOk result (names_of self.new ≡ names_with frame (names_of self.old)) }
+    {
+        self.stack.push(frame)?;
+        Ok(())
+    }
+
+    /// Puts a frame on the stack, inside of which this may come next.
+    pub fn enter(&mut self, mode: Mode, frame: Frame) -> Result<(), NoMemory>
+        ensures { OnOk result (state_of self.new ≡ st (mode_of mode) (mode_names mode (names_with frame (names_of self.old))) (frame_of (names_of self.old) frame ∷ stack_of self.old)) }
+    {
+        self.put(frame)?;
+        self.mode = mode;
+        Ok(())
+    }
+
+    /// Says what may come next.
+    pub fn turn(&mut self, mode: Mode)
+        ensures { state_of self.new ≡ st (mode_of mode) (mode_names mode (names_of self.old)) (stack_of self.old) }
+    {
+        self.mode = mode;
+    }
+
+    /// Takes the newest frame.
+    #[tactic(auto, using(crate::proofs::Framed::frames_push, crate::proofs::Framed::names_push))]
+    pub fn take(&mut self) -> Option<Frame>
+        ensures stack { IfSome result (λ frame. stack_of self.old ≡ frame_of (names_of self.new) frame ∷ stack_of self.new) }
+        ensures names { IfSome result (λ frame. names_of self.old ≡ names_with frame (names_of self.new)) }
+        ensures none { IfNone result (stack_of self.old ≡ []) }
+        ensures still_none { IfNone result (stack_of self.new ≡ []) }
+        ensures same_names { IfNone result (names_of self.new ≡ names_of self.old) }
+        ensures shorter { IfSome result (λ frame. length self.old.stack.items ≡ length self.new.stack.items + 1) }
+    {
+        self.stack.pop()
+    }
+
+    /// Whether the name is that of a local or an input that is known.
+    pub fn knows(&self, name: &[u8]) -> bool
+        ensures { result ≡ among name.now (names_of self.now) }
+    {
+        make_name(self.stack.as_slice(), name) || has_name(self.inputs.as_slice(), name)
+    }
+}

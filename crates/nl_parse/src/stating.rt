@@ -1,0 +1,195 @@
+//! Tokens of statements, of blocks and of names.
+ghost use Rattle.std.specs.Prelude.{◌≡◌, ◌∷◌, OnOk};
+ghost use Rattle.std.specs.Result.{IsErrOf};
+ghost use Rattle.nl_parse.specs.Machine.{go, stop, supply, feed_opening, feed_choosing, feed_ending, feed_statement, feed_stating, feed_naming, st, Stating, InStatements};
+ghost use Rattle.nl_tree.specs.Tree.{none};
+ghost use Rattle.nl_tree.specs.Grammar.{leaf, AtBracket};
+ghost use Rattle.nl_tree.specs.declared.tree.Label.TheVariants as label;
+ghost use Rattle.nl_parse.specs.declared.reader.Refusal.TheVariants.{Unexpected};
+ghost use Rattle.nl_parse.specs.View.{block_of, class_of, mark_of};
+ghost use Rattle.nl_tree.specs.Tokens.{word};
+ghost use Rattle.nl_parse.specs.Reading.{ending_of};
+ghost use Rattle.nl_parse.specs.State.{stack_of, names_of, state_of};
+
+use crate::frames::{Ending, Frame, Last, Mode};
+use crate::marks::{Block, Class, Head, Mark, begins_statement};
+use crate::parts::{Grouped, Grown};
+use crate::reader::{Reader, Refusal, refuse};
+use nl_fixed::{NoMemory, Span};
+use nl_tree::Label;
+
+impl<'a> Reader<'a> {
+    /// A token where a block begins.
+    pub fn feed_opening(&mut self, block: Block, mark: Mark) -> Result<(), Refusal>
+        ensures ok { OnOk result (feed_opening (block_of block) (names_of self.old) (stack_of self.old) (mark_of mark) ≡ go (state_of self.new)) }
+        ensures fault { IsErrOf result Unexpected → feed_opening (block_of block) (names_of self.old) (stack_of self.old) (mark_of mark) ≡ stop }
+    {
+        let Mark::OpenBracket(place) = mark else {
+            return Err(Refusal::Unexpected);
+        };
+        match block {
+            Block::Commands => self.open_statements(place)?,
+            Block::Reporter => self.enter(Mode::Begin, Frame::Reporter(place))?,
+        }
+        Ok(())
+    }
+
+    /// Begins a block of commands.
+    pub fn open_statements(&mut self, bracket: Span) -> Result<(), NoMemory>
+        ensures { OnOk result (state_of self.new ≡ st Stating (names_of self.old) (InStatements bracket AtBracket (names_of self.old) none ∷ stack_of self.old)) }
+    {
+        let names = Vec::new(self.alloc);
+        let statements = Grouped::new(self.alloc);
+        self.enter(
+            Mode::Stating,
+            Frame::Statements(bracket, Ending::AtBracket, names, statements),
+        )
+    }
+
+    /// A token where a variable's name is wanted.
+    pub fn feed_choosing(&mut self, mark: Mark) -> Result<(), Refusal>
+        ensures ok { OnOk result (feed_choosing (names_of self.old) (stack_of self.old) (mark_of mark) ≡ go (state_of self.new)) }
+        ensures fault { IsErrOf result Unexpected → feed_choosing (names_of self.old) (stack_of self.old) (mark_of mark) ≡ stop }
+    {
+        match mark {
+            Mark::Word(head, class) => self.choose_word(head, class),
+            other => refuse(other),
+        }
+    }
+
+    // A word where a variable's name is wanted.
+    fn choose_word(&mut self, head: Head, class: Class) -> Result<(), Refusal>
+        ensures ok { OnOk result (feed_choosing (names_of self.old) (stack_of self.old) (word head.name (class_of class) head.place) ≡ go (state_of self.new)) }
+        ensures fault { IsErrOf result Unexpected → feed_choosing (names_of self.old) (stack_of self.old) (word head.name (class_of class) head.place) ≡ stop }
+    {
+        match class {
+            Class::Named => {
+                self.choose(head)?;
+                Ok(())
+            }
+            Class::Unknown => {
+                if !self.knows(head.name.as_bytes()) {
+                    return Err(Refusal::Unexpected);
+                }
+                self.choose(head)?;
+                Ok(())
+            }
+            _ => Err(Refusal::Unexpected),
+        }
+    }
+
+    // A variable's name.
+    fn choose(&mut self, head: Head) -> Result<(), NoMemory>
+        ensures { OnOk result (state_of self.new ≡ supply (leaf (label.Named head.name) head.place) (names_of self.old) (stack_of self.old)) }
+    {
+        let tree = Grown::leaf(self.alloc, Label::Named(head.name), head.place);
+        self.supply(tree)
+    }
+
+    /// A token where a statement begins, or what ends statements.
+    pub fn feed_stating(&mut self, mark: Mark) -> Result<(), Refusal>
+        ensures ok { OnOk result (feed_stating (names_of self.old) (stack_of self.old) (mark_of mark) ≡ go (state_of self.new)) }
+        ensures fault { IsErrOf result Unexpected → feed_stating (names_of self.old) (stack_of self.old) (mark_of mark) ≡ stop }
+    {
+        match self.take() {
+            Some(Frame::Statements(bracket, ending, names, statements)) => {
+                if !begins_statement(&mark) {
+                    return self.feed_ending(ending, bracket, statements, mark);
+                }
+                self.put(Frame::Statements(bracket, ending, names, statements))?;
+                self.feed_statement(mark)
+            }
+            Some(Frame::StatementParen(bracket)) => {
+                self.put(Frame::StatementParen(bracket))?;
+                self.feed_statement(mark)
+            }
+            other => refuse(other),
+        }
+    }
+
+    // A token that ends statements, outside of which the stack is.
+    fn feed_ending(
+        &mut self,
+        ending: Ending,
+        bracket: Span,
+        statements: Grouped,
+        mark: Mark,
+    ) -> Result<(), Refusal>
+        ensures ok { OnOk result (feed_ending (ending_of ending) bracket statements (names_of self.old) (stack_of self.old) (mark_of mark) ≡ go (state_of self.new)) }
+        ensures fault { IsErrOf result Unexpected → feed_ending (ending_of ending) bracket statements (names_of self.old) (stack_of self.old) (mark_of mark) ≡ stop }
+    {
+        match (ending, &mark) {
+            (Ending::AtBracket, Mark::CloseBracket(_)) => {
+                self.supply(statements.under(Label::Commands, bracket))?;
+                Ok(())
+            }
+            (Ending::AtEnd, Mark::End(_)) => {
+                self.turn(Mode::Over(statements.under(Label::Commands, bracket)));
+                Ok(())
+            }
+            _ => Err(Refusal::Unexpected),
+        }
+    }
+
+    // A token that begins a statement.
+    fn feed_statement(&mut self, mark: Mark) -> Result<(), Refusal>
+        ensures ok { OnOk result (feed_statement (names_of self.old) (stack_of self.old) (mark_of mark) ≡ go (state_of self.new)) }
+        ensures fault { IsErrOf result Unexpected → feed_statement (names_of self.old) (stack_of self.old) (mark_of mark) ≡ stop }
+    {
+        match mark {
+            Mark::Word(head, class) => self.begin_statement(head, class),
+            Mark::OpenParen(place) => {
+                self.enter(Mode::Stating, Frame::StatementParen(place))?;
+                Ok(())
+            }
+            other => refuse(other),
+        }
+    }
+
+    // A word that begins a statement.
+    fn begin_statement(&mut self, head: Head, class: Class) -> Result<(), Refusal>
+        ensures ok { OnOk result (feed_statement (names_of self.old) (stack_of self.old) (word head.name (class_of class) head.place) ≡ go (state_of self.new)) }
+        ensures fault { IsErrOf result Unexpected → feed_statement (names_of self.old) (stack_of self.old) (word head.name (class_of class) head.place) ≡ stop }
+    {
+        match class {
+            Class::Command(inputs) => {
+                let none = Grouped::new(self.alloc);
+                self.next(head, none, inputs, Last::Nothing)?;
+                Ok(())
+            }
+            Class::Let => {
+                self.turn(Mode::Naming(head));
+                Ok(())
+            }
+            _ => Err(Refusal::Unexpected),
+        }
+    }
+
+    /// A token behind `let`, which is a new name.
+    pub fn feed_naming(&mut self, head: Head, mark: Mark) -> Result<(), Refusal>
+        ensures ok { OnOk result (feed_naming head.name head.place (names_of self.old) (stack_of self.old) (mark_of mark) ≡ go (state_of self.new)) }
+        ensures fault { IsErrOf result Unexpected → feed_naming head.name head.place (names_of self.old) (stack_of self.old) (mark_of mark) ≡ stop }
+    {
+        match mark {
+            Mark::Word(name, class) => self.begin_let(head, name, class),
+            other => refuse(other),
+        }
+    }
+
+    // A word where a new name is wanted.
+    fn begin_let(&mut self, head: Head, name: Head, class: Class) -> Result<(), Refusal>
+        ensures ok { OnOk result (feed_naming head.name head.place (names_of self.old) (stack_of self.old) (word name.name (class_of class) name.place) ≡ go (state_of self.new)) }
+        ensures fault { IsErrOf result Unexpected → feed_naming head.name head.place (names_of self.old) (stack_of self.old) (word name.name (class_of class) name.place) ≡ stop }
+    {
+        match class {
+            Class::Unknown => {
+                if self.knows(name.name.as_bytes()) {
+                    return Err(Refusal::Unexpected);
+                }
+                self.enter(Mode::Begin, Frame::Let(head, name))?;
+                Ok(())
+            }
+            _ => Err(Refusal::Unexpected),
+        }
+    }
+}

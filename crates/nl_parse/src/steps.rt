@@ -1,0 +1,231 @@
+//! The next token, in each mode.
+ghost use Rattle.std.specs.Prelude.{◌≡◌, ◌∷◌, suc, nat_lt, OnOk, IfOk};
+ghost use Rattle.std.specs.Result.{IsErrOf};
+ghost use Rattle.nl_tree.specs.Grammar.{top};
+ghost use Rattle.nl_parse.specs.Machine.{InCall, next, without_maybes, st, go, stop, settle, takes_operator, feed_plain, feed_optional, feed_ready, feed_broken, feed_binary, feed_of, feed_have, feed};
+ghost use Rattle.nl_parse.specs.declared.reader.Refusal.TheVariants.{Unexpected};
+ghost use Rattle.nl_parse.specs.View.{class_of, mark_of, need_of, needs_of};
+ghost use Rattle.nl_tree.specs.Tokens.{word};
+ghost use Rattle.nl_parse.specs.Reading.{last_of, mode_of, mode_names, shape_of};
+ghost use Rattle.nl_parse.specs.State.{stack_of, names_of, state_of};
+
+use crate::frames::{Frame, Last, Mode, Shape, TOP, takes_operator};
+use crate::marks::{Block, Class, Head, Inputs, Mark, Need};
+use crate::parts::{Grouped, Grown};
+use crate::reader::{Reader, Refusal, refuse};
+use nl_fixed::NoMemory;
+use nl_tree::Label;
+use std::mem;
+
+impl<'a> Reader<'a> {
+    /// The next token.
+    pub fn feed(&mut self, mark: Mark) -> Result<(), Refusal>
+        ensures ok { OnOk result (feed (state_of self.old) (mark_of mark) ≡ go (state_of self.new)) }
+        ensures fault { IsErrOf result Unexpected → feed (state_of self.old) (mark_of mark) ≡ stop }
+    {
+        match self.take_mode() {
+            Mode::Have(shape, tree) => self.feed_have(shape, tree, mark),
+            mode => self.feed_ready(mode, mark),
+        }
+    }
+
+    /// Takes out what may come next.
+    pub fn take_mode(&mut self) -> Mode
+        ensures state { state_of self.old ≡ st (mode_of result) (mode_names result (names_of self.new)) (stack_of self.new) }
+        ensures mode { result ≡ self.old.mode }
+        ensures names { names_of self.new ≡ names_of self.old }
+        ensures stack { stack_of self.new ≡ stack_of self.old }
+    {
+        mem::replace(&mut self.mode, Mode::Dead(None, None))
+    }
+
+    // A token in this mode, where no chain is at hand.
+    fn feed_ready(&mut self, mode: Mode, mark: Mark) -> Result<(), Refusal>
+        ensures ok { OnOk result (feed_ready (st (mode_of mode) (mode_names mode (names_of self.old)) (stack_of self.old)) (mark_of mark) ≡ go (state_of self.new)) }
+        ensures fault { IsErrOf result Unexpected → feed_ready (st (mode_of mode) (mode_names mode (names_of self.old)) (stack_of self.old)) (mark_of mark) ≡ stop }
+    {
+        match mode {
+            Mode::Optional => self.feed_optional(mark),
+            mode => self.feed_plain(mode, mark),
+        }
+    }
+
+    // A token where a block of commands may be missing.
+    fn feed_optional(&mut self, mark: Mark) -> Result<(), Refusal>
+        ensures ok { OnOk result (feed_optional (names_of self.old) (stack_of self.old) (mark_of mark) ≡ go (state_of self.new)) }
+        ensures fault { IsErrOf result Unexpected → feed_optional (names_of self.old) (stack_of self.old) (mark_of mark) ≡ stop }
+    {
+        match self.take() {
+            Some(Frame::Call(head, inputs, need, rest, last)) => {
+                self.feed_maybe(head, inputs, need, rest, last, mark)
+            }
+            other => refuse(other),
+        }
+    }
+
+    // The same inside this call.
+    fn feed_maybe(
+        &mut self,
+        head: Head,
+        inputs: Grouped,
+        need: Need,
+        rest: Inputs,
+        last: Last,
+        mark: Mark,
+    ) -> Result<(), Refusal>
+        ensures ok { OnOk result (feed_optional (names_of self.old) (InCall head.name head.place inputs (need_of need) (needs_of rest) (last_of last) ∷ stack_of self.old) (mark_of mark) ≡ go (state_of self.new)) }
+        ensures fault { IsErrOf result Unexpected → feed_optional (names_of self.old) (InCall head.name head.place inputs (need_of need) (needs_of rest) (last_of last) ∷ stack_of self.old) (mark_of mark) ≡ stop }
+    {
+        match mark {
+            Mark::OpenBracket(place) => {
+                self.put(Frame::Call(head, inputs, need, rest, last))?;
+                self.open_statements(place)?;
+                Ok(())
+            }
+            mark => self.feed_without(head, inputs, rest, last, mark),
+        }
+    }
+
+    // A token in this call, where a block is missing.
+    fn feed_without(
+        &mut self,
+        head: Head,
+        inputs: Grouped,
+        rest: Inputs,
+        last: Last,
+        mark: Mark,
+    ) -> Result<(), Refusal>
+        ensures ok { OnOk result (feed_plain (next head.name head.place inputs (without_maybes (needs_of rest)) (last_of last) (names_of self.old) (stack_of self.old)) (mark_of mark) ≡ go (state_of self.new)) }
+        ensures fault { IsErrOf result Unexpected → feed_plain (next head.name head.place inputs (without_maybes (needs_of rest)) (last_of last) (names_of self.old) (stack_of self.old)) (mark_of mark) ≡ stop }
+    {
+        self.next(head, inputs, rest.without_maybes(), last)?;
+        let mode = self.take_mode();
+        self.feed_plain(mode, mark)
+    }
+
+    // A token in this mode, where no chain is at hand and no block may be missing.
+    fn feed_plain(&mut self, mode: Mode, mark: Mark) -> Result<(), Refusal>
+        ensures ok { OnOk result (feed_plain (st (mode_of mode) (mode_names mode (names_of self.old)) (stack_of self.old)) (mark_of mark) ≡ go (state_of self.new)) }
+        ensures fault { IsErrOf result Unexpected → feed_plain (st (mode_of mode) (mode_names mode (names_of self.old)) (stack_of self.old)) (mark_of mark) ≡ stop }
+    {
+        match mode {
+            Mode::Begin => self.feed_begin(mark),
+            Mode::Opening(block) => self.feed_opening(block, mark),
+            Mode::Choosing => self.feed_choosing(mark),
+            Mode::Blocked(block) => self.feed_blocked(block, mark),
+            Mode::Shut(shape, tree) => self.feed_shut(shape, tree, mark),
+            Mode::Listing => self.feed_listing(mark),
+            Mode::Stating => self.feed_stating(mark),
+            Mode::Naming(head) => self.feed_naming(head, mark),
+            Mode::Ended(tree, made) => self.feed_ended(tree, made, mark),
+            other => refuse(other),
+        }
+    }
+
+    // A token where a chain is at hand.
+    fn feed_have(&mut self, shape: Shape, tree: Grown, mark: Mark) -> Result<(), Refusal>
+        ensures ok { OnOk result (feed_have (shape_of shape) tree (names_of self.old) (stack_of self.old) (mark_of mark) ≡ go (state_of self.new)) }
+        ensures fault { IsErrOf result Unexpected → feed_have (shape_of shape) tree (names_of self.old) (stack_of self.old) (mark_of mark) ≡ stop }
+    {
+        match mark {
+            Mark::Word(head, class) => self.have_word(shape, tree, head, class),
+            mark => self.feed_broken(shape, tree, mark),
+        }
+    }
+
+    // A word where a chain is at hand.
+    fn have_word(
+        &mut self,
+        shape: Shape,
+        tree: Grown,
+        head: Head,
+        class: Class,
+    ) -> Result<(), Refusal>
+        ensures ok { OnOk result (feed_have (shape_of shape) tree (names_of self.old) (stack_of self.old) (word head.name (class_of class) head.place) ≡ go (state_of self.new)) }
+        ensures fault { IsErrOf result Unexpected → feed_have (shape_of shape) tree (names_of self.old) (stack_of self.old) (word head.name (class_of class) head.place) ≡ stop }
+    {
+        match class {
+            Class::With => {
+                self.enter(Mode::Opening(Block::Reporter), Frame::With(head, tree))?;
+                Ok(())
+            }
+            Class::Near(others) => {
+                let sides = Grouped::of(self.alloc, tree)?;
+                self.enter(Mode::Begin, Frame::Near(head, sides, others))?;
+                Ok(())
+            }
+            Class::Of => self.feed_of(head, tree),
+            Class::Binary(level, _) => self.feed_binary(level, head, shape, tree),
+            class => self.feed_broken(shape, tree, Mark::Word(head, class)),
+        }
+    }
+
+    // A token that ends the chain at hand, and all that is open with it.
+    fn feed_broken(&mut self, shape: Shape, tree: Grown, mark: Mark) -> Result<(), Refusal>
+        ensures ok { OnOk result (feed_broken (names_of self.old) (settle top (shape_of shape) tree (stack_of self.old)) (mark_of mark) ≡ go (state_of self.new)) }
+        ensures fault { IsErrOf result Unexpected → feed_broken (names_of self.old) (settle top (shape_of shape) tree (stack_of self.old)) (mark_of mark) ≡ stop }
+    {
+        let (shape, tree) = self.settle(TOP, shape, tree)?;
+        self.accept(shape, tree)?;
+        let mode = self.take_mode();
+        self.feed_ready(mode, mark)
+    }
+
+    // An operator of a level, behind its left side.
+    fn feed_binary(
+        &mut self,
+        level: u8,
+        head: Head,
+        shape: Shape,
+        tree: Grown,
+    ) -> Result<(), Refusal>
+        ensures ok { OnOk result (feed_binary (nat_lt level top) level head.name head.place (names_of self.old) (settle (suc level) (shape_of shape) tree (stack_of self.old)) ≡ go (state_of self.new)) }
+        ensures fault { IsErrOf result Unexpected → feed_binary (nat_lt level top) level head.name head.place (names_of self.old) (settle (suc level) (shape_of shape) tree (stack_of self.old)) ≡ stop }
+    {
+        if level >= TOP {
+            return Err(Refusal::Unexpected);
+        }
+        let (_, left) = self.settle(level + 1, shape, tree)?;
+        if !self.may_operate()? {
+            return Err(Refusal::Unexpected);
+        }
+        self.enter(Mode::Begin, Frame::Binary(level + 1, head, left))?;
+        Ok(())
+    }
+
+    // Whether an operator may follow an expression here.
+    fn may_operate(&mut self) -> Result<bool, NoMemory>
+        ensures takes { IfOk result (λ takes. takes ≡ takes_operator (stack_of self.old)) }
+        ensures stack { OnOk result (stack_of self.new ≡ stack_of self.old) }
+        ensures names { OnOk result (names_of self.new ≡ names_of self.old) }
+    {
+        match self.take() {
+            Some(frame) => {
+                let takes = takes_operator(&frame);
+                self.put(frame)?;
+                Ok(takes)
+            }
+            None => Ok(true),
+        }
+    }
+
+    // `of` behind a list, which is a block if it has one literal.
+    #[tactic(auto, using(crate::proofs::Stacked::a_block, crate::proofs::Stacked::no_block))]
+    fn feed_of(&mut self, head: Head, tree: Grown) -> Result<(), Refusal>
+        ensures ok { OnOk result (feed_of head.name head.place tree (names_of self.old) (stack_of self.old) ≡ go (state_of self.new)) }
+        ensures fault { IsErrOf result Unexpected → feed_of head.name head.place tree (names_of self.old) (stack_of self.old) ≡ stop }
+    {
+        let (label, place, parts) = tree.taken_apart();
+        let Label::List = label else {
+            return Err(Refusal::Unexpected);
+        };
+        if !parts.is_one() {
+            return Err(Refusal::Unexpected);
+        }
+        self.enter(
+            Mode::Begin,
+            Frame::Of(head, parts.under(Label::Reporter, place)),
+        )?;
+        Ok(())
+    }
+}
