@@ -1,0 +1,11 @@
+pub mod Answers
+pub mod Bodies
+pub mod Calls
+pub mod Faults
+pub mod Given
+pub mod Kinds
+pub mod Reach
+pub mod Steps
+pub mod Tables
+pub mod Words
+pub mod Samples

@@ -1,0 +1,120 @@
+//! What agents an expression may give, by the rows of its words.
+ghost use Rattle.std.specs.Prelude.{◌≡◌, ◌<◌, ℕ, List, IfSome, Some, if◌then◌else◌};
+ghost use Rattle.nl_tree.specs.Term.{Term};
+ghost use Rattle.std.specs.Option.{option_copied, option_map};
+ghost use Rattle.nl_tree.specs.Names.{IsDeclared};
+ghost use Rattle.nl_tree.specs.Views.{plain};
+ghost use Rattle.nl_tree.specs.Tree.{size, parts, nodes};
+ghost use Rattle.nl_tree.specs.Vocabulary.{terms};
+ghost use Rattle.nl_tree.specs.Context.{given, givens, told, agents_of, block_kinds, last_value};
+ghost use Rattle.nl_words.specs.Kinds.{agents};
+ghost use Rattle.nl_tree.specs.Tokens.{inputs_of};
+ghost use Rattle.nl_check.specs.Words.{row};
+ghost use Rattle.nl_check.specs.Given.{given_by, is_value};
+
+use crate::kinds::kinds;
+use crate::words::{input_at, is_nearest, makes_links, makes_turtles};
+use nl_decl::{Word, word};
+use nl_tree::{Declared, Label, Tree};
+use nl_words::{Input, Kinds};
+
+/// The kinds of agents that run a word's block first: new turtles, new links, or what the word's input of agents may give.
+pub(crate) fn block_kinds(declared: &Declared, word: &Word, tree: &Tree) -> Kinds
+    requires { IsDeclared declared.now }
+    ensures { result ≡ block_kinds (row word.now) (givens (terms declared.now) (nodes (parts (plain tree.now)))) }
+{
+    if makes_turtles(word.what) {
+        return kinds(false, true, false, false);
+    }
+    if makes_links(word.what) {
+        return kinds(false, false, false, true);
+    }
+    agents_of(declared, word, tree)
+}
+
+// What the word's input of agents may give, among the parts of its node.
+#[cycle(given)]
+fn agents_of(declared: &Declared, word: &Word, tree: &Tree) -> Kinds
+    requires { IsDeclared declared.now }
+    ensures { result ≡ agents_of (row word.now) (givens (terms declared.now) (nodes (parts (plain tree.now)))) }
+{
+    match agents_part(word, tree) {
+        Some(part) => given(declared, part),
+        None => kinds(false, true, true, true),
+    }
+}
+
+// What agents the expression may give.
+#[cycle(given)]
+fn given(declared: &Declared, tree: &Tree) -> Kinds
+    requires { IsDeclared declared.now }
+    ensures { result ≡ given (terms declared.now) (plain tree.now) }
+{
+    match tree.label() {
+        Label::Named(name) => match word(declared, name.as_bytes()) {
+            Some(word) => told(declared, &word, tree),
+            None => kinds(false, true, true, true),
+        },
+        Label::Paren => match tree.part(0) {
+            Some(part) => given(declared, part),
+            None => kinds(false, true, true, true),
+        },
+        _ => kinds(false, true, true, true),
+    }
+}
+
+// What the word's row tells of the agents that it gives.
+#[cycle(given)]
+fn told(declared: &Declared, word: &Word, tree: &Tree) -> Kinds
+    requires { IsDeclared declared.now }
+    ensures { result ≡ told (row word.now) (givens (terms declared.now) (nodes (parts (plain tree.now)))) }
+{
+    let gives = word.gives;
+    if gives.turtle && gives.patch && gives.link {
+        return agents_of(declared, word, tree);
+    }
+    if gives.turtle || gives.patch || gives.link {
+        return gives;
+    }
+    kinds(false, true, true, true)
+}
+
+// The part that is the word's input of agents: the left side of an operator of level 1, else the last value.
+fn agents_part<'a>(word: &Word, tree: &'a Tree) -> Option<&'a Tree>
+    ensures value { (table : List Term) → given_by table (option_map plain (option_copied result)) ≡ agents_of (row word.now) (givens table (nodes (parts (plain tree.now)))) }
+    ensures smaller { IfSome result (λ part. size (plain part.now) < size (plain tree.now)) }
+{
+    if is_nearest(word.role) {
+        return tree.part(0);
+    }
+    last_value(word, tree)
+}
+
+// The part that is the word's last value.
+fn last_value<'a>(word: &Word, tree: &'a Tree) -> Option<&'a Tree>
+    ensures value { (table : List Term) → given_by table (option_map plain (option_copied result)) ≡ last_value agents (inputs_of (row word.now)) (givens table (nodes (parts (plain tree.now)))) }
+    ensures smaller { IfSome result (λ part. size (plain part.now) < size (plain tree.now)) }
+{
+    let mut found = None;
+    for at in 0..tree.len() {
+        let Some(part) = tree.part(at) else {
+            return found;
+        };
+        found = chosen(is_value(input_at(word, at)), part, found);
+    }
+    found
+}
+
+fn is_value(input: Option<Input>) -> bool
+    ensures { result ≡ is_value input }
+{
+    matches!(input, Some(Input::Value))
+}
+
+// The part where it is chosen, else what was found before.
+fn chosen<'a>(here: bool, part: &'a Tree, found: Option<&'a Tree>) -> Option<&'a Tree>
+    ensures is { option_map plain (option_copied result) ≡ (if here then Some (plain part.now) else option_map plain (option_copied found.entry)) }
+    ensures smaller { (n : ℕ) → size (plain part.now) < n → IfSome found.entry (λ t. size (plain t.now) < n) → IfSome result (λ t. size (plain t.now) < n) }
+{
+    if here { Some(part) } else { found }
+}
