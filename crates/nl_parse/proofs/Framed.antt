@@ -37,7 +37,7 @@ or_true true b h = refl
 or_true false b h = h
 
 keeps_with : (w : List ℕ) (f : Frame) (e : List (List ℕ)) → among w e ≡ true → among w (names_with f e) ≡ true
-keeps_with w (Frame.Statements s k made ts) e h = among_made w made.items e ∙ or_true (among w made.items) (among w e) h
+keeps_with w (Frame.Statements s k made ts) e h = among_made w made e ∙ or_true (among w made) (among w e) h
 keeps_with w f e h = h
 
 keeps : (w : List ℕ) (fs : List Frame) (e : List (List ℕ)) → among w e ≡ true → among w (names_onto fs e) ≡ true

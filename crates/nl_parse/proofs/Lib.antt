@@ -6,6 +6,7 @@ pub mod Ends
 pub mod FaultKinds
 pub mod Framed
 pub mod Good
+pub mod Indexed
 pub mod Known
 pub mod Levels
 pub mod Lists

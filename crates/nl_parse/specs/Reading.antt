@@ -50,7 +50,7 @@ made_over (n ∷ ns) e = made_over ns (n ∷ e)
 
 -- the names known inside a frame
 abbrev pub names_with : Frame → List (List ℕ) → List (List ℕ)
-names_with (Frame.Statements s k made ts) e = made_over made.items e
+names_with (Frame.Statements s k made ts) e = made_over made e
 names_with f e = e
 
 abbrev pub names_within : Option Frame → List (List ℕ) → List (List ℕ)

@@ -20,6 +20,7 @@ ghost use Rattle.nl_parse.specs.State.{state_of};
 
 use crate::classes::class_of_word;
 use crate::frames::{Ending, Frame, Mode};
+use crate::known_names::KnownNames;
 use crate::marks::{Head, Mark};
 use crate::parts::{Grouped, Grown, TOO_DEEP};
 use crate::reader::{Reader, Refusal};
@@ -78,7 +79,8 @@ pub fn read_body(
     ensures ok { IfOk result (λ tree. IsGood form inputs.now (terms declared.now) (plain_tokens text.now tokens.now ++ ends_at end ∷ []) (plain tree)) }
     ensures fault { IfErr result (Refuses form inputs.now (terms declared.now) (plain_tokens text.now tokens.now ++ ends_at end ∷ [])) }
 {
-    let mut reader = begin(alloc, form, inputs, first_place(tokens, end))?;
+    let inputs = KnownNames::of(alloc, inputs.as_slice())?;
+    let mut reader = begin(alloc, form, &inputs, first_place(tokens, end))?;
     reader.read_whole(text, tokens, end, declared)
 }
 
@@ -96,7 +98,7 @@ fn first_place(tokens: &[Token], end: Span) -> Span
 fn begin<'a>(
     alloc: Global,
     form: Form,
-    inputs: &'a Names,
+    inputs: &'a KnownNames,
     first: Span,
 ) -> Result<Reader<'a>, NoMemory>
     ensures { IfOk result (λ reader. state_of reader ≡ start form inputs.now first) }
@@ -104,7 +106,7 @@ fn begin<'a>(
     let mut stack = Vec::new(alloc);
     let mode = match form {
         Form::Commands => {
-            let names = Vec::new(alloc);
+            let names = KnownNames::empty(alloc);
             let statements = Grouped::new(alloc);
             stack.push(Frame::Statements(first, Ending::AtEnd, names, statements))?;
             Mode::Stating

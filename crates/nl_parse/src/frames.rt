@@ -6,6 +6,7 @@ ghost use Rattle.nl_parse.specs.View.{need_of};
 ghost use Rattle.nl_parse.specs.Reading.{frame_of, mode_of, mode_names, shape_of, names_with, names_onto};
 ghost use Rattle.nl_tree.specs.Vocabulary.{among};
 
+use crate::known_names::KnownNames;
 use crate::marks::{Block, Head, Inputs, Need};
 use crate::parts::{Grouped, Grown};
 use nl_fixed::{NoMemory, Span, Str};
@@ -69,7 +70,7 @@ pub enum Frame {
     Let(Head, Head),
     StatementParen(Span),
     /// Statements, what ends them, and the names that they made, newest last.
-    Statements(Span, Ending, Vec<Str>, Grouped),
+    Statements(Span, Ending, KnownNames, Grouped),
 }
 
 /// What may come next.
@@ -170,7 +171,7 @@ pub fn makes_name(frame: &Frame, name: &[u8]) -> bool
     ensures { (e : List (List ℕ)) → among name.now (names_with frame.now e) ≡ (result || among name.now e) }
 {
     match frame {
-        Frame::Statements(_, _, made, _) => has_name(made.as_slice(), name),
+        Frame::Statements(_, _, made, _) => made.has(name),
         _ => false,
     }
 }
@@ -185,11 +186,4 @@ pub fn make_name(frames: &[Frame], name: &[u8]) -> bool
         }
     }
     false
-}
-
-/// Whether the name is one of these.
-pub fn has_name(names: &[Str], name: &[u8]) -> bool
-    ensures { result ≡ among name.now names.now }
-{
-    names.iter().any(|known| known.as_bytes() == name)
 }

@@ -24,7 +24,7 @@ impl<'a> Reader<'a> {
                 let mut statements = statements;
                 statements.add(self.alloc, tree)?;
                 if let Some(name) = made {
-                    names.push(name)?;
+                    names.push(self.alloc, name)?;
                 }
                 self.enter(
                     Mode::Stating,

@@ -9,6 +9,7 @@ mod depths;
 mod frames;
 mod handing;
 mod kinds;
+mod known_names;
 pub mod laws;
 mod marks;
 mod parts;

@@ -6,8 +6,9 @@ ghost use Rattle.nl_parse.specs.Machine.{st};
 ghost use Rattle.nl_parse.specs.Reading.{frame_of, mode_of, mode_names, names_with};
 ghost use Rattle.nl_parse.specs.State.{stack_of, names_of, state_of};
 
-use crate::frames::{Frame, Mode, has_name, make_name};
-use nl_fixed::{Names, NoMemory};
+use crate::frames::{Frame, Mode, make_name};
+use crate::known_names::KnownNames;
+use nl_fixed::NoMemory;
 use std::alloc::Global;
 
 /// Why a token is not taken.
@@ -43,7 +44,7 @@ pub fn refuse<T: Drop>(_in_the_way: T) -> Result<(), Refusal>
 #[derive(Drop)]
 pub struct Reader<'a> {
     pub alloc: Global,
-    pub inputs: &'a Names,
+    pub inputs: &'a KnownNames,
     pub mode: Mode,
     pub stack: Vec<Frame>,
 }
@@ -92,6 +93,6 @@ impl<'a> Reader<'a> {
     pub fn knows(&self, name: &[u8]) -> bool
         ensures { result ≡ among name.now (names_of self.now) }
     {
-        make_name(self.stack.as_slice(), name) || has_name(self.inputs.as_slice(), name)
+        make_name(self.stack.as_slice(), name) || self.inputs.has(name)
     }
 }

@@ -12,6 +12,7 @@ ghost use Rattle.nl_parse.specs.Reading.{ending_of};
 ghost use Rattle.nl_parse.specs.State.{stack_of, names_of, state_of};
 
 use crate::frames::{Ending, Frame, Last, Mode};
+use crate::known_names::KnownNames;
 use crate::marks::{Block, Class, Head, Mark, begins_statement};
 use crate::parts::{Grouped, Grown};
 use crate::reader::{Reader, Refusal, refuse};
@@ -38,7 +39,7 @@ impl<'a> Reader<'a> {
     pub fn open_statements(&mut self, bracket: Span) -> Result<(), NoMemory>
         ensures { OnOk result (state_of self.new ≡ st Stating (names_of self.old) (InStatements bracket AtBracket (names_of self.old) none ∷ stack_of self.old)) }
     {
-        let names = Vec::new(self.alloc);
+        let names = KnownNames::empty(self.alloc);
         let statements = Grouped::new(self.alloc);
         self.enter(
             Mode::Stating,
