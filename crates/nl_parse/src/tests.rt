@@ -326,23 +326,75 @@ fn nested_gives(
     }
 }
 
+// Whether each text of these parts, nested as often as its row says, gives what is wanted.
+fn all_nested_give(
+    alloc: Global,
+    form: Form,
+    parts: (&'static str, &'static str, &'static str),
+    rows: &[(usize, Want)],
+) -> bool {
+    for (times, want) in rows {
+        if !nested_gives(alloc, form, *times, parts, *want) {
+            return false;
+        }
+    }
+    true
+}
+
 #[test]
 fn trees_have_two_hundred_levels_at_most(rt: HostRuntime) {
     let alloc = rt.alloc();
     let parens = ("(", "1", ")");
-    assert!(rt; nested_gives(alloc, Form::Reporter, 198, parens, Want::Read));
-    assert!(rt; nested_gives(alloc, Form::Reporter, 199, parens, Want::Read));
-    assert!(rt; nested_gives(alloc, Form::Reporter, 200, parens, Want::Deep(199)));
+    let rows = [(198, Want::Read), (199, Want::Read), (200, Want::Deep(199))];
+    assert!(rt; all_nested_give(alloc, Form::Reporter, parens, rows.as_slice()));
     let brackets = ("[", "", "]");
-    assert!(rt; nested_gives(alloc, Form::Reporter, 200, brackets, Want::Read));
-    assert!(rt; nested_gives(alloc, Form::Reporter, 201, brackets, Want::Deep(200)));
+    let rows = [(199, Want::Read), (200, Want::Read), (201, Want::Deep(200))];
+    assert!(rt; all_nested_give(alloc, Form::Reporter, brackets, rows.as_slice()));
     let prefixes = ("not ", "true", "");
-    assert!(rt; nested_gives(alloc, Form::Reporter, 199, prefixes, Want::Read));
-    assert!(rt; nested_gives(alloc, Form::Reporter, 200, prefixes, Want::Deep(199)));
+    let rows = [(198, Want::Read), (199, Want::Read), (200, Want::Deep(199))];
+    assert!(rt; all_nested_give(alloc, Form::Reporter, prefixes, rows.as_slice()));
     let sums = ("", "1", " + 1");
-    assert!(rt; nested_gives(alloc, Form::Reporter, 199, sums, Want::Read));
-    assert!(rt; nested_gives(alloc, Form::Reporter, 200, sums, Want::Deep(399)));
+    let rows = [(198, Want::Read), (199, Want::Read), (200, Want::Deep(399))];
+    assert!(rt; all_nested_give(alloc, Form::Reporter, sums, rows.as_slice()));
+    // A whole body, 199 levels, and with one more, 200 levels.
+    let calls = ("if true [ ", "fd 1", " ]");
+    assert!(rt; nested_gives(alloc, Form::Commands, 98, calls, Want::Read));
     let blocks = ("if true [ ", "stop", " ]");
-    assert!(rt; nested_gives(alloc, Form::Commands, 99, blocks, Want::Read));
-    assert!(rt; nested_gives(alloc, Form::Commands, 100, blocks, Want::Deep(297)));
+    let rows = [(99, Want::Read), (100, Want::Deep(297))];
+    assert!(rt; all_nested_give(alloc, Form::Commands, blocks, rows.as_slice()));
+}
+
+// Appends so many numbers, each between these pieces.
+fn put_each(
+    alloc: Global,
+    text: &mut Vec<u8>,
+    times: usize,
+    before: &'static str,
+    behind: &'static str,
+) -> Result<(), NoMemory> {
+    for number in 0..times {
+        let piece = format!(in alloc; "{before}{number}{behind}")?;
+        text.extend_from_slice(piece.as_bytes())?;
+    }
+    Ok(())
+}
+
+// A body that makes so many names, and then uses each of them.
+fn many_locals(alloc: Global, names: usize) -> Result<Vec<u8>, NoMemory> {
+    let mut text = Vec::new(alloc);
+    put_each(alloc, &mut text, names, "let a", " 1 ")?;
+    put_each(alloc, &mut text, names, "show a", " ")?;
+    Ok(text)
+}
+
+fn reads_many_locals(alloc: Global, names: usize) -> bool {
+    match many_locals(alloc, names) {
+        Ok(text) => gives(alloc, Form::Commands, text.as_slice(), Want::Read),
+        Err(_) => false,
+    }
+}
+
+#[test]
+fn a_thousand_locals_are_read_and_known(rt: HostRuntime) {
+    assert!(rt; reads_many_locals(rt.alloc(), 1_000));
 }
