@@ -9,3 +9,4 @@ mod Pieces
 mod SampleModel
 mod Sites
 mod Verdicts
+pub mod Firsts

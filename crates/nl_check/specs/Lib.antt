@@ -4,6 +4,7 @@ pub mod Calls
 pub mod Faults
 pub mod Given
 pub mod Kinds
+pub mod Laws
 pub mod Reach
 pub mod Steps
 pub mod Tables

@@ -8,6 +8,7 @@ mod faults;
 mod gather;
 mod given;
 mod kinds;
+pub mod laws;
 mod reach;
 pub mod refusal;
 mod rows;

@@ -1,0 +1,14 @@
+//! What the definitions of faults of context mean. These functions do nothing: the contract of each is a law.
+ghost use Rattle.nl_check.specs.Laws.{FaultsAreUnique, LoneFaultsAreUnique, RightBodiesHaveNoFault, RightTextsHaveNoFault};
+
+/// The bodies of a model have one first fault at most: one body, one kind of fault and one place. So has a lone text.
+pub fn faults_are_unique()
+    ensures model { FaultsAreUnique }
+    ensures lone { LoneFaultsAreUnique }
+{}
+
+/// The bodies of a model that are right have no first fault, and neither has a lone text that is right.
+pub fn right_has_no_fault()
+    ensures model { RightBodiesHaveNoFault }
+    ensures lone { RightTextsHaveNoFault }
+{}
