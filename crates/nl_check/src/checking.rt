@@ -32,6 +32,7 @@ pub fn check(alloc: Global, declared: Declared, bodies: Trees) -> Result<Program
     requires fit { BodiesFit declared bodies }
     ensures declared { IfOk result (λ p. p.declared ≡ declared) }
     ensures bodies { IfOk result (λ p. p.bodies ≡ bodies) }
+    ensures right { OnOk result (BodiesAreRight declared bodies) }
     ensures refused { IfErr result (λ e. IsModelRefusal declared bodies e) }
 {
     let kinds = kinds_of(alloc, &declared, &bodies)?;
