@@ -1,22 +1,21 @@
 -- Where the reading of the inputs ends, and what it gives.
-use Rattle.std.proofs.Common.{◌≡◌, ℕ, ◌≤◌, List, Option, Some, Result, Ok, Err, sym, ap, ◌∙◌, arith}
+use Rattle.std.proofs.Common.{◌≡◌, ℕ, ◌≤◌, List, Option, Some, Result, Ok, Err, sym, ap, ◌∙◌, subst, arith}
 use Rattle.std.specs.Option.{ForSome}
 use Rattle.nl_outer.specs.Folder.{Folder, read_of}
 use Rattle.nl_cli.specs.declared.TheConstants.{FILE_LIMIT}
 use Rattle.nl_cli.specs.declared.modelling.Walkers.{Walkers}
-use Rattle.nl_cli.specs.declared.modelling.ModelFault.{ModelFault}
 use Rattle.nl_cli.specs.declared.planning.Fields.{Fields}
 use Rattle.nl_cli.specs.declared.planning.PlanFault.{PlanFault}
 use Rattle.nl_cli.specs.declared.words.Role.{Role}
 use Rattle.nl_cli.specs.declared.ends.End.{End}
-use Rattle.nl_cli.specs.ModelForm.{model_says}
+use Rattle.nl_cli.specs.ModelForm.{Verdict, IsVerdict}
 use Rattle.nl_cli.specs.ExperimentFile.{experiment_says}
 use Rattle.nl_cli.specs.Words.{Names}
-use Rattle.nl_cli.specs.Answer.{found_in, job_of}
+use Rattle.nl_cli.specs.Answer.{found_in, job_with, IsJob}
 use Rattle.nl_cli.specs.Outcome.{Asked}
 use Rattle.nl_cli.specs.Stages.{ExperimentSays, Gathers, ModelSays, Reads}
-use Rattle.nl_cli.proofs.CourseSteps.{all_said, experiment_bad, experiment_missing, model_bad, model_missing}
-use Rattle.nl_cli.proofs.Reading.{IsRead-read_of, experiment_says-take, model_says-take}
+use Rattle.nl_cli.proofs.CourseSteps.{all_said, experiment_bad, experiment_missing, model_missing}
+use Rattle.nl_cli.proofs.Reading.{IsRead-read_of, IsVerdict-take, experiment_says-take}
 
 -- a read gave these bytes of the file at a path, where the folder is known
 abbrev pub Got : List ℕ → Option Folder → List ℕ → Type 0
@@ -26,11 +25,11 @@ Got path known bytes = ForSome known (λ folder. read_of path FILE_LIMIT folder 
 pub Got-same : (path : List ℕ) (a b : Option Folder) (bytes : List ℕ) → a ≡ b → Got path a bytes → Got path b bytes
 Got-same path a b bytes e got folder is = got folder (e ∙ is)
 
-model_whole_says : (path bytes : List ℕ) (folder : Folder) (r : Result Walkers ModelFault) → (read : read_of path FILE_LIMIT folder ≡ Some bytes) → model_says bytes ≡ r
-    → model_says (IsRead-read_of path FILE_LIMIT folder bytes read).whole ≡ r
-model_whole_says path bytes folder r read says =
+model_whole_says : (path bytes : List ℕ) (folder : Folder) (verdict : Verdict) → (read : read_of path FILE_LIMIT folder ≡ Some bytes) → IsVerdict bytes verdict
+    → IsVerdict (IsRead-read_of path FILE_LIMIT folder bytes read).whole verdict
+model_whole_says path bytes folder verdict read says =
     let got = IsRead-read_of path FILE_LIMIT folder bytes read in
-    sym (model_says-take got.whole) ∙ sym (ap model_says got.first) ∙ says
+    IsVerdict-take got.whole verdict (subst (λ text. IsVerdict text verdict) got.first says)
 
 experiment_whole_says : (path bytes : List ℕ) (folder : Folder) (r : Result Fields PlanFault) → (read : read_of path FILE_LIMIT folder ≡ Some bytes) → experiment_says bytes ≡ r
     → experiment_says (IsRead-read_of path FILE_LIMIT folder bytes read).whole ≡ r
@@ -76,27 +75,29 @@ experiment_stops names files model text (End.Read _) got_model got_text says = a
 experiment_stops names files model text (End.Model _) got_model got_text says = absurd says
 experiment_stops names files model text End.Write got_model got_text says = absurd says
 
+-- both inputs have said what they say
+both_said : (names : Names) (known : Option Folder) (model text : List ℕ) (fields : Fields) (verdict : Verdict)
+    → Got names.model known model → Got names.experiment known text
+    → experiment_says text ≡ Ok fields → IsVerdict model verdict → ForSome known (λ folder. IsJob (found_in names folder) (job_with fields verdict))
+both_said names known model text fields verdict got_model got_text said says folder is =
+    let read_model = IsRead-read_of names.model FILE_LIMIT folder model (got_model folder is) in
+    let read_text = IsRead-read_of names.experiment FILE_LIMIT folder text (got_text folder is) in
+    all_said (found_in names folder) read_model.whole read_text.whole fields verdict read_model.there read_text.there
+    (experiment_whole_says names.experiment text folder (Ok fields) (got_text folder is) said) (model_whole_says names.model model folder verdict (got_model folder is) says)
+
 -- the model has a fault
 pub model_stops : (names : Names) (files : Asked) (model text : List ℕ) (fields : Fields) (end : End)
     → Got names.model files.folder model → Got names.experiment files.folder text
     → experiment_says text ≡ Ok fields → ModelSays model (Err end) → Gathers names files (Err end)
-model_stops names files model text fields (End.Model fault) got_model got_text said says = λ folder is.
-    let read_model = IsRead-read_of names.model FILE_LIMIT folder model (got_model folder is) in
-    let read_text = IsRead-read_of names.experiment FILE_LIMIT folder text (got_text folder is) in
-    model_bad (found_in names folder) read_model.whole read_text.whole fields fault read_model.there read_text.there
-    (experiment_whole_says names.experiment text folder (Ok fields) (got_text folder is) said) (model_whole_says names.model model folder (Err fault) (got_model folder is) says)
+model_stops names files model text fields (End.Model fault) got_model got_text said says = both_said names files.folder model text fields (Err fault) got_model got_text said says
 model_stops names files model text fields End.Memory got_model got_text said says = tt
 model_stops names files model text fields (End.Read _) got_model got_text said says = absurd says
 model_stops names files model text fields (End.Plan _) got_model got_text said says = absurd says
 model_stops names files model text fields End.Write got_model got_text said says = absurd says
 
--- both inputs have said what they say
+-- there is a job
 pub inputs_said : (names : Names) (known : Option Folder) (model text : List ℕ) (fields : Fields) (walkers : Walkers)
     → Got names.model known model → Got names.experiment known text
-    → experiment_says text ≡ Ok fields → model_says model ≡ Ok walkers
-    → ForSome known (λ folder. job_of (found_in names folder) ≡ Ok (record { fields = fields; model = walkers }))
-inputs_said names known model text fields walkers got_model got_text said walks folder is =
-    let read_model = IsRead-read_of names.model FILE_LIMIT folder model (got_model folder is) in
-    let read_text = IsRead-read_of names.experiment FILE_LIMIT folder text (got_text folder is) in
-    all_said (found_in names folder) read_model.whole read_text.whole fields walkers read_model.there read_text.there
-    (experiment_whole_says names.experiment text folder (Ok fields) (got_text folder is) said) (model_whole_says names.model model folder (Ok walkers) (got_model folder is) walks)
+    → experiment_says text ≡ Ok fields → IsVerdict model (Ok walkers)
+    → ForSome known (λ folder. IsJob (found_in names folder) (Ok (record { fields = fields; model = walkers })))
+inputs_said names known model text fields walkers got_model got_text said walks = both_said names known model text fields (Ok walkers) got_model got_text said walks

@@ -1,4 +1,7 @@
 pub mod Forms
+pub mod Programs
+pub mod OneFault
+pub mod OneAnswer
 pub mod Keys
 pub mod Items
 pub mod Costs
@@ -7,4 +10,5 @@ pub mod LineText
 pub mod Reading
 pub mod CourseSteps
 pub mod GatherSteps
+pub mod Courses
 pub mod Outcomes

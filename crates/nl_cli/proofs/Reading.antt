@@ -1,5 +1,5 @@
 -- The first bytes of a file say what the whole file says.
-use Rattle.std.proofs.Common.{◌≡◌, ℕ, ◌+◌, ◌≤◌, List, length, take, nat_lt, true, false, Bool, Option, Some, None, Result, Err, refl, sym, ap, ◌∙◌, arith, cond, take_all}
+use Rattle.std.proofs.Common.{◌≡◌, ℕ, ◌+◌, ◌≤◌, List, length, take, nat_lt, true, false, Bool, Option, Some, None, Result, Err, refl, sym, ap, ◌∙◌, subst, arith, cond, take_all}
 use Rattle.std.specs.Option.{option_map}
 use Rattle.std.proofs.lemmas.Bool.Decides.{nat_tests}
 use Rattle.std.proofs.lemmas.List.{length-take, take-take}
@@ -9,11 +9,10 @@ use Rattle.nl_scan.specs.Place.{line_after, column_after}
 use Rattle.nl_scan.specs.CodePart.{code_of}
 use Rattle.nl_cli.specs.Steps.{within}
 use Rattle.nl_cli.specs.declared.TheConstants.{FILE_LIMIT}
-use Rattle.nl_cli.specs.declared.modelling.Walkers.{Walkers}
-use Rattle.nl_cli.specs.declared.modelling.ModelKind.{ModelKind}
-use Rattle.nl_cli.specs.declared.modelling.ModelFault.{ModelFault}
+use Rattle.nl_cli.specs.declared.fault.ModelKind.{ModelKind}
+use Rattle.nl_cli.specs.declared.fault.ModelFault.{ModelFault}
 use Rattle.nl_cli.specs.declared.planning.PlanKind.TheVariants as PlanKind
-use Rattle.nl_cli.specs.ModelForm.{fault_at, model_of_code, model_says}
+use Rattle.nl_cli.specs.ModelForm.{CodeSays, FileSays, IsVerdict, Verdict, fault_at}
 use Rattle.nl_cli.specs.ExperimentFile.{experiment_says, fields_of_text, file_fault}
 
 -- a file of which a read gave these bytes
@@ -64,12 +63,18 @@ take_less limit text = take-take limit (limit + 1) text (omega arith)
 place-take : (text : List ℕ) (limit : ℕ) (kind : ModelKind) → fault_at (take (limit + 1) text) kind limit ≡ fault_at text kind limit
 place-take text limit kind = fault_at-by (take (limit + 1) text) kind limit ∙ ap (fault_by kind) (take_less limit text) ∙ sym (fault_at-by text kind limit)
 
-code_within-take : (limit : ℕ) (kind : ModelKind) (says : List ℕ → Result Walkers ModelFault) (text : List ℕ)
-    → within limit (fault_at (take (limit + 1) text) kind limit) says (take (limit + 1) text) ≡ within limit (fault_at text kind limit) says text
-code_within-take limit kind says text =
-    ap (λ fault. within limit fault says (take (limit + 1) text)) (place-take text limit kind) ∙ within-take limit (fault_at text kind limit) says text
+says_by : (limit : ℕ) (text : List ℕ) (v : Verdict) (long : Bool) → nat_lt limit (length text) ≡ long → FileSays limit long (take (limit + 1) text) v → FileSays limit long text v
+says_by limit text v true is said = said ∙ ap Err (place-take text limit (ModelKind.Scan ScanKind.TooLong))
+says_by limit text v false is said =
+    let short : length text ≤ limit + 1 = grind (arith, nat_tests) in
+    subst (λ bytes. CodeSays (code_of bytes) v) (take_all (limit + 1) text short) said
+
+says-take : (limit : ℕ) (text : List ℕ) (v : Verdict) → FileSays limit (nat_lt limit (length (take (limit + 1) text))) (take (limit + 1) text) v → FileSays limit (nat_lt limit (length text)) text v
+says-take limit text v said =
+    let here = subst (λ (long : Bool). FileSays limit long (take (limit + 1) text) v) (same_test limit text) said in
+    says_by limit text v (nat_lt limit (length text)) refl here
 
 -- what the first bytes of a model say: a longer one is too long at the same line and column
-pub model_says-take : (text : List ℕ) → model_says (take (FILE_LIMIT + 1) text) ≡ model_says text
-unfolding model_says
-model_says-take text = code_within-take FILE_LIMIT (ModelKind.Scan ScanKind.TooLong) (λ file. model_of_code (code_of file)) text
+pub IsVerdict-take : (text : List ℕ) (v : Verdict) → IsVerdict (take (FILE_LIMIT + 1) text) v → IsVerdict text v
+unfolding IsVerdict
+IsVerdict-take text v said = says-take FILE_LIMIT text v said

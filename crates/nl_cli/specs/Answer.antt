@@ -1,19 +1,23 @@
 -- What a command does, from the bytes of the files that its form names.
-use Rattle.std.specs.Prelude.{ℕ, List, [], ◌∷◌, ◌++◌, codes, Option, Some, None, Result, Ok, Err}
+use Rattle.std.specs.Prelude.{◌≡◌, ℕ, List, [], ◌∷◌, ◌++◌, codes, Option, Some, None, Result, Ok, Err}
 use Rattle.std.specs.Fmt.{decimal}
 use Rattle.nl_outer.specs.Folder.{Folder, content_of}
 use Rattle.nl_scan.specs.declared.token.ScanKind.{ScanKind}
-use Rattle.nl_cli.specs.Steps.{◌>>=◌, or_else, with_fault}
+use Rattle.nl_decl.specs.declared.refusal.DeclKind.{DeclKind}
+use Rattle.nl_parse.specs.declared.body.BodyKind.{BodyKind}
+use Rattle.nl_check.specs.declared.refusal.CheckKind.{CheckKind}
+use Rattle.nl_cli.specs.Steps.{Goes, or_else, with_fault}
 use Rattle.nl_cli.specs.declared.words.Role.{Role}
 use Rattle.nl_cli.specs.declared.ends.End.{End}
 use Rattle.nl_cli.specs.declared.ends.Status.{Status}
 use Rattle.nl_cli.specs.declared.job.Job.{Job}
-use Rattle.nl_cli.specs.declared.modelling.ModelKind.{ModelKind}
-use Rattle.nl_cli.specs.declared.modelling.ModelFault.{ModelFault}
+use Rattle.nl_cli.specs.declared.fault.ModelKind.{ModelKind}
+use Rattle.nl_cli.specs.declared.fault.ModelFault.{ModelFault}
 use Rattle.nl_cli.specs.declared.planning.PlanKind.{PlanKind}
 use Rattle.nl_cli.specs.declared.planning.PlanFault.{PlanFault}
+use Rattle.nl_cli.specs.declared.planning.Fields.{Fields}
 use Rattle.nl_cli.specs.Words.{Names, names_of, path_of}
-use Rattle.nl_cli.specs.ModelForm.{model_says}
+use Rattle.nl_cli.specs.ModelForm.{Verdict, IsVerdict}
 use Rattle.nl_cli.specs.ExperimentFile.{experiment_says}
 use Rattle.nl_cli.specs.Course.{row_of}
 use Rattle.nl_cli.specs.TableText.{header_text, row_text}
@@ -34,14 +38,18 @@ without _ found role = found role
 abbrev pub read : Role → Found → Result (List ℕ) End
 read role found = or_else (End.Read role) (found role)
 
+-- the job of fields and a model, where the model has no fault
+abbrev pub job_with : Fields → Verdict → Result Job End
+job_with fields (Ok model) = Ok (record { fields = fields; model = model })
+job_with fields (Err fault) = Err (End.Model fault)
+
 -- what the inputs say: the job, or the first end in the order of the reads and faults
-unfoldable pub job_of : Found → Result Job End
-job_of found = do
-  model_text ← read Role.Model found
-  experiment_text ← read Role.Experiment found
-  fields ← with_fault End.Plan (experiment_says experiment_text)
-  model ← with_fault End.Model (model_says model_text)
-  Ok (record { fields = fields; model = model })
+unfoldable pub IsJob : Found → Result Job End → Type 0
+IsJob found job =
+    Goes (read Role.Model found) job (λ model_text.
+    Goes (read Role.Experiment found) job (λ experiment_text.
+    Goes (with_fault End.Plan (experiment_says experiment_text)) job (λ fields.
+    (verdict : Verdict) × (IsVerdict model_text verdict × (job ≡ job_with fields verdict)))))
 
 -- the rows of a run of a job: one, at its end
 abbrev pub rows_text : ℕ → Job → List ℕ
@@ -63,6 +71,14 @@ model_kind_text (ModelKind.Scan ScanKind.BadChar) = codes "BadChar"
 model_kind_text (ModelKind.Scan ScanKind.OpenText) = codes "OpenText"
 model_kind_text (ModelKind.Scan ScanKind.BadEscape) = codes "BadEscape"
 model_kind_text (ModelKind.Scan ScanKind.BadNumber) = codes "BadNumber"
+model_kind_text (ModelKind.Declaration DeclKind.Duplicate) = codes "Duplicate"
+model_kind_text (ModelKind.Declaration DeclKind.BadDeclaration) = codes "BadDeclaration"
+model_kind_text (ModelKind.Body BodyKind.UnknownName) = codes "UnknownName"
+model_kind_text (ModelKind.Body BodyKind.Unexpected) = codes "Unexpected"
+model_kind_text (ModelKind.Body BodyKind.TooDeep) = codes "TooDeep"
+model_kind_text (ModelKind.Check CheckKind.WrongContext) = codes "WrongContext"
+model_kind_text (ModelKind.Check CheckKind.NotSettable) = codes "NotSettable"
+model_kind_text (ModelKind.Check CheckKind.NoReport) = codes "NoReport"
 model_kind_text ModelKind.NotBuilt = codes "NotBuilt"
 
 -- `MODEL:L:C: KIND`
@@ -131,14 +147,14 @@ abbrev pub answer_to : Names → Result Job End → Answer
 answer_to names (Ok job) = record { status = Status.Done; bytes = table_text names job; line = [] }
 answer_to names (Err end) = record { status = status_of end; bytes = []; line = line_of names end }
 
-abbrev pub answer_for : Option Names → (Names → Found) → Answer
-answer_for None found = record { status = Status.Usage; bytes = []; line = usage_line }
-answer_for (Some names) found = answer_to names (job_of (found names))
+abbrev pub AnswersTo : Option Names → (Names → Found) → Answer → Type 0
+AnswersTo None found answer = answer ≡ record { status = Status.Usage; bytes = []; line = usage_line }
+AnswersTo (Some names) found answer = (job : Result Job End) × (IsJob (found names) job × (answer ≡ answer_to names job))
 
--- the answer of a list of words over a folder
-abbrev pub answer_of : List (List ℕ) → Folder → Answer
-answer_of words folder = answer_for (names_of words) (λ names. found_in names folder)
+-- the answer of a list of words over a folder, of which there is one at most
+abbrev pub IsAnswer : List (List ℕ) → Folder → Answer → Type 0
+IsAnswer words folder answer = AnswersTo (names_of words) (λ names. found_in names folder) answer
 
 -- the same, where the read of one role fails
-abbrev pub answer_without : Role → List (List ℕ) → Folder → Answer
-answer_without role words folder = answer_for (names_of words) (λ names. without role (found_in names folder))
+abbrev pub IsAnswerWithout : Role → List (List ℕ) → Folder → Answer → Type 0
+IsAnswerWithout role words folder answer = AnswersTo (names_of words) (λ names. without role (found_in names folder)) answer

@@ -1,5 +1,5 @@
--- The form of a model that runs today, and the first fault of any other.
-use Rattle.std.specs.Prelude.{◌≡◌, ℕ, ◌+◌, ◌-◌, ◌*◌, ◌&&◌, List, [], ◌∷◌, codes, length, take, drop, map, nat_le, Bool, true, false, if◌then◌else◌, Option, Some, None, Result, Ok, Err, slice_get, unwrap_or, option_and_then}
+-- The form of a model that runs today, and what any other says.
+use Rattle.std.specs.Prelude.{◌≡◌, ◌⊎◌, ℕ, ◌+◌, ◌-◌, ◌*◌, ◌&&◌, List, [], ◌∷◌, codes, length, take, drop, map, nat_le, nat_lt, Bool, true, false, if◌then◌else◌, Option, Some, None, Result, Ok, Err, slice_get, unwrap_or, option_and_then}
 use Rattle.std.specs.List.{list_all}
 use Rattle.std.specs.Char.{to_ascii_lowercase}
 use Rattle.nl_outer.specs.Folder.{same_bytes}
@@ -8,15 +8,15 @@ use Rattle.nl_scan.specs.declared.token.Token.{Token}
 use Rattle.nl_scan.specs.declared.token.ScanKind.{ScanKind}
 use Rattle.nl_scan.specs.CodePart.{code_of}
 use Rattle.nl_scan.specs.Place.{line_and_column}
-use Rattle.nl_scan.specs.Tokens.{tokens_of}
+use Rattle.nl_scan.specs.Tokens.{ScanFault, tokens_of}
 use Rattle.nl_cli.specs.declared.modelling.Walkers.{Walkers}
-use Rattle.nl_cli.specs.declared.modelling.ModelKind.{ModelKind}
-use Rattle.nl_cli.specs.declared.modelling.ModelFault.{ModelFault}
-use Rattle.nl_cli.specs.declared.modelling.ModelRefusal.{ModelRefusal}
+use Rattle.nl_cli.specs.declared.fault.ModelKind.{ModelKind}
+use Rattle.nl_cli.specs.declared.fault.ModelFault.{ModelFault}
+use Rattle.nl_cli.specs.declared.fault.ModelRefusal.{ModelRefusal}
 use Rattle.nl_cli.specs.declared.modelling.Slot.{Slot as Slot'}
 use Rattle.nl_cli.specs.declared.modelling.Slot.TheVariants as CodeSlot
 use Rattle.nl_cli.specs.declared.TheConstants.{FILE_LIMIT}
-use Rattle.nl_cli.specs.Steps.{◌>>=◌, with_fault, within}
+use Rattle.nl_cli.specs.ModelFault.{IsAccepted, IsCodeFault}
 
 -- what a token of the form has to be: this word in any case of letters, a word of digits, or a bracket
 pub data Slot : Type 0 where
@@ -102,18 +102,35 @@ abbrev pub model_of_tokens : List ℕ → List Token → Option ℕ → Result W
 model_of_tokens text tokens None = Ok (record { births = number_at text tokens births_at; distance = number_at text tokens distance_at })
 model_of_tokens text tokens (Some place) = Err (fault_at text ModelKind.NotBuilt place)
 
--- what code says: the model, or its first fault
-abbrev pub model_of_code : List ℕ → Result Walkers ModelFault
-model_of_code code =
-    with_fault (λ fault. fault_at code (ModelKind.Scan fault.kind) fault.place) (tokens_of code)
-    >>= λ tokens. model_of_tokens code tokens (misfit code form tokens)
+-- what a model says: what runs today, or a fault
+abbrev pub Verdict : Type 0
+Verdict = Result Walkers ModelFault
 
--- what a model's file says: too long a file is told at its first byte past the limit, and else its code says it
-unfoldable pub model_says : List ℕ → Result Walkers ModelFault
-model_says file = within FILE_LIMIT (fault_at file (ModelKind.Scan ScanKind.TooLong) FILE_LIMIT) (λ text. model_of_code (code_of text)) file
+-- what code that has tokens says: its first fault, or where it has none, the model, or where it leaves the form
+abbrev pub TokensSay : List ℕ → List Token → Verdict → Type 0
+TokensSay code tokens verdict =
+    ((kind : ModelKind) × (place : ℕ) × (IsCodeFault code tokens kind place × (verdict ≡ Err (fault_at code kind place))))
+    ⊎ (IsAccepted code tokens × (verdict ≡ model_of_tokens code tokens (misfit code form tokens)))
 
--- a call gives what is defined, or wants memory
-abbrev pub ModelGives : Result Walkers ModelFault → Result Walkers ModelRefusal → Type 0
-ModelGives defined (Ok model) = defined ≡ Ok model
-ModelGives defined (Err (ModelRefusal.Fault fault)) = defined ≡ Err fault
-ModelGives defined (Err ModelRefusal.NoMemory) = Unit {0}
+abbrev pub ScannedSay : List ℕ → Result (List Token) ScanFault → Verdict → Type 0
+ScannedSay code (Ok tokens) verdict = TokensSay code tokens verdict
+ScannedSay code (Err fault) verdict = verdict ≡ Err (fault_at code (ModelKind.Scan fault.kind) fault.place)
+
+-- what code says
+abbrev pub CodeSays : List ℕ → Verdict → Type 0
+CodeSays code verdict = ScannedSay code (tokens_of code) verdict
+
+-- too long a file is told at its first byte past the limit, and else its code says it
+abbrev pub FileSays : ℕ → Bool → List ℕ → Verdict → Type 0
+FileSays limit true file verdict = verdict ≡ Err (fault_at file (ModelKind.Scan ScanKind.TooLong) limit)
+FileSays limit false file verdict = CodeSays (code_of file) verdict
+
+-- what a model's file says
+unfoldable pub IsVerdict : List ℕ → Verdict → Type 0
+IsVerdict file verdict = FileSays FILE_LIMIT (nat_lt FILE_LIMIT (length file)) file verdict
+
+-- a call gives what is said, or wants memory
+abbrev pub ModelGives : (Verdict → Type 0) → Result Walkers ModelRefusal → Type 0
+ModelGives Says (Ok model) = Says (Ok model)
+ModelGives Says (Err (ModelRefusal.Fault fault)) = Says (Err fault)
+ModelGives Says (Err ModelRefusal.NoMemory) = Unit {0}

@@ -7,7 +7,7 @@ use Rattle.nl_outer.specs.Folder.{Folder}
 use Rattle.nl_cli.specs.declared.words.Role.{Role}
 use Rattle.nl_cli.specs.declared.ends.Status.{Status}
 use Rattle.nl_cli.specs.Words.{names_of, path_of}
-use Rattle.nl_cli.specs.Answer.{Answer, answer_of, answer_without, read_answer, cannot_read, usage_line, memory_line, write_line}
+use Rattle.nl_cli.specs.Answer.{Answer, IsAnswer, IsAnswerWithout, read_answer, cannot_read, usage_line, memory_line, write_line}
 
 -- what a call left of the files that it was handed
 pub record Asked : Type 0 where
@@ -36,8 +36,10 @@ abbrev pub Gets : List ℕ → Given → Type 0
 Gets line sink = Appended sink.before sink.after line
     ⊎ (Rose sink.faults_before sink.faults_after × PartAppended sink.before sink.after line)
 
--- the status, the bytes and the line are those of an answer
-pub record Answered (answer : Answer) (out err : Given) (status : Status) : Type 0 where
+-- the status, the bytes and the line are those of the answer
+pub record Answered (words : List (List ℕ)) (folder : Folder) (out err : Given) (status : Status) : Type 0 where
+  pub answer : Answer
+  pub is_answer : IsAnswer words folder answer
   pub same_status : status ≡ answer.status
   pub bytes : Appended out.before out.after answer.bytes
   pub line : Gets answer.line err
@@ -48,19 +50,25 @@ pub record ReadFailed (words : List (List ℕ)) (files : Asked) (out err : Given
   pub nothing : Appended out.before out.after []
   pub role : Role
   pub named : option_map (λ names. path_of names role) (names_of words) ≡ Some files.last_fault
-  pub turn : ForSome files.folder (λ folder. answer_without role words folder ≡ read_answer files.last_fault)
+  pub turn : ForSome files.folder (λ folder. IsAnswerWithout role words folder (read_answer files.last_fault))
   pub line : Gets (cannot_read files.last_fault) err
+
+-- a part of the answer's bytes was put
+pub record Begun (words : List (List ℕ)) (folder : Folder) (out : Given) : Type 0 where
+  pub answer : Answer
+  pub is_answer : IsAnswer words folder answer
+  pub is_done : answer.status ≡ Status.Done
+  pub part : PartAppended out.before out.after answer.bytes
 
 -- a write failed, at a table that is defined
 pub record WriteFailed (words : List (List ℕ)) (files : Asked) (out err : Given) : Type 0 where
   pub rose : Rose out.faults_before out.faults_after
-  pub bytes : ForSome files.folder (λ folder. ((answer_of words folder).status ≡ Status.Done)
-      × PartAppended out.before out.after (answer_of words folder).bytes)
+  pub bytes : ForSome files.folder (λ folder. Begun words folder out)
   pub line : Gets write_line err
 
--- memory was refused
+-- memory was refused, before anything was put or behind a part of a table that is defined
 pub record MemoryWanted (words : List (List ℕ)) (files : Asked) (out err : Given) : Type 0 where
-  pub bytes : ForSome files.folder (λ folder. PartAppended out.before out.after (answer_of words folder).bytes)
+  pub bytes : ForSome files.folder (λ folder. Appended out.before out.after [] ⊎ Begun words folder out)
   pub line : Gets memory_line err
 
 -- what the call did, by its status
@@ -69,10 +77,10 @@ Outcome words files out err Status.Read = ReadFailed words files out err
 Outcome words files out err Status.Write = WriteFailed words files out err
 Outcome words files out err Status.Memory = MemoryWanted words files out err
 Outcome words files out err Status.Usage = (names_of words ≡ None) × Appended out.before out.after [] × Gets usage_line err
-Outcome words files out err status = ForSome files.folder (λ folder. Answered (answer_of words folder) out err status)
+Outcome words files out err status = ForSome files.folder (λ folder. Answered words folder out err status)
 
--- where the answer over the folder is Done and neither reads nor writes fail, the status is Done, or memory was refused
+-- where an answer over the folder is Done and neither reads nor writes fail, the status is Done, or memory was refused
 abbrev pub Complete : List (List ℕ) → Asked → Given → Status → Type 0
-Complete words files out status = ForSome files.folder (λ folder. (answer_of words folder).status ≡ Status.Done
+Complete words files out status = ForSome files.folder (λ folder. (answer : Answer) → IsAnswer words folder answer → answer.status ≡ Status.Done
     → ¬ Rose files.faults_before files.faults_after → ¬ Rose out.faults_before out.faults_after
     → (status ≡ Status.Done) ⊎ (status ≡ Status.Memory))

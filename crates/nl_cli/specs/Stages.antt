@@ -13,9 +13,9 @@ use Rattle.nl_cli.specs.declared.ends.End.{End}
 use Rattle.nl_cli.specs.declared.ends.Status.{Status}
 use Rattle.nl_cli.specs.declared.job.Job.{Job}
 use Rattle.nl_cli.specs.Words.{Names, path_of}
-use Rattle.nl_cli.specs.ModelForm.{model_says}
+use Rattle.nl_cli.specs.ModelForm.{IsVerdict}
 use Rattle.nl_cli.specs.ExperimentFile.{experiment_says}
-use Rattle.nl_cli.specs.Answer.{Answer, answer_to, job_of, found_in, without, status_of, line_of, memory_line, table_text}
+use Rattle.nl_cli.specs.Answer.{IsJob, found_in, without, status_of, line_of, memory_line, table_text}
 use Rattle.nl_cli.specs.Outcome.{Asked, Given, Gets}
 
 -- one read: the first bytes of the file at a path, or its end
@@ -34,8 +34,8 @@ ExperimentSays text (Err _) = ⊥
 
 -- what a model's text says, as an end
 abbrev pub ModelSays : List ℕ → Result Walkers End → Type 0
-ModelSays text (Ok model) = (model_says text ≡ Ok model) × (model.births ≤ 1000) × (model.distance ≤ 1000)
-ModelSays text (Err (End.Model fault)) = model_says text ≡ Err fault
+ModelSays text (Ok model) = IsVerdict text (Ok model) × (model.births ≤ 1000) × (model.distance ≤ 1000)
+ModelSays text (Err (End.Model fault)) = IsVerdict text (Err fault)
 ModelSays text (Err End.Memory) = Unit {0}
 ModelSays text (Err _) = ⊥
 
@@ -43,7 +43,7 @@ ModelSays text (Err _) = ⊥
 pub record ReadStops (names : Names) (files : Asked) (role : Role) : Type 0 where
   pub rose : Rose files.faults_before files.faults_after
   pub named : path_of names role ≡ files.last_fault
-  pub turn : ForSome files.folder (λ folder. job_of (without role (found_in names folder)) ≡ Err (End.Read role))
+  pub turn : ForSome files.folder (λ folder. IsJob (without role (found_in names folder)) (Err (End.Read role)))
 
 -- the numbers of a job are of a size that its units can be counted
 pub record IsSmall (job : Job) : Type 0 where
@@ -53,11 +53,11 @@ pub record IsSmall (job : Job) : Type 0 where
 
 -- the inputs are read: the job, or the end that is defined, a failed read, or want of memory
 abbrev pub Gathers : Names → Asked → Result Job End → Type 0
-Gathers names files (Ok job) = IsSmall job × ForSome files.folder (λ folder. job_of (found_in names folder) ≡ Ok job)
+Gathers names files (Ok job) = IsSmall job × ForSome files.folder (λ folder. IsJob (found_in names folder) (Ok job))
 Gathers names files (Err (End.Read role)) = ReadStops names files role
 Gathers names files (Err End.Write) = ⊥
 Gathers names files (Err End.Memory) = Unit {0}
-Gathers names files (Err end) = ForSome files.folder (λ folder. job_of (found_in names folder) ≡ Err end)
+Gathers names files (Err end) = ForSome files.folder (λ folder. IsJob (found_in names folder) (Err end))
 
 -- these bytes are put, or a prefix of them where a put failed or memory was refused
 abbrev pub Puts : List ℕ → Given → Result (Unit {0}) End → Type 0
@@ -66,17 +66,19 @@ Puts bytes sink (Err End.Write) = Rose sink.faults_before sink.faults_after × P
 Puts bytes sink (Err End.Memory) = PartAppended sink.before sink.after bytes
 Puts bytes sink (Err _) = ⊥
 
--- the answer where the form names these paths
-abbrev pub named_answer : Names → Folder → Answer
-named_answer names folder = answer_to names (job_of (found_in names folder))
+-- a part of the table of the job that the inputs say was put
+pub record PartPut (names : Names) (folder : Folder) (out : Given) : Type 0 where
+  pub job : Job
+  pub is_job : IsJob (found_in names folder) (Ok job)
+  pub part : PartAppended out.before out.after (table_text names job)
 
 -- the course of a command whose form names these paths
 abbrev pub Runs : Names → Asked → Given → Result (Unit {0}) End → Type 0
-Runs names files out (Ok _) = ForSome files.folder (λ folder. (job : Job) × (job_of (found_in names folder) ≡ Ok job) × Appended out.before out.after (table_text names job))
+Runs names files out (Ok _) = ForSome files.folder (λ folder. (job : Job) × IsJob (found_in names folder) (Ok job) × Appended out.before out.after (table_text names job))
 Runs names files out (Err (End.Read role)) = ReadStops names files role × Appended out.before out.after []
-Runs names files out (Err End.Write) = Rose out.faults_before out.faults_after × ForSome files.folder (λ folder. ((named_answer names folder).status ≡ Status.Done) × PartAppended out.before out.after (named_answer names folder).bytes)
-Runs names files out (Err End.Memory) = ForSome files.folder (λ folder. PartAppended out.before out.after (named_answer names folder).bytes)
-Runs names files out (Err end) = ForSome files.folder (λ folder. job_of (found_in names folder) ≡ Err end) × Appended out.before out.after []
+Runs names files out (Err End.Write) = Rose out.faults_before out.faults_after × ForSome files.folder (λ folder. PartPut names folder out)
+Runs names files out (Err End.Memory) = ForSome files.folder (λ folder. Appended out.before out.after [] ⊎ PartPut names folder out)
+Runs names files out (Err end) = ForSome files.folder (λ folder. IsJob (found_in names folder) (Err end)) × Appended out.before out.after []
 
 -- the line of an end is told, or memory is refused for it
 abbrev pub Tells : Names → End → Given → Status → Type 0

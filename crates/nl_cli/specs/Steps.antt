@@ -1,11 +1,16 @@
 -- Steps of a reading, each of which may end it, and what a call that may want memory owes to them.
-use Rattle.std.specs.Prelude.{ℕ, List, length, nat_lt, if◌then◌else◌, Bool, true, false, Option, Some, None, Result, Ok, Err}
+use Rattle.std.specs.Prelude.{◌≡◌, ℕ, List, length, nat_lt, if◌then◌else◌, Bool, true, false, Option, Some, None, Result, Ok, Err}
 
 -- the next step, or the end of an earlier one
 infixl 10 ◌>>=◌
 abbrev pub ◌>>=◌ : {A B E : Type 0} → Result A E → (A → Result B E) → Result B E
 Ok x >>= f = f x
 Err e >>= f = Err e
+
+-- what is said of a result, where an earlier step may end it
+abbrev pub Goes : {A B E : Type 0} → Result A E → Result B E → (A → Type 0) → Type 0
+Goes (Ok x) result next = next x
+Goes (Err e) result next = result ≡ Err e
 
 -- a value that is there, or else this end
 abbrev pub or_else : {X E : Type 0} → E → Option X → Result X E

@@ -2,7 +2,7 @@
 ghost use Rattle.std.specs.Prelude.{◌≡◌};
 ghost use Rattle.nl_cli.specs.Answer.{code_of, status_of};
 
-use crate::modelling::ModelFault;
+use crate::fault::ModelFault;
 use crate::planning::PlanFault;
 use crate::words::Role;
 

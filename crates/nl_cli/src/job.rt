@@ -5,7 +5,8 @@ ghost use Rattle.nl_cli.specs.Stages.{ExperimentSays, Gathers, IsSmall, ModelSay
 ghost use Rattle.nl_cli.specs.Words.{AllServed, names_in};
 
 use crate::ends::End;
-use crate::modelling::{ModelRefusal, Walkers, read_model};
+use crate::fault::ModelRefusal;
+use crate::modelling::{Walkers, read_model};
 use crate::planning::{Fields, PlanRefusal, read_experiment};
 use crate::words::{Named, Role};
 use crate::{FILE_LIMIT, MOST_BUDGET};

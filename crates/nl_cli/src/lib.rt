@@ -2,9 +2,12 @@
 #![tactic(auto)]
 
 mod ends;
+mod fault;
 mod job;
+pub mod laws;
 mod modelling;
 mod planning;
+mod program;
 mod running;
 mod table;
 mod told;

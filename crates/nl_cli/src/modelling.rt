@@ -1,61 +1,19 @@
 //! The form of a model that runs today.
-ghost use Rattle.std.specs.Prelude.{◌≡◌, ◌≤◌, ◌+◌, ◌<◌, ℕ, length, IfSome, IfOk, slice_get, map};
-ghost use Rattle.std.specs.Option.{option_map};
-ghost use Rattle.nl_scan.specs.Tokens.{AreInOrder};
-ghost use Rattle.nl_cli.specs.ModelForm.{ModelGives, bytes_of, fault_at, fits, form, is_digit, misfit, model_of_code, model_says, number_at, number_of, slot_of, is_word_in_any_case};
+ghost use Rattle.std.specs.Prelude.{◌≡◌, ◌≤◌, ◌+◌, ◌<◌, Ok, length, IfSome, IfOk, slice_get, map};
+ghost use Rattle.nl_scan.specs.Tokens.{AreInOrder, tokens_of};
+ghost use Rattle.nl_cli.specs.ModelForm.{CodeSays, IsVerdict, ModelGives, TokensSay, bytes_of, fits, form, misfit, model_of_tokens, number_at, number_of, slot_of, is_word_in_any_case};
 
 use crate::FILE_LIMIT;
-use nl_scan::{Lexeme, ScanKind, ScanRefusal, Token, code_part, line_column, scan};
+use crate::fault::{ModelKind, ModelRefusal, refusal_at};
+use crate::program::read_program;
+use nl_scan::{Lexeme, ScanKind, ScanRefusal, Token, Tokens, code_part, scan};
 use std::alloc::Global;
-use std::fmt;
 
 /// A model of the form: how many turtles `setup` makes, and how far `go` moves each.
 #[derive(Clone, Copy, Debug, PartialEq, Eq)]
 pub struct Walkers {
     pub births: u64,
     pub distance: u64,
-}
-
-/// What is wrong with a model.
-#[derive(Clone, Copy, Debug, PartialEq, Eq)]
-pub enum ModelKind {
-    Scan(ScanKind),
-    /// The text isn't of the form that runs today.
-    NotBuilt,
-}
-
-/// The first fault of a model, with its line and its column, both from 1.
-#[derive(Clone, Copy, Debug, PartialEq, Eq)]
-pub struct ModelFault {
-    pub kind: ModelKind,
-    pub line: u64,
-    pub column: u64,
-}
-
-/// Why a text is no model.
-#[derive(Clone, Copy, Debug, PartialEq, Eq)]
-pub enum ModelRefusal {
-    Fault(ModelFault),
-    NoMemory,
-}
-
-impl fmt::Display for ModelKind {
-    ghost use Rattle.nl_cli.specs.Answer.{model_kind_text};
-    ghost use Rattle.std.specs.Prelude.{Some};
-
-    ghost output = { λ kind. Some (model_kind_text kind) };
-
-    fn fmt<W: fmt::Write>(&self, f: &mut fmt::Formatter<W>) -> fmt::Result {
-        match self {
-            ModelKind::Scan(ScanKind::TooLong) => write!(f, "TooLong"),
-            ModelKind::Scan(ScanKind::NotText) => write!(f, "NotText"),
-            ModelKind::Scan(ScanKind::BadChar) => write!(f, "BadChar"),
-            ModelKind::Scan(ScanKind::OpenText) => write!(f, "OpenText"),
-            ModelKind::Scan(ScanKind::BadEscape) => write!(f, "BadEscape"),
-            ModelKind::Scan(ScanKind::BadNumber) => write!(f, "BadNumber"),
-            ModelKind::NotBuilt => write!(f, "NotBuilt"),
-        }
-    }
 }
 
 /// What a token of the form has to be.
@@ -188,49 +146,65 @@ fn number_in(text: &[u8], tokens: &[Token], at: usize) -> u64
     }
 }
 
-// A fault with its line and column.
-fn fault(text: &[u8], kind: ModelKind, place: u32) -> ModelFault
-    ensures { result ≡ fault_at text.now kind place }
+// The model that tokens of the form are, or where they leave it.
+fn read_form(text: &[u8], tokens: &[Token]) -> Result<Walkers, ModelRefusal>
+    requires short { length text.now ≤ FILE_LIMIT + 1 }
+    requires order { AreInOrder 0 (length text.now) tokens.now }
+    ensures says { ModelGives (λ verdict. verdict ≡ model_of_tokens text.now tokens.now (misfit text.now form tokens.now)) result }
+    ensures few { IfOk result (λ model. model.births ≤ 1000) }
+    ensures near { IfOk result (λ model. model.distance ≤ 1000) }
 {
-    let (line, column) = line_column(text, place);
-    ModelFault { kind, line, column }
+    match first_misfit(text, tokens) {
+        Some(place) => Err(refusal_at(text, ModelKind::NotBuilt, place)),
+        None => Ok(Walkers {
+            births: number_in(text, tokens, BIRTHS_AT),
+            distance: number_in(text, tokens, DISTANCE_AT),
+        }),
+    }
+}
+
+// The model that the code of a file is, by its tokens.
+fn read_tokens(alloc: Global, code: &[u8], tokens: &Tokens) -> Result<Walkers, ModelRefusal>
+    requires short { length code.now ≤ FILE_LIMIT + 1 }
+    requires scanned { tokens_of code.now ≡ Ok tokens.now }
+    requires order { AreInOrder 0 (length code.now) tokens.now }
+    ensures says { ModelGives (TokensSay code.now tokens.now) result }
+    ensures few { IfOk result (λ model. model.births ≤ 1000) }
+    ensures near { IfOk result (λ model. model.distance ≤ 1000) }
+{
+    match read_program(alloc, code, tokens) {
+        Ok(_program) => read_form(code, tokens.as_slice()),
+        Err(refusal) => Err(refusal),
+    }
 }
 
 // The model that the code of a file is.
 fn read_code(alloc: Global, code: &[u8]) -> Result<Walkers, ModelRefusal>
     requires { length code.now ≤ FILE_LIMIT + 1 }
-    ensures says { ModelGives (model_of_code code.now) result }
+    ensures says { ModelGives (CodeSays code.now) result }
     ensures few { IfOk result (λ model. model.births ≤ 1000) }
     ensures near { IfOk result (λ model. model.distance ≤ 1000) }
 {
-    let tokens = match scan(alloc, code) {
-        Ok(tokens) => tokens,
+    match scan(alloc, code) {
+        Ok(tokens) => read_tokens(alloc, code, &tokens),
         Err(ScanRefusal::Fault { kind, place }) => {
-            return Err(ModelRefusal::Fault(fault(code, ModelKind::Scan(kind), place)));
+            Err(refusal_at(code, ModelKind::Scan(kind), place))
         }
-        Err(ScanRefusal::NoMemory) => return Err(ModelRefusal::NoMemory),
-    };
-    let tokens = tokens.as_slice();
-    match first_misfit(code, tokens) {
-        Some(place) => Err(ModelRefusal::Fault(fault(code, ModelKind::NotBuilt, place))),
-        None => Ok(Walkers {
-            births: number_in(code, tokens, BIRTHS_AT),
-            distance: number_in(code, tokens, DISTANCE_AT),
-        }),
+        Err(ScanRefusal::NoMemory) => Err(ModelRefusal::NoMemory),
     }
 }
 
 /// The model that a file is, of which there are all bytes or one more than the limit.
-#[tactic(auto, unfolding(crate::specs::ModelForm::model_says))]
+#[tactic(auto, unfolding(crate::specs::ModelForm::IsVerdict))]
 pub fn read_model(alloc: Global, file: &[u8]) -> Result<Walkers, ModelRefusal>
     requires { length file.now ≤ FILE_LIMIT + 1 }
-    ensures says { ModelGives (model_says file.now) result }
+    ensures says { ModelGives (IsVerdict file.now) result }
     ensures few { IfOk result (λ model. model.births ≤ 1000) }
     ensures near { IfOk result (λ model. model.distance ≤ 1000) }
 {
     if file.len() as u64 > FILE_LIMIT {
         let kind = ModelKind::Scan(ScanKind::TooLong);
-        return Err(ModelRefusal::Fault(fault(file, kind, FILE_LIMIT as u32)));
+        return Err(refusal_at(file, kind, FILE_LIMIT as u32));
     }
     read_code(alloc, code_part(file))
 }

@@ -7,7 +7,7 @@ ghost use Rattle.nl_cli.specs.Stages.{Tells};
 ghost use Rattle.nl_cli.specs.Words.{names_in};
 
 use crate::ends::{End, Status};
-use crate::modelling::ModelFault;
+use crate::fault::ModelFault;
 use crate::planning::{PlanFault, PlanKind};
 use crate::words::{Named, path_for};
 use nl_fixed::{NoMemory, Str};

@@ -1,192 +1,14 @@
 //! The whole program, over files and sinks in memory.
 
-use nl_cli::{Status, run};
-use nl_outer::{Args, MemFiles, MemSink};
+use crate::test_calls::{
+    Call, EXPERIMENT, HEADER, MODEL, assert_budgets, assert_done, assert_ended,
+    assert_experiments_refused, assert_models_refused, assert_row, assert_rows, assert_usage,
+    ended,
+};
+use nl_cli::Status;
 use std::alloc::Global;
 use std::process::Abort;
 use std::test::Fail;
-
-/// `cro 3`, `fd 1`: setup spends 2 units, each step 12.
-const MODEL: &[u8] = b"to setup cro 3 end to go ask turtles [ fd 1 ] end";
-
-const EXPERIMENT: &[u8] = b"name = \"x\"\nseed = 42\nsteps = 2\nmetrics = [\"count turtles\"]\n";
-
-const HEADER: &[u8] = b"\"BehaviorSpace results (fixed-point profile)\"\n\"m.nlogo\"\n\"x\"\n\
-\"min-pxcor\",\"max-pxcor\",\"min-pycor\",\"max-pycor\"\n\"-16\",\"16\",\"-16\",\"16\"\n\
-\"[run number]\",\"[step]\",\"count turtles\",\"[end]\"\n";
-
-// A call of the program with its files and sinks.
-#[derive(Drop)]
-struct Call {
-    alloc: Global,
-    words: Args,
-    files: MemFiles,
-    out: MemSink,
-    err: MemSink,
-}
-
-impl Call {
-    // `table m.nlogo e.toml` over these two files.
-    fn table(alloc: Global, model: &[u8], experiment: &[u8]) -> Result<Call, Fail> {
-        let mut call = Call::of(alloc, &["table", "m.nlogo", "e.toml"])?;
-        call.files.add(alloc, "m.nlogo", model)?;
-        call.files.add(alloc, "e.toml", experiment)?;
-        Ok(call)
-    }
-
-    // These words over an empty folder.
-    fn of(alloc: Global, words: &[&str]) -> Result<Call, Fail> {
-        let mut call = Call {
-            alloc,
-            words: Args::new(alloc),
-            files: MemFiles::new(alloc),
-            out: MemSink::with_room(alloc, 1000)?,
-            err: MemSink::with_room(alloc, 1000)?,
-        };
-        for word in words {
-            call.words.push(alloc, *word)?;
-        }
-        Ok(call)
-    }
-}
-
-// Runs the call.
-fn ended(call: &mut Call) -> Status {
-    run(
-        call.alloc,
-        &call.words,
-        &mut call.files,
-        &mut call.out,
-        &mut call.err,
-    )
-}
-
-// The call is done with these bytes.
-fn assert_done(rt: &impl Abort, mut call: Call, bytes: &[u8]) {
-    let status = ended(&mut call);
-    assert!(rt; call.err.bytes().is_empty());
-    assert!(rt; call.out.bytes() == bytes);
-    assert!(rt; status == Status::Done);
-}
-
-// The call ends with this status and line, and puts nothing to out.
-fn assert_ended(rt: &impl Abort, mut call: Call, status: Status, line: &[u8]) {
-    let ended = ended(&mut call);
-    assert!(rt; call.err.bytes() == line);
-    assert!(rt; call.out.bytes().is_empty());
-    assert!(rt; ended == status);
-}
-
-// The table of a run whose name is `x`: the header and this row.
-fn assert_row(
-    rt: &impl Abort,
-    alloc: Global,
-    model: &[u8],
-    experiment: &[u8],
-    row: &[u8],
-) -> Result<(), Fail> {
-    let mut table = HEADER.to_vec(alloc)?;
-    table.extend_from_slice(row)?;
-    assert_done(rt, Call::table(alloc, model, experiment)?, table.as_slice());
-    Ok(())
-}
-
-// Each model with its experiment and its row.
-fn assert_rows(rt: &impl Abort, alloc: Global, cases: &[(&str, &str, &str)]) -> Result<(), Fail> {
-    for (model, experiment, row) in cases {
-        assert_row(
-            rt,
-            alloc,
-            model.as_bytes(),
-            experiment.as_bytes(),
-            row.as_bytes(),
-        )?;
-    }
-    Ok(())
-}
-
-// Each budget with its row.
-fn assert_budgets(rt: &impl Abort, alloc: Global, cases: &[(&str, &str)]) -> Result<(), Fail> {
-    for (budget, row) in cases {
-        let experiment = format!(in alloc;
-            "name = \"x\"\nsteps = 2\nbudget = {budget}\nmetrics = [\"count turtles\"]\n"
-        )?;
-        assert_row(rt, alloc, MODEL, experiment.as_bytes(), row.as_bytes())?;
-    }
-    Ok(())
-}
-
-// Each refused model with its line.
-fn assert_models_refused(
-    rt: &impl Abort,
-    alloc: Global,
-    cases: &[(&str, &str)],
-) -> Result<(), Fail> {
-    for (model, line) in cases {
-        assert_ended(
-            rt,
-            Call::table(alloc, model.as_bytes(), EXPERIMENT)?,
-            Status::Model,
-            line.as_bytes(),
-        );
-    }
-    Ok(())
-}
-
-// Each refused experiment with its line. The model is no model: the experiment is judged before it.
-fn assert_experiments_refused(
-    rt: &impl Abort,
-    alloc: Global,
-    cases: &[(&str, &str)],
-) -> Result<(), Fail> {
-    for (experiment, line) in cases {
-        assert_ended(
-            rt,
-            Call::table(alloc, b"?", experiment.as_bytes())?,
-            Status::Plan,
-            line.as_bytes(),
-        );
-    }
-    Ok(())
-}
-
-// Each list of words is no form.
-fn assert_usage(rt: &impl Abort, alloc: Global, cases: &[&[&str]]) -> Result<(), Fail> {
-    for words in cases {
-        assert_ended(
-            rt,
-            Call::of(alloc, *words)?,
-            Status::Usage,
-            b"nlspace: the words name no command\n",
-        );
-    }
-    Ok(())
-}
-
-// The column of the fault of a model that is cut behind so many bytes, of which the tokens begin and end at these places:
-// a token that is cut is another word, and after a whole one the next is missing.
-fn cut_column(tokens: &[(usize, usize)], cut: usize) -> usize {
-    for (start, end) in tokens {
-        if *start < cut && cut < *end {
-            return start.saturating_add(1);
-        }
-    }
-    cut.saturating_add(1)
-}
-
-fn assert_cuts(rt: &impl Abort, alloc: Global, tokens: &[(usize, usize)]) -> Result<(), Fail> {
-    for cut in 0..MODEL.len() {
-        let column = cut_column(tokens, cut);
-        let line = format!(in alloc; "m.nlogo:1:{column}: NotBuilt\n")?;
-        assert_ended(
-            rt,
-            Call::table(alloc, &MODEL[..cut], EXPERIMENT)?,
-            Status::Model,
-            line.as_bytes(),
-        );
-    }
-    Ok(())
-}
 
 #[test]
 fn the_first_table_is_whole(rt: HostRuntime) -> Result<(), Fail> {
@@ -314,21 +136,30 @@ fn models_are_refused_at_their_place(rt: HostRuntime) -> Result<(), Fail> {
         &[
             ("", "m.nlogo:1:1: NotBuilt\n"),
             ("to setup crt 3 end", "m.nlogo:1:10: NotBuilt\n"),
-            ("to setup\n", "m.nlogo:2:1: NotBuilt\n"),
+            // A procedure without its `end`.
+            ("to setup\n", "m.nlogo:2:1: BadDeclaration\n"),
             ("to setup cro 1001 end", "m.nlogo:1:14: NotBuilt\n"),
             ("to setup cro 00003 end", "m.nlogo:1:14: NotBuilt\n"),
             ("to setup cro -3 end", "m.nlogo:1:14: NotBuilt\n"),
-            ("to setup cro [ end", "m.nlogo:1:14: NotBuilt\n"),
+            // A bracket begins a list, which the body's end can't go on with.
+            ("to setup cro [ end", "m.nlogo:1:16: Unexpected\n"),
             (
                 "to setup cro 3 end to go ask turtles [ fd 1 ] end end",
-                "m.nlogo:1:51: NotBuilt\n",
+                "m.nlogo:1:51: BadDeclaration\n",
             ),
             (
                 "to\r\nsetup\n\n  cro 3\n end to  walk",
-                "m.nlogo:5:10: NotBuilt\n",
+                "m.nlogo:5:14: BadDeclaration\n",
             ),
-            ("to setup (cro 3", "m.nlogo:1:10: NotBuilt\n"),
-            ("to setup cro \"3\"", "m.nlogo:1:14: NotBuilt\n"),
+            ("to setup (cro 3", "m.nlogo:1:16: BadDeclaration\n"),
+            ("to setup cro \"3\"", "m.nlogo:1:17: BadDeclaration\n"),
+            // A model without a fault is refused where it leaves the form.
+            ("to setup (cro 3) end", "m.nlogo:1:10: NotBuilt\n"),
+            ("to setup cro \"3\" end", "m.nlogo:1:14: NotBuilt\n"),
+            (
+                "to setup cro 3 end to go ask turtles [ fd 1 ] end to a end",
+                "m.nlogo:1:51: NotBuilt\n",
+            ),
             // Numbers that aren't one to four digits.
             ("to setup cro 3.0 end", "m.nlogo:1:14: NotBuilt\n"),
             ("to setup cro 1e3 end", "m.nlogo:1:14: NotBuilt\n"),
@@ -369,28 +200,81 @@ fn sections_behind_the_code_are_passed_over(rt: HostRuntime) -> Result<(), Fail>
     Ok(())
 }
 
+// The fault of the model above cut behind so many bytes as stand before a row: at its column. A procedure without its `end` is told at the
+// text's end, and one letter of `to` is no declaration. Nothing, and a whole procedure, have no fault, and leave the form at the text's end.
+const CUTS: &[(usize, &str)] = &[
+    (1, "NotBuilt"),
+    (1, "BadDeclaration"),
+    (3, "BadDeclaration"),
+    (4, "BadDeclaration"),
+    (5, "BadDeclaration"),
+    (6, "BadDeclaration"),
+    (7, "BadDeclaration"),
+    (8, "BadDeclaration"),
+    (9, "BadDeclaration"),
+    (10, "BadDeclaration"),
+    (11, "BadDeclaration"),
+    (12, "BadDeclaration"),
+    (13, "BadDeclaration"),
+    (14, "BadDeclaration"),
+    (15, "BadDeclaration"),
+    (16, "BadDeclaration"),
+    (17, "BadDeclaration"),
+    (18, "BadDeclaration"),
+    (19, "NotBuilt"),
+    (20, "NotBuilt"),
+    (20, "BadDeclaration"),
+    (22, "BadDeclaration"),
+    (23, "BadDeclaration"),
+    (24, "BadDeclaration"),
+    (25, "BadDeclaration"),
+    (26, "BadDeclaration"),
+    (27, "BadDeclaration"),
+    (28, "BadDeclaration"),
+    (29, "BadDeclaration"),
+    (30, "BadDeclaration"),
+    (31, "BadDeclaration"),
+    (32, "BadDeclaration"),
+    (33, "BadDeclaration"),
+    (34, "BadDeclaration"),
+    (35, "BadDeclaration"),
+    (36, "BadDeclaration"),
+    (37, "BadDeclaration"),
+    (38, "BadDeclaration"),
+    (39, "BadDeclaration"),
+    (40, "BadDeclaration"),
+    (41, "BadDeclaration"),
+    (42, "BadDeclaration"),
+    (43, "BadDeclaration"),
+    (44, "BadDeclaration"),
+    (45, "BadDeclaration"),
+    (46, "BadDeclaration"),
+    (47, "BadDeclaration"),
+    (48, "BadDeclaration"),
+    (49, "BadDeclaration"),
+];
+
+fn assert_cuts(rt: &impl Abort, alloc: Global, cases: &[(usize, &str)]) -> Result<(), Fail> {
+    for (cut, (column, kind)) in cases.iter().enumerate() {
+        let mut model = Vec::new(alloc);
+        for byte in MODEL.iter().take(cut) {
+            model.push(*byte)?;
+        }
+        let line = format!(in alloc; "m.nlogo:1:{column}: {kind}\n")?;
+        assert_ended(
+            rt,
+            Call::table(alloc, model.as_slice(), EXPERIMENT)?,
+            Status::Model,
+            line.as_bytes(),
+        );
+    }
+    Ok(())
+}
+
 #[test]
 fn a_model_cut_at_any_byte_is_refused_there(rt: HostRuntime) -> Result<(), Fail> {
-    assert_cuts(
-        &rt,
-        rt.alloc(),
-        &[
-            (0, 2),
-            (3, 8),
-            (9, 12),
-            (13, 14),
-            (15, 18),
-            (19, 21),
-            (22, 24),
-            (25, 28),
-            (29, 36),
-            (37, 38),
-            (39, 41),
-            (42, 43),
-            (44, 45),
-            (46, 49),
-        ],
-    )
+    assert_eq!(rt; CUTS.len(), MODEL.len());
+    assert_cuts(&rt, rt.alloc(), CUTS)
 }
 
 #[test]
