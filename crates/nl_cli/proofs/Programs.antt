@@ -1,12 +1,12 @@
 -- The reading of a program: its bodies one after another, and what they are.
-use Rattle.std.proofs.Common.{◌≡◌, inl, inr, ℕ, zero, suc, ◌+◌, ◌-◌, ◌≤◌, ◌<◌, List, [], ◌∷◌, ◌++◌, length, take, drop, get_or, map, Some, slice_get, All, refl, sym, ap, ◌∙◌, subst, arith, codes}
+use Rattle.std.proofs.Common.{◌≡◌, Result, Ok, Err, IfOk, OnOk, inl, inr, ℕ, zero, suc, ◌+◌, ◌-◌, ◌≤◌, ◌<◌, List, [], ◌∷◌, ◌++◌, length, take, drop, get_or, map, Some, slice_get, All, refl, sym, ap, ◌∙◌, subst, arith, codes}
 use Rattle.std.proofs.lemmas.List.{drop-map, drop_more, length-map, take-append-drop, take-map, take_all, take_more}
 use Rattle.std.proofs.lemmas.List.Elements.{All-drop, All-take}
 use Rattle.std.proofs.lemmas.Option.{get_or_from_slice_get, slice_get_read, slice_get_within}
 use Rattle.nl_scan.specs.declared.token.Token.{Token}
 use Rattle.nl_tree.specs.declared.declared.Declared.{Declared}
 use Rattle.nl_tree.specs.declared.declared.Procedure.{Procedure}
-use Rattle.nl_tree.specs.Checked.{BodiesFit}
+use Rattle.nl_tree.specs.Checked.{BodiesFit, Checked}
 use Rattle.nl_tree.specs.Term.{Term}
 use Rattle.nl_tree.specs.Tokens as plain
 use Rattle.nl_tree.specs.Tree.{Node}
@@ -131,3 +131,15 @@ pub read_all : (text : List ℕ) (tokens : List Token) (table : List Term) (item
     → AreBodies text tokens table (take i ps) trees → AreBodies text tokens table ps trees
 read_all text tokens table items ps trees i is over h =
     subst (λ qs. AreBodies text tokens table qs trees) (take_all i ps (omega (arith, over, ap length is))) h
+
+-- ---- the program that is made
+
+pub always : {X E : Type 0} (result : Result X E) (P : Type 0) → P → OnOk result P
+always (Ok x) P h = h
+always (Err e) P h = tt
+
+-- what holds of the declarations and bodies holds of the program of them
+pub program_has : {E : Type 0} (result : Result Checked E) (d : Declared) (bodies : List Node) (Q : Declared → List Node → Type 0)
+    → IfOk result (λ p. p.declared ≡ d) → IfOk result (λ p. p.bodies ≡ bodies) → OnOk result (Q d bodies) → IfOk result (λ p. Q p.declared p.bodies)
+program_has (Ok p) d bodies Q declared is h = subst (λ (x : Declared). Q x p.bodies) (sym declared) (subst (λ ts. Q d ts) (sym is) h)
+program_has (Err e) d bodies Q declared is h = tt

@@ -8,7 +8,7 @@ ghost use Rattle.nl_tree.specs.Vocabulary.{terms};
 ghost use Rattle.nl_decl.specs.Bodies.{LieFrom, place_of};
 ghost use Rattle.nl_decl.specs.Outcome.{Declares};
 ghost use Rattle.nl_decl.specs.Texts.{lexemes_of};
-ghost use Rattle.nl_cli.specs.ModelFault.{AreBodies, IsAccepted, IsBody, start_at};
+ghost use Rattle.nl_cli.specs.ModelFault.{AreBodies, IsBody, IsRead, start_at};
 ghost use Rattle.nl_cli.specs.ProgramParts.{IsBodiesRefusal, IsBodyRefusal, IsCheckRefusal, IsCodeRefusal};
 
 use crate::FILE_LIMIT;
@@ -27,7 +27,8 @@ pub fn read_program(alloc: Global, code: &[u8], tokens: &Tokens) -> Result<Progr
     requires short { length code.now ≤ FILE_LIMIT + 1 }
     requires scanned { tokens_of code.now ≡ Ok tokens.now }
     requires order { AreInOrder 0 (length code.now) tokens.now }
-    ensures ok { OnOk result (IsAccepted code.now tokens.now) }
+    ensures read { IfOk result (λ program. IsRead code.now tokens.now program.declared program.bodies) }
+    ensures right { IfOk result (λ program. BodiesAreRight program.declared program.bodies) }
     ensures fault { IfErr result (IsCodeRefusal code.now tokens.now) }
 {
     let declared = read_declarations(alloc, code, tokens)?;
@@ -125,18 +126,16 @@ fn checked(
     requires names { IsDeclared declared }
     requires many { length bodies ≡ length declared.procedures }
     requires fit { BodiesFit declared bodies }
+    ensures declared { IfOk result (λ program. program.declared ≡ declared) }
+    ensures bodies { IfOk result (λ program. program.bodies ≡ bodies) }
     ensures right { OnOk result (BodiesAreRight declared bodies) }
     ensures refused { IfErr result (IsCheckRefusal code.now declared bodies) }
 {
     match check(alloc, declared, bodies) {
         Ok(program) => Ok(program),
-        Err(
-            CheckRefusal::Fault {
-                kind,
-                body: _,
-                span,
-            },
-        ) => { Err(refusal_at(code, ModelKind::Check(kind), span.start)) }
+        Err(CheckRefusal::Fault { kind, span, .. }) => {
+            Err(refusal_at(code, ModelKind::Check(kind), span.start))
+        }
         Err(CheckRefusal::NoMemory) => Err(ModelRefusal::NoMemory),
     }
 }

@@ -1,5 +1,5 @@
 use Rattle.std.proofs.Common.{All, sym, subst}
-use Rattle.std.proofs.lemmas.Result.{err_from_is_err_and, IfErr-weaker, on_ok_weaker}
+use Rattle.std.proofs.lemmas.Result.{err_from_is_err_and, IfErr-weaker}
 use Rattle.nl_scan.specs.Tokens.{IsTokenOf}
 use Rattle.nl_tree.specs.Checked.{BodiesAreRight}
 use Rattle.nl_tree.specs.Tokens as plain
@@ -9,7 +9,7 @@ use Rattle.nl_decl.proofs.Meant.{tokens_are_plain}
 use Rattle.nl_parse.proofs.Scanned.{scanned}
 use Rattle.nl_cli.specs.ModelFault.{AreBodies, IsRead}
 use Rattle.nl_cli.specs.ProgramParts.{IsBodiesRefusal, IsCheckRefusal, IsCodeRefusal}
-use Rattle.nl_cli.proofs.Programs.{bodies_fit, bodies_many, bodies_refuse, check_refuses}
+use Rattle.nl_cli.proofs.Programs.{bodies_fit, bodies_many, always, bodies_refuse, check_refuses, program_has}
 use Rattle.nl_cli.proofs.program.read_program.Goals as goal
 
 pub read_bodies-requires-clause-tokens : goal.read_bodies-requires-clause-tokens
@@ -32,15 +32,18 @@ checked-requires-clause-fit c =
     let all = subst (λ ts. All plain.IsToken (plain_tokens code ts)) (sym c.as_slice.ensures) (tokens_are_plain code c.args.tokens.now c.requires.scanned) in
     bodies_fit code c.as_slice.result.now c.in_ok-declared.declared c.in_ok-bodies.bodies all c.in_ok-bodies.ensures.ok
 
-pub returns-clause-ok : goal.returns-clause-ok
-returns-clause-ok c =
+pub returns-clause-read : goal.returns-clause-read
+returns-clause-read c =
     let code = c.args.code.now in
     let tokens = c.args.tokens.now in
     let d = c.in_ok-declared.declared in
     let bodies = c.in_ok-bodies.bodies in
     let trees = subst (λ ts. AreBodies code ts (terms d) d.procedures bodies) c.as_slice.ensures c.in_ok-bodies.ensures.ok in
     let read : IsRead code tokens d bodies = record { declares = c.in_ok-declared.ensures.declared; trees = trees } in
-    on_ok_weaker c.checked.result (λ (right : BodiesAreRight d bodies). record { declared = d; bodies = bodies; read = read; right = right }) c.checked.ensures.right
+    program_has c.checked.result d bodies (IsRead code tokens) c.checked.ensures.declared c.checked.ensures.bodies (always c.checked.result (IsRead code tokens d bodies) read)
+
+pub returns-clause-right : goal.returns-clause-right
+returns-clause-right c = program_has c.checked.result c.in_ok-declared.declared c.in_ok-bodies.bodies BodiesAreRight c.checked.ensures.declared c.checked.ensures.bodies c.checked.ensures.right
 
 pub returns-clause-fault : goal.returns-clause-fault
 returns-clause-fault c =
