@@ -21,6 +21,8 @@ mod tests_fire;
 mod tests_models;
 #[cfg(test)]
 mod tests_places;
+#[cfg(test)]
+mod tests_trees;
 
 /// What the process ends with where its words could not be got or kept. `run` never gives it.
 const NO_WORDS: u8 = 9;
