@@ -21,8 +21,8 @@ use Rattle.nl_decl.proofs.Lawful.{one_place, or_place, unique}
 use Rattle.nl_decl.proofs.Meant.{tokens_are_plain}
 use Rattle.nl_parse.specs.Outcome.{kind_of}
 use Rattle.nl_parse.specs.declared.body.BodyKind.{BodyKind}
-use Rattle.nl_parse.proofs.Ends.{faults_are_unique, good_has_no_fault}
-use Rattle.nl_parse.proofs.Taken.{trees_are_unique}
+use Rattle.nl_grammar.proofs.Ends.{faults_are_unique, good_has_no_fault}
+use Rattle.nl_grammar.proofs.Taken.{trees_are_unique}
 use Rattle.nl_check.specs.Faults.{fault_of}
 use Rattle.nl_check.specs.declared.refusal.CheckKind.{CheckKind}
 use Rattle.nl_check.proofs.Firsts.{model_faults_are_unique, right_bodies_have_no_fault}

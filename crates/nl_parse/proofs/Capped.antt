@@ -5,9 +5,9 @@ use Rattle.nl_words.specs.declared.entry.Input.{Input}
 use Rattle.nl_fixed.specs.declared.span.Span.{Span}
 use Rattle.nl_tree.specs.Tree.{Nodes, depths}
 use Rattle.nl_tree.specs.Tokens.{repeated}
-use Rattle.nl_parse.specs.Machine as M
-use Rattle.nl_parse.specs.Machine.{Last, ThenItem, ThenBlock, ThenNothing, InBinary, InWith, InNear, InOf, InCall, InLastItem, InLastBlock, InMany, InItems, InParen, InMinus, InReporter, InBracket, InList, InLet, InStatementParen, InStatements}
-use Rattle.nl_parse.specs.Depth.{least_inputs, least_values, frame_depth, stays_literal, whole_depth, begin_depth}
+use Rattle.nl_grammar.specs.Machine as M
+use Rattle.nl_grammar.specs.Machine.{Last, ThenItem, ThenBlock, ThenNothing, InBinary, InWith, InNear, InOf, InCall, InLastItem, InLastBlock, InMany, InItems, InParen, InMinus, InReporter, InBracket, InList, InLet, InStatementParen, InStatements}
+use Rattle.nl_grammar.specs.Depth.{least_inputs, least_values, frame_depth, stays_literal, whole_depth, begin_depth}
 use Rattle.nl_parse.specs.Limit.{capped}
 use Rattle.nl_parse.specs.View.{need_by}
 use Rattle.nl_parse.specs.Asked.{is_in_paren}

@@ -2,7 +2,7 @@
 use Rattle.std.proofs.Common.{◌≡◌, ℕ, zero, suc, ◌+◌, ◌<◌, Bool, true, false, ◌||◌, List, [], ◌∷◌, ◌++◌, length, take, get_or, bytes_eq, refl, sym, subst, ap, ◌∙◌, arith}
 use Rattle.std.proofs.lemmas.List.{take_more}
 use Rattle.nl_tree.specs.Vocabulary.{among}
-use Rattle.nl_parse.specs.Machine as M
+use Rattle.nl_grammar.specs.Machine as M
 use Rattle.nl_parse.specs.declared.frames.Frame.{Frame}
 use Rattle.nl_parse.specs.Reading.{frame_of, made_over, names_with, frames_onto, names_onto}
 

@@ -4,7 +4,7 @@ use Rattle.nl_words.specs.declared.entry.Input.{Input}
 use Rattle.nl_words.specs.declared.entry.Input.TheVariants as input
 use Rattle.nl_tree.specs.Tokens as T
 use Rattle.nl_parse.specs.View.{need_by, behind_maybes}
-use Rattle.nl_parse.specs.Machine.{without_maybes}
+use Rattle.nl_grammar.specs.Machine.{without_maybes}
 
 pub one_less_value : (n : ℕ) → (n ≡ 0 → ⊥) → T.repeated n ≡ input.Value ∷ T.repeated (n - 1)
 one_less_value zero h = absurd (h refl)

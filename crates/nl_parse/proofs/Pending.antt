@@ -3,9 +3,9 @@ use Rattle.std.proofs.Common.{◌≡◌, ℕ, zero, suc, ◌+◌, ◌<◌, ◌�
 use Rattle.nl_tree.specs.Tree.{Node}
 use Rattle.nl_tree.specs.Grammar.{top}
 use Rattle.nl_tree.specs.Vocabulary.{among}
-use Rattle.nl_parse.specs.Fault.{known_got}
-use Rattle.nl_parse.specs.Machine as M
-use Rattle.nl_parse.specs.Machine.{Shape, got, closes, build, built_shape, settle}
+use Rattle.nl_grammar.specs.Fault.{known_got}
+use Rattle.nl_grammar.specs.Machine as M
+use Rattle.nl_grammar.specs.Machine.{Shape, got, closes, build, built_shape, settle}
 use Rattle.nl_parse.specs.declared.frames.Frame.{Frame}
 use Rattle.nl_parse.specs.Reading.{frame_of, frames_onto, names_onto}
 use Rattle.nl_parse.proofs.Capped.{frames_at}

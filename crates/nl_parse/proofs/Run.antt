@@ -12,16 +12,16 @@ use Rattle.nl_tree.specs.Tokens as plain
 use Rattle.nl_tree.specs.Grammar.{span_of_first}
 use Rattle.nl_tree.specs.BodyFault.{IsGood, IsTextFault, ends_at, deepest}
 use Rattle.nl_decl.specs.Texts.{plain_token, plain_tokens}
-use Rattle.nl_parse.specs.Machine.{State, st, Frame, Over, Step, go, stop, feed, run_from, run, start}
-use Rattle.nl_parse.specs.Depth.{least_depth}
-use Rattle.nl_parse.specs.Fault.{ReportersTakeNoCommands, reading_to}
-use Rattle.nl_parse.specs.Completion.{HasWords}
+use Rattle.nl_grammar.specs.Machine.{State, st, Frame, Over, Step, go, stop, feed, run_from, run, start}
+use Rattle.nl_grammar.specs.Depth.{least_depth}
+use Rattle.nl_grammar.specs.Fault.{ReportersTakeNoCommands, reading_to}
+use Rattle.nl_grammar.specs.Completion.{HasWords}
 use Rattle.nl_parse.specs.Outcome.{first_span, kind_of, Stops, StopsAt, StopsIn, Refuses}
 use Rattle.nl_parse.specs.declared.body.BodyKind.{BodyKind}
 use Rattle.nl_parse.specs.declared.body.BodyRefusal.{BodyRefusal}
-use Rattle.nl_parse.proofs.Taken.{taken_text}
-use Rattle.nl_parse.proofs.Good.{run_append}
-use Rattle.nl_parse.proofs.FaultKinds.{faults_are_told}
+use Rattle.nl_grammar.proofs.Taken.{taken_text}
+use Rattle.nl_grammar.proofs.Good.{run_append}
+use Rattle.nl_grammar.proofs.FaultKinds.{faults_are_told}
 
 -- the tokens of a text with what the rows of their words make of them
 abbrev pub toks_of : List Term → List ℕ → List Token → List Tok

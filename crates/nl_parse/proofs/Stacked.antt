@@ -5,7 +5,7 @@ use Rattle.nl_tree.specs.Tree.{Nodes, node, none, more}
 use Rattle.nl_tree.specs.declared.tree.Label.TheVariants as label
 use Rattle.nl_parse.specs.Limit.{is_one}
 use Rattle.nl_tree.specs.Tokens.{Need}
-use Rattle.nl_parse.specs.Machine.{Frame, InNear, InMany, InOf, ThenItem, Begin, st, go, stop, next, begin_call, begin_many, feed_of}
+use Rattle.nl_grammar.specs.Machine.{Frame, InNear, InMany, InOf, ThenItem, Begin, st, go, stop, next, begin_call, begin_many, feed_of}
 use Rattle.nl_parse.specs.Asked.{more_sides}
 
 pub no_call : (w : List ℕ) (s : Span) (is : List Need) (e : List (List ℕ)) (K : List Frame) → more_sides K ≡ true → begin_call w s is e K ≡ stop

@@ -2,7 +2,7 @@
 use Rattle.std.specs.Prelude.{ℕ, List}
 use Rattle.nl_tree.specs.Tree.{Node}
 use Rattle.nl_tree.specs.Tokens.{Tok}
-use Rattle.nl_parse.specs.Machine.{Frame, Shape, Step, stop, feed_paren, feed_minus, feed_reporter, feed_bracket, feed_whole}
+use Rattle.nl_grammar.specs.Machine.{Frame, Shape, Step, stop, feed_paren, feed_minus, feed_reporter, feed_bracket, feed_whole}
 use Rattle.nl_parse.specs.declared.closing.Around.{Around}
 
 -- a token behind it, on what is open outside

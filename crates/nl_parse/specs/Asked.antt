@@ -3,7 +3,7 @@ use Rattle.std.specs.Prelude.{ℕ, suc, Bool, true, false, List, ◌∷◌}
 use Rattle.nl_fixed.specs.declared.span.Span.{Span}
 use Rattle.nl_tree.specs.Tree.{Node, node}
 use Rattle.nl_tree.specs.Tokens.{Tok}
-use Rattle.nl_parse.specs.Machine.{Frame, InNear, InItems, InParen, Shape, Growing, Step, stop, feed_begin}
+use Rattle.nl_grammar.specs.Machine.{Frame, InNear, InItems, InParen, Shape, Growing, Step, stop, feed_begin}
 
 -- a right side is read that others follow
 abbrev pub more_sides : List Frame → Bool

@@ -1,12 +1,7 @@
 pub mod Around
 pub mod Asked
-pub mod Completion
 pub mod Counts
-pub mod Depth
-pub mod Fault
-pub mod Laws
 pub mod Limit
-pub mod Machine
 pub mod NodesCode
 pub mod Outcome
 pub mod Reading

@@ -7,9 +7,9 @@ use Rattle.nl_tree.specs.Tokens.{Tok, Token, mark, marked}
 use Rattle.nl_scan.specs.declared.token.Token.{Token as Scanned}
 use Rattle.nl_decl.specs.Texts.{plain_token, plain_tokens}
 use Rattle.nl_tree.specs.BodyFault.{TextFault, UnknownName, Unexpected, TooDeep, IsTextFault, deepest}
-use Rattle.nl_parse.specs.Machine.{State, go, stop, feed, run_from}
-use Rattle.nl_parse.specs.Depth.{least_depth}
-use Rattle.nl_parse.specs.Fault.{kind_at}
+use Rattle.nl_grammar.specs.Machine.{State, go, stop, feed, run_from}
+use Rattle.nl_grammar.specs.Depth.{least_depth}
+use Rattle.nl_grammar.specs.Fault.{kind_at}
 use Rattle.nl_parse.specs.declared.body.BodyKind.{BodyKind}
 use Rattle.nl_parse.specs.declared.body.BodyRefusal.{BodyRefusal}
 

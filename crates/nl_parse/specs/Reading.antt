@@ -1,6 +1,6 @@
 -- What a reader between two tokens stands for.
 use Rattle.std.specs.Prelude.{ℕ, List, [], ◌∷◌, Option, Some, None}
-use Rattle.nl_parse.specs.Machine as M
+use Rattle.nl_grammar.specs.Machine as M
 use Rattle.nl_tree.specs.Grammar as G
 use Rattle.nl_parse.specs.View.{block_of, need_of, needs_of}
 use Rattle.nl_parse.specs.declared.frames.Last.{Last}

@@ -1,6 +1,6 @@
 -- The state of the machine that a reader has.
 use Rattle.std.specs.Prelude.{ℕ, List, []}
-use Rattle.nl_parse.specs.Machine as M
+use Rattle.nl_grammar.specs.Machine as M
 use Rattle.nl_parse.specs.Reading.{mode_of, mode_names, frames_onto, names_onto}
 use Rattle.nl_parse.specs.declared.reader.Reader.{Reader}
 

@@ -2,8 +2,8 @@
 ghost use Rattle.std.specs.Prelude.{◌≡◌, ◌∷◌, ℕ, List, OnOk, IfOk};
 ghost use Rattle.std.specs.Result.{IsErrOf};
 ghost use Rattle.nl_tree.specs.Vocabulary.{among};
-ghost use Rattle.nl_parse.specs.Machine.{go, stop, feed_begin, feed_local, begin_call, begin_many, begin_minus, begin_bracket, end_bracket, end_many, closed, InMany};
-ghost use Rattle.nl_parse.specs.Machine as M;
+ghost use Rattle.nl_grammar.specs.Machine.{go, stop, feed_begin, feed_local, begin_call, begin_many, begin_minus, begin_bracket, end_bracket, end_many, closed, InMany};
+ghost use Rattle.nl_grammar.specs.Machine as M;
 ghost use Rattle.nl_parse.specs.declared.reader.Refusal.TheVariants.{Unexpected};
 ghost use Rattle.nl_parse.specs.View.{class_of, mark_of, needs_of};
 ghost use Rattle.nl_parse.specs.State.{stack_of, names_of, state_of};

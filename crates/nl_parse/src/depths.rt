@@ -2,11 +2,11 @@
 ghost use Rattle.std.specs.Prelude.{◌≡◌, ℕ, suc, max, false, List, [], ◌∷◌, if◌then◌else◌};
 ghost use Rattle.nl_fixed.specs.declared.span.Span.{Span};
 ghost use Rattle.nl_tree.specs.Tree.{depth};
-ghost use Rattle.nl_parse.specs.Depth.{least_block, least_input, least_inputs, least_values, is_literal, frame_depth, stays_literal, whole_depth, begin_depth, optional_depth, statement_depth, least_depth};
+ghost use Rattle.nl_grammar.specs.Depth.{least_block, least_input, least_inputs, least_values, is_literal, frame_depth, stays_literal, whole_depth, begin_depth, optional_depth, statement_depth, least_depth};
 ghost use Rattle.nl_parse.specs.Limit.{capped};
 ghost use Rattle.nl_parse.specs.View.{block_of, need_by, needs_of};
-ghost use Rattle.nl_parse.specs.Machine as M;
-ghost use Rattle.nl_parse.specs.Machine.{InBracket, InMany};
+ghost use Rattle.nl_grammar.specs.Machine as M;
+ghost use Rattle.nl_grammar.specs.Machine.{InBracket, InMany};
 ghost use Rattle.nl_parse.specs.Asked.{is_in_paren};
 ghost use Rattle.nl_parse.specs.Reading.{last_of, shape_of, frame_of, frames_onto, names_onto};
 ghost use Rattle.nl_parse.specs.State.{state_of};

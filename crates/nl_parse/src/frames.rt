@@ -1,7 +1,7 @@
 //! What is open while a text is read, and what may come next.
 ghost use Rattle.std.specs.Prelude.{◌≡◌, ◌∷◌, IfOk, List, ℕ, ◌||◌};
-ghost use Rattle.nl_parse.specs.Machine.{takes_operator, closes, build, built_shape, begin_mode};
-ghost use Rattle.nl_parse.specs.Machine as M;
+ghost use Rattle.nl_grammar.specs.Machine.{takes_operator, closes, build, built_shape, begin_mode};
+ghost use Rattle.nl_grammar.specs.Machine as M;
 ghost use Rattle.nl_parse.specs.View.{need_of};
 ghost use Rattle.nl_parse.specs.Reading.{frame_of, mode_of, mode_names, shape_of, names_with, names_onto};
 ghost use Rattle.nl_tree.specs.Vocabulary.{among};

@@ -1,6 +1,6 @@
 //! Trees handed to what waits for them.
 ghost use Rattle.std.specs.Prelude.{◌≡◌, ◌∷◌, OnOk, IfOk};
-ghost use Rattle.nl_parse.specs.Machine.{end_statement, next, closed, supply, accept, end_list, settle, got, InMany, InNear};
+ghost use Rattle.nl_grammar.specs.Machine.{end_statement, next, closed, supply, accept, end_list, settle, got, InMany, InNear};
 ghost use Rattle.nl_parse.specs.View.{needs_of};
 ghost use Rattle.nl_parse.specs.Reading.{last_of, shape_of, maybe_over};
 ghost use Rattle.nl_parse.specs.State.{stack_of, names_of, state_of};

@@ -3,9 +3,9 @@ ghost use Rattle.std.specs.Prelude.{◌≡◌, ◌∷◌, ℕ, List, [], ◌||�
 ghost use Rattle.nl_tree.specs.Vocabulary.{among};
 ghost use Rattle.nl_tree.specs.Tree.{Node};
 ghost use Rattle.nl_tree.specs.Grammar.{top};
-ghost use Rattle.nl_parse.specs.Machine as M;
-ghost use Rattle.nl_parse.specs.Machine.{got, settle};
-ghost use Rattle.nl_parse.specs.Fault.{known, known_got, kind_at};
+ghost use Rattle.nl_grammar.specs.Machine as M;
+ghost use Rattle.nl_grammar.specs.Machine.{got, settle};
+ghost use Rattle.nl_grammar.specs.Fault.{known, known_got, kind_at};
 ghost use Rattle.nl_parse.specs.View.{mark_of};
 ghost use Rattle.nl_parse.specs.Outcome.{kind_of};
 ghost use Rattle.nl_parse.specs.Reading.{frame_of, frames_onto, maybe_over, mode_names, names_within};

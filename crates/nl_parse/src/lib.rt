@@ -10,7 +10,6 @@ mod frames;
 mod handing;
 mod kinds;
 mod known_names;
-pub mod laws;
 mod marks;
 mod parts;
 mod reader;

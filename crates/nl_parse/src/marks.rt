@@ -2,7 +2,7 @@
 ghost use Rattle.std.specs.Prelude.{◌≡◌, ◌∷◌, [], MatchOption};
 ghost use Rattle.nl_parse.specs.View.{needs_of, need_of, need_by, behind_maybes, mark_of};
 ghost use Rattle.nl_words.specs.declared.entry.Input.TheVariants as input;
-ghost use Rattle.nl_parse.specs.Machine.{without_maybes, begins_statement};
+ghost use Rattle.nl_grammar.specs.Machine.{without_maybes, begins_statement};
 
 use nl_fixed::{Num, Span, Str};
 use nl_words::Input;

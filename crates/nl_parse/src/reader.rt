@@ -2,7 +2,7 @@
 ghost use Rattle.std.specs.Prelude.{◌≡◌, ◌∷◌, [], ◌+◌, length, IfSome, IfNone, OnOk, Err};
 ghost use Rattle.nl_parse.specs.declared.reader.Refusal.TheVariants as Refusal;
 ghost use Rattle.nl_tree.specs.Vocabulary.{among};
-ghost use Rattle.nl_parse.specs.Machine.{st};
+ghost use Rattle.nl_grammar.specs.Machine.{st};
 ghost use Rattle.nl_parse.specs.Reading.{frame_of, mode_of, mode_names, names_with};
 ghost use Rattle.nl_parse.specs.State.{stack_of, names_of, state_of};
 

@@ -1,7 +1,7 @@
 //! Tokens of statements, of blocks and of names.
 ghost use Rattle.std.specs.Prelude.{◌≡◌, ◌∷◌, OnOk};
 ghost use Rattle.std.specs.Result.{IsErrOf};
-ghost use Rattle.nl_parse.specs.Machine.{go, stop, supply, feed_opening, feed_choosing, feed_ending, feed_statement, feed_stating, feed_naming, st, Stating, InStatements};
+ghost use Rattle.nl_grammar.specs.Machine.{go, stop, supply, feed_opening, feed_choosing, feed_ending, feed_statement, feed_stating, feed_naming, st, Stating, InStatements};
 ghost use Rattle.nl_tree.specs.Tree.{none};
 ghost use Rattle.nl_tree.specs.Grammar.{leaf, AtBracket};
 ghost use Rattle.nl_tree.specs.declared.tree.Label.TheVariants as label;

@@ -1,6 +1,6 @@
 use Rattle.std.proofs.Common.{◌≡◌, ◌≤◌, ◌++◌, map, max, length}
 use Rattle.nl_tree.specs.Tokens.{repeated}
-use Rattle.nl_parse.specs.Depth.{least_inputs}
+use Rattle.nl_grammar.specs.Depth.{least_inputs}
 use Rattle.nl_parse.specs.View.{need_by}
 use Rattle.nl_parse.specs.Reading.{last_of}
 use Rattle.nl_parse.proofs.depths.least_inputs.Given as goal

@@ -1,7 +1,7 @@
 use Rattle.std.proofs.Common.{arith, ◌∙◌, ap, sym, suc, false, true, []}
 use Rattle.nl_tree.specs.Tree.{depths}
-use Rattle.nl_parse.specs.Machine.{InMany}
-use Rattle.nl_parse.specs.Depth.{frame_depth}
+use Rattle.nl_grammar.specs.Machine.{InMany}
+use Rattle.nl_grammar.specs.Depth.{frame_depth}
 use Rattle.nl_parse.specs.Limit.{capped}
 use Rattle.nl_parse.specs.Reading.{frames_onto}
 use Rattle.nl_parse.proofs.Capped.{capped_part, many_in_paren, many_elsewhere}

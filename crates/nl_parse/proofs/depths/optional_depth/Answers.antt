@@ -1,5 +1,5 @@
 use Rattle.std.proofs.Common.{arith, ◌∙◌, ◌-◌, ap, sym, length}
-use Rattle.nl_parse.specs.Depth.{optional_depth}
+use Rattle.nl_grammar.specs.Depth.{optional_depth}
 use Rattle.nl_parse.specs.Limit.{capped}
 use Rattle.nl_parse.proofs.Capped.{newest_of}
 use Rattle.nl_parse.proofs.depths.optional_depth.Goals as goal

@@ -1,6 +1,6 @@
 use Rattle.std.proofs.Common.{arith, ◌∙◌, suc, max, false, []}
 use Rattle.nl_tree.specs.Tree.{depths}
-use Rattle.nl_parse.specs.Depth.{least_inputs}
+use Rattle.nl_grammar.specs.Depth.{least_inputs}
 use Rattle.nl_parse.specs.View.{needs_of}
 use Rattle.nl_parse.specs.Reading.{frames_onto, last_of}
 use Rattle.nl_parse.proofs.Capped.{capped_part}

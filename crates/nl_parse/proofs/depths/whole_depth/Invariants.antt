@@ -1,5 +1,5 @@
 use Rattle.std.proofs.Common.{◌≡◌, ◌≤◌, ℕ, List, [], take, length}
-use Rattle.nl_parse.specs.Depth.{whole_depth}
+use Rattle.nl_grammar.specs.Depth.{whole_depth}
 use Rattle.nl_parse.specs.Limit.{capped}
 use Rattle.nl_parse.specs.Reading.{frames_onto}
 use Rattle.nl_parse.proofs.depths.whole_depth.Given as goal

@@ -2,8 +2,8 @@ use Rattle.std.proofs.Common.{◌≡◌, ◌∙◌, ◌-◌, ap, sym, length, ta
 use Rattle.std.proofs.lemmas.List.{take_all}
 use Rattle.nl_tree.specs.Vocabulary.{among}
 use Rattle.nl_tree.specs.Grammar.{top}
-use Rattle.nl_parse.specs.Machine.{settle}
-use Rattle.nl_parse.specs.Fault.{known_got}
+use Rattle.nl_grammar.specs.Machine.{settle}
+use Rattle.nl_grammar.specs.Fault.{known_got}
 use Rattle.nl_parse.specs.Reading.{frames_onto, names_onto}
 use Rattle.nl_parse.proofs.Pending.{none_left, one_less_left, open_left}
 use Rattle.nl_parse.proofs.kinds.makes_next.Goals as goal

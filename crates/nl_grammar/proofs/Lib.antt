@@ -1,0 +1,17 @@
+pub mod Complete
+pub mod CompletionExamples
+pub mod Deep
+pub mod Ends
+pub mod FaultKinds
+pub mod Good
+pub mod Known
+pub mod Live
+pub mod MachineExamples
+pub mod Over
+pub mod Place
+pub mod Reporters
+pub mod Sees
+pub mod Sound
+pub mod Stack
+pub mod Suffix
+pub mod Taken

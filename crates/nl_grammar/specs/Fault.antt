@@ -1,0 +1,52 @@
+-- Where the machine stops, and why.
+use Rattle.std.specs.Prelude.{ℕ, Bool, true, false, not, List, ◌∷◌, take, IsTrue}
+use Rattle.std.specs.List.{list_any}
+use Rattle.nl_tree.specs.declared.declared.Form.{Form}
+use Rattle.nl_tree.specs.Term.{Term}
+use Rattle.nl_tree.specs.Vocabulary.{among, term_named}
+use Rattle.nl_tree.specs.Tokens.{CommandsBlock, ReporterBlock, Need, Item, Whole, Within, Maybe, Variable, Class, Prefix, Closing, Unknown, Tok, word, Token, class_of, marked}
+use Rattle.nl_tree.specs.Grammar.{top, span_of_first}
+use Rattle.nl_tree.specs.BodyFault.{TextFault, UnknownName, Unexpected}
+use Rattle.nl_grammar.specs.Machine.{InLet, Have, State, st, Step, Got, got, settle, run, start}
+
+-- the step to which the first `k` of the tokens lead
+abbrev pub reading_to : Form → List (List ℕ) → List Term → List Token → ℕ → Step
+reading_to form names table ts k = run (start form names (span_of_first (marked table ts))) (take k (marked table ts))
+
+-- The names that are known in a reading that is still open: where a chain is the value of a `let`, and may be all of it, the new name is
+-- known behind it.
+abbrev pub known_got : List (List ℕ) → Got → List (List ℕ)
+known_got e (got x t (InLet w s n r ∷ K)) = n ∷ e
+known_got e g = e
+
+abbrev pub known : State → List (List ℕ)
+known (st (Have x t) e K) = known_got e (settle top x t K)
+known (st m e K) = e
+
+abbrev pub unknown_kind : Bool → TextFault
+unknown_kind true = Unexpected
+unknown_kind false = UnknownName
+
+-- why a token can't follow
+abbrev pub kind_at : State → Tok → TextFault
+kind_at s (word w Unknown r) = unknown_kind (among w (known s))
+kind_at s tok = Unexpected
+
+-- Whether a word that is no command takes a block of commands. In this language none does, and so only statements make names.
+
+abbrev pub takes_commands : Need → Bool
+takes_commands Item = false
+takes_commands Whole = false
+takes_commands (Within CommandsBlock) = true
+takes_commands (Within ReporterBlock) = false
+takes_commands Maybe = true
+takes_commands Variable = false
+
+abbrev pub is_expression : Class → Bool
+is_expression (Prefix is) = not (list_any takes_commands is)
+is_expression (Closing is CommandsBlock) = false
+is_expression (Closing is ReporterBlock) = not (list_any takes_commands is)
+is_expression c = true
+
+abbrev pub ReportersTakeNoCommands : List Term → Type 0
+ReportersTakeNoCommands table = (name : List ℕ) → IsTrue (is_expression (class_of (term_named table name)))

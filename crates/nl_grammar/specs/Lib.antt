@@ -1,0 +1,5 @@
+pub mod Completion
+pub mod Depth
+pub mod Fault
+pub mod Laws
+pub mod Machine

@@ -1,0 +1,4 @@
+//! The grammar as a machine over tokens, and the laws of both.
+#![tactic(auto)]
+
+pub mod laws;
