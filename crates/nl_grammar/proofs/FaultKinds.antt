@@ -15,10 +15,10 @@ use Rattle.nl_tree.specs.Grammar.{IsText, knows_in, span_of_first}
 use Rattle.nl_tree.specs.BodyFault.{IsReadable, BeginsReadable, Knows, IsUnknown, IsOfKind, Unexpected}
 use Rattle.nl_grammar.specs.Machine.{Have, State, st, go, feed, settle, run, start}
 use Rattle.nl_grammar.specs.Completion.{pieces, token_of, unused, nowhere, HasWords}
-use Rattle.nl_grammar.specs.Fault.{reading_to, known, kind_at, unknown_kind, ReportersTakeNoCommands}
+use Rattle.nl_grammar.specs.Fault.{reading_to, known, kind_at, unknown_kind}
 use Rattle.nl_grammar.specs.Laws.{FaultsAreTold}
 use Rattle.nl_grammar.proofs.Complete.{Breaking}
-use Rattle.nl_grammar.proofs.Sees.{Simple, SimpleTok, chain_names}
+use Rattle.nl_grammar.proofs.Sees.{chain_names}
 use Rattle.nl_grammar.proofs.Live.{toks, rest_breaks}
 use Rattle.nl_grammar.specs.Depth.{is_literal}
 use Rattle.nl_tree.specs.Grammar.{top}
@@ -34,31 +34,17 @@ abbrev IsHave : State → Type 0
 IsHave (st (Have x t) e K) = Unit {0}
 IsHave s = ⊥
 
-module _ (form : Form) (names : List (List ℕ)) (table : List Term) (has : HasWords table) (plain : ReportersTakeNoCommands table) (name : List ℕ) where
-  simple_as : (s : Span) (l : Lexeme) → SimpleTok (marked_as table s l)
-  simple_as s (Number n) = tt
-  simple_as s (Text bytes) = tt
-  simple_as s (Word w) = plain w
-  simple_as s Open = tt
-  simple_as s Close = tt
-  simple_as s OpenParen = tt
-  simple_as s CloseParen = tt
-  simple_as s End = tt
-
-  simple : (ts : List Token) → Simple (marked table ts)
-  simple [] = tt
-  simple (t ∷ ts) = (simple_as t.span t.lexeme, simple ts)
-
+module _ (form : Form) (names : List (List ℕ)) (table : List Term) (has : HasWords table) (name : List ℕ) where
   leads_to : List Token → List Token → State → Type 0
   leads_to ps after z = run (start form names (span_of_first (marked table ps ++ marked table after))) (marked table ps) ≡ go z
 
   to_state : (ps after : List Token) (u : Node) (z : State) (d : IsReadable form names table (ps ++ after) u) → run (start form names (span_of_first (marked table ps ++ marked table after))) (marked table ps) ≡ go z → knows_in form names (marked table (ps ++ after)) u name (length after) d ≡ true → among name (known z) ≡ true
   to_state ps after u z d q h =
-      subst (λ w. (d : IsText form names w u) → Simple w → knows_in form names w u name (length (marked table after)) d ≡ true → among name (known z) ≡ true) (sym (marked_append table ps after)) (λ d s h. known_to_state form names name (marked table ps) (marked table after) u z d s q h) d (simple (ps ++ after)) (subst (λ l. knows_in form names (marked table (ps ++ after)) u name l d ≡ true) (sym (length-marked table after)) h)
+      subst (λ w. (d : IsText form names w u) → knows_in form names w u name (length (marked table after)) d ≡ true → among name (known z) ≡ true) (sym (marked_append table ps after)) (λ d h. known_to_state form names name (marked table ps) (marked table after) u z d q h) d (subst (λ l. knows_in form names (marked table (ps ++ after)) u name l d ≡ true) (sym (length-marked table after)) h)
 
   in_text : (ps after : List Token) (u : Node) (z : State) (d : IsReadable form names table (ps ++ after) u) → run (start form names (span_of_first (marked table ps ++ marked table after))) (marked table ps) ≡ go z → Settles form names name z (marked table after) → among name (known z) ≡ true → knows_in form names (marked table (ps ++ after)) u name (length after) d ≡ true
   in_text ps after u z d q s h =
-      subst (λ l. knows_in form names (marked table (ps ++ after)) u name l d ≡ true) (length-marked table after) (subst (λ w. (d : IsText form names w u) → Simple w → knows_in form names w u name (length (marked table after)) d ≡ true) (sym (marked_append table ps after)) (λ d g. known_in_text form names name (marked table ps) (marked table after) u z d g q s h) d (simple (ps ++ after)))
+      subst (λ l. knows_in form names (marked table (ps ++ after)) u name l d ≡ true) (length-marked table after) (subst (λ w. (d : IsText form names w u) → knows_in form names w u name (length (marked table after)) d ≡ true) (sym (marked_append table ps after)) (λ d. known_in_text form names name (marked table ps) (marked table after) u z d q s h) d)
 
   -- what completes a state ends its chain
   leads : (z : State) (c : List Tok) → (IsHave z → Breaking c) → Settles form names name z c
@@ -88,22 +74,22 @@ start_known form.Reporter names s = refl
 same_state : (s z : State) → go s ≡ go z → s ≡ z
 same_state s z q = cc q
 
-module _ (names : List (List ℕ)) (table : List Term) (t : Token) (ts : List Token) (has : HasWords table) (plain : ReportersTakeNoCommands table) (name : List ℕ) where
+module _ (names : List (List ℕ)) (table : List Term) (t : Token) (ts : List Token) (has : HasWords table) (name : List ℕ) where
   known_of : (form : Form) (k : ℕ) (z : State) → reading_to form names table (t ∷ ts) k ≡ go z → Knows form names table (t ∷ ts) k name → among name (known z) ≡ true
   known_of form zero z q (after, u, d, (all, h)) =
-      let k : among name (known (start form names (span_of_first (marked table after)))) ≡ true = to_state form names table has plain name [] after u (start form names (span_of_first (marked table after))) d refl h in
+      let k : among name (known (start form names (span_of_first (marked table after)))) ≡ true = to_state form names table has name [] after u (start form names (span_of_first (marked table after))) d refl h in
       let here : known z ≡ names = sym (ap known (same_state (start form names (span_of_first (marked table (t ∷ ts)))) z q)) ∙ start_known form names (span_of_first (marked table (t ∷ ts))) in
       ap (among name) (here ∙ sym (start_known form names (span_of_first (marked table after)))) ∙ k
-  known_of form (suc k) z q (after, u, d, (all, h)) = to_state form names table has plain name (t ∷ take k ts) after u z d (to form names table t ts has k ∙ q) h
+  known_of form (suc k) z q (after, u, d, (all, h)) = to_state form names table has name (t ∷ take k ts) after u z d (to form names table t ts has k ∙ q) h
 
   knows_of : (form : Form) (k : ℕ) (z : State) → reading_to form names table (t ∷ ts) k ≡ go z → among name (known z) ≡ true → Knows form names table (t ∷ ts) k name
   knows_of form.Commands zero z q h =
       let here : known z ≡ names = sym (ap known (same_state (start form.Commands names (span_of_first (marked table (t ∷ ts)))) z q)) in
-      knows_completed form.Commands names table has plain name [] (start form.Commands names nowhere) refl (sym (ap (among name) here) ∙ h)
+      knows_completed form.Commands names table has name [] (start form.Commands names nowhere) refl (sym (ap (among name) here) ∙ h)
   knows_of form.Reporter zero z q h =
       let here : known z ≡ names = sym (ap known (same_state (start form.Reporter names (span_of_first (marked table (t ∷ ts)))) z q)) in
-      knows_completed form.Reporter names table has plain name [] (start form.Reporter names nowhere) refl (sym (ap (among name) here) ∙ h)
-  knows_of form (suc k) z q h = knows_completed form names table has plain name (t ∷ take k ts) z (to form names table t ts has k ∙ q) h
+      knows_completed form.Reporter names table has name [] (start form.Reporter names nowhere) refl (sym (ap (among name) here) ∙ h)
+  knows_of form (suc k) z q h = knows_completed form names table has name (t ∷ take k ts) z (to form names table t ts has k ∙ q) h
 
 -- A word is unknown to the grammar exactly where it has no row.
 
@@ -181,7 +167,7 @@ abbrev name_there : Option Token → List ℕ
 name_there None = []
 name_there (Some t) = name_is t.lexeme
 
-module _ (form : Form) (names : List (List ℕ)) (table : List Term) (t : Token) (ts : List Token) (k : ℕ) (s : State) (has : HasWords table) (plain : ReportersTakeNoCommands table) (reached : reading_to form names table (t ∷ ts) k ≡ go s) (unreadable : BeginsReadable form names table (take (k + 1) (t ∷ ts)) → ⊥) where
+module _ (form : Form) (names : List (List ℕ)) (table : List Term) (t : Token) (ts : List Token) (k : ℕ) (s : State) (has : HasWords table) (reached : reading_to form names table (t ∷ ts) k ≡ go s) (unreadable : BeginsReadable form names table (take (k + 1) (t ∷ ts)) → ⊥) where
   no_word : (l : Lexeme) (sp : Span) → word_is l ≡ false → slice_get (t ∷ ts) k ≡ Some (record { lexeme = l; span = sp }) → IsUnknown form names table (t ∷ ts) k → ⊥
   no_word l sp h q (name, there, (p, none, unknown)) = cc (sym h ∙ sym (ap is_word_there q) ∙ ap is_word_there p)
 
@@ -195,8 +181,8 @@ module _ (form : Form) (names : List (List ℕ)) (table : List Term) (t : Token)
       same_name name there p = sym (ap name_there q) ∙ ap name_there p
 
       no_row : (b : Bool) → among w (known s) ≡ b → term_named table w ≡ None → IsOfKind form names table (t ∷ ts) k (unknown_kind b)
-      no_row true h none = (unreadable, λ u. u.2.2 (subst (Knows form names table (t ∷ ts) k) (same_name u.0 u.1 u.2.0) (knows_of names table t ts has plain w form k s reached h)))
-      no_row false h none = (unreadable, (w, sp, (q, none, λ kn. let both : false ≡ true = sym h ∙ known_of names table t ts has plain w form k s reached kn in cc)))
+      no_row true h none = (unreadable, λ u. u.2.2 (subst (Knows form names table (t ∷ ts) k) (same_name u.0 u.1 u.2.0) (knows_of names table t ts has w form k s reached h)))
+      no_row false h none = (unreadable, (w, sp, (q, none, λ kn. let both : false ≡ true = sym h ∙ known_of names table t ts has w form k s reached kn in cc)))
 
       at : (o : Option Term) → term_named table w ≡ o → IsOfKind form names table (t ∷ ts) k (kind_at s (word w (class_of o) sp))
       at None p = no_row (among w (known s)) refl p
@@ -216,6 +202,6 @@ pub faults_are_told : FaultsAreTold
 faults_are_told form names table [] k s t has plain l q h there = absurd (omega (arith, l))
 faults_are_told form names table (t0 ∷ ts) k s t has plain l q h there =
     let fed : reading_to form names table (t0 ∷ ts) (suc k) ≡ feed s (mark table t) = next_token form names table (t0 ∷ ts) k s t q there in (
-      (λ r. (stop_place form names table t0 ts has k s l q h (fed ∙ r), told form names table t0 ts k s has plain q (stops form names table t0 ts has k (fed ∙ r)) t.lexeme t.span there)),
+      (λ r. (stop_place form names table t0 ts has k s l q h (fed ∙ r), told form names table t0 ts k s has q (stops form names table t0 ts has k (fed ∙ r)) t.lexeme t.span there)),
       (λ z r d. deep_place form names table t0 ts has k s z l q h (fed ∙ r) d),
     )

@@ -1,17 +1,18 @@
 -- A name is known before a token in some text that can still be read exactly where the machine's state knows it.
 use Rattle.std.proofs.Common.{◌≡◌, ℕ, suc, Bool, true, false, not, ◌&&◌, ◌||◌, List, [], ◌∷◌, ◌++◌, length, refl, sym, ◌∙◌, ap, ◌≤◌, ◌<◌, arith, bytes_eq}
 use Rattle.std.proofs.lemmas.Bool.{lt-ltb, le-ltb, or_right}
+use Rattle.nl_fixed.specs.declared.span.Span.{Span}
 use Rattle.nl_tree.specs.declared.declared.Form.{Form}
 use Rattle.nl_tree.specs.declared.declared.Form.TheVariants as form
 use Rattle.nl_tree.specs.Tree.{Node, none}
 use Rattle.nl_tree.specs.Vocabulary.{among}
 use Rattle.nl_tree.specs.Tokens.{Tok, end}
-use Rattle.nl_tree.specs.Grammar.{top, IsText, knows, knows_in, span_of_first}
+use Rattle.nl_tree.specs.Grammar.{one, top, Level, Reads, IsText, knows, knows_in, span_of_first}
 use Rattle.nl_grammar.specs.Machine.{InLet, Begin, Have, Shut, Over, State, st, Step, go, stop, Got, got, settle, feed, run_from, run, start}
 use Rattle.nl_grammar.specs.Fault.{known, known_got}
 use Rattle.nl_grammar.proofs.Complete.{breaks}
-use Rattle.nl_grammar.proofs.Suffix.{same, longer, suffix}
-use Rattle.nl_grammar.proofs.Sees.{names_at, chain_names, Simple, past, lies, sees_from, sees, or_false, inside_known, chain, token, alike, break, Arrives, Shows, looks}
+use Rattle.nl_tree.proofs.Suffix.{same, longer, suffix}
+use Rattle.nl_grammar.proofs.Sees.{names_at, chain_names, past, lies, sees_from, sees, or_false, inside_known, ends, token, alike, break, Arrives, Shows, looks}
 use Rattle.nl_grammar.proofs.Good.{run_stop}
 use Rattle.nl_grammar.proofs.Taken.{takes_text}
 
@@ -61,13 +62,15 @@ module _ (n : List ℕ) (left : ℕ) where
   implied true y h = sym (h refl)
   implied false y h = refl
 
-  knows_text : (form : Form) (e : List (List ℕ)) (w : List Tok) (t : Node) (d : IsText form e w t) → Simple w → left ≤ length w → 1 ≤ left → knows_in form e w t n left d ≡ sees n left (start form e (span_of_first w)) w
-  knows_text form.Commands e w t (ts, q, d) h k l = implied (among n e) (knows n left d) (inside_known n left d (covers w k l)) ∙ sym (looks n left d h (span_of_first w) e none [] ∙ or_false (knows n left d))
-  knows_text form.Reporter e w t (s, d) h k l =
-      let m : Arrives n left top e [] [] t w (end s ∷ []) = looks n left d h [] (omega arith) tt in
+  reporter_shows : (e : List (List ℕ)) (w : List Tok) (t : Node) (s : Span) (d : Reads (Level top) e w (end s ∷ []) (one t)) → Shows n left e w [] (knows n left d) (sees n left (st Begin e []) w) false
+  reporter_shows e w t s d =
+      let m : Arrives n left top e [] [] t w (end s ∷ []) (knows n left d) = looks n left d [] (omega arith) tt in
       let shut : Shows n left e (end s ∷ []) [] false (sees n left (st (Shut m.shape t) e []) (end s ∷ [])) false = token n left (st (Shut m.shape t) e []) (end s) [] refl in
-      let all : Shows n left e w [] false (sees n left (st Begin e []) w) false = chain n left (suffix d) (longer same) (alike n left m.shown (break n left m.held m.shape m.tree t m.rest [] e (end s ∷ []) refl m.settles)) shut in
-      sym (all.is ∙ ap (λ b. ((b && among n e) || false) || false) (covers w k l) ∙ or_false (among n e || false) ∙ or_false (among n e))
+      ends n left (suffix d) (longer same) (alike n left m.shown (break n left m.held m.shape m.tree t m.rest [] e (end s ∷ []) refl m.settles)) shut
+
+  knows_text : (form : Form) (e : List (List ℕ)) (w : List Tok) (t : Node) (d : IsText form e w t) → left ≤ length w → 1 ≤ left → knows_in form e w t n left d ≡ sees n left (start form e (span_of_first w)) w
+  knows_text form.Commands e w t (ts, q, d) k l = implied (among n e) (knows n left d) (inside_known n left d (covers w k l)) ∙ sym (looks n left d (span_of_first w) e none [] ∙ or_false (knows n left d))
+  knows_text form.Reporter e w t (s, d) k l = sym ((reporter_shows e w t s d).is ∙ ap (λ b. ((b && among n e) || knows n left d) || false) (covers w k l) ∙ or_false (among n e || knows n left d))
 
 -- At the end of a text nothing is seen.
 
@@ -76,9 +79,14 @@ sees_none n x [] = refl
 sees_none n (go s) (tok ∷ a) = ap (λ b. ((b && not (past n 0 (tok ∷ a))) && among n (names_at s tok)) || sees_from n 0 (feed s tok) a) (le-ltb (length a) 0 (omega arith)) ∙ sees_none n (feed s tok) a
 sees_none n stop (tok ∷ a) = refl
 
-knows_end : (n : List ℕ) (form : Form) (e : List (List ℕ)) (w : List Tok) (t : Node) (d : IsText form e w t) → Simple w → knows_in form e w t n 0 d ≡ among n e
-knows_end n form.Commands e w t (ts, q, d) h = ap (λ b. among n e || b) (sym (or_false (knows n 0 d)) ∙ sym (looks n 0 d h (span_of_first w) e none []) ∙ sees_none n (go (start form.Commands e (span_of_first w))) w) ∙ or_false (among n e)
-knows_end n form.Reporter e w t d h = refl
+no_second : (x y : Bool) → ((x || y) || false) ≡ false → y ≡ false
+no_second true y h = cc
+no_second false true h = h
+no_second false false h = refl
+
+knows_end : (n : List ℕ) (form : Form) (e : List (List ℕ)) (w : List Tok) (t : Node) (d : IsText form e w t) → knows_in form e w t n 0 d ≡ among n e
+knows_end n form.Commands e w t (ts, q, d) = ap (λ b. among n e || b) (sym (or_false (knows n 0 d)) ∙ sym (looks n 0 d (span_of_first w) e none []) ∙ sees_none n (go (start form.Commands e (span_of_first w))) w) ∙ or_false (among n e)
+knows_end n form.Reporter e w t (s, d) = ap (λ b. among n e || b) (no_second (lies n 0 w [] && among n e) (knows n 0 d) (sym (reporter_shows n 0 e w t s d).is ∙ sees_none n (go (start form.Reporter e (span_of_first w))) w)) ∙ or_false (among n e)
 
 -- The names at a token are among those that the state knows.
 
@@ -111,15 +119,15 @@ ends_known form e u t z d q =
 
 module _ (form : Form) (e : List (List ℕ)) (n : List ℕ) where
   -- known in a text: then known to the state
-  pub known_to_state : (u v : List Tok) (t : Node) (z : State) (d : IsText form e (u ++ v) t) → Simple (u ++ v) → run (start form e (span_of_first (u ++ v))) u ≡ go z → knows_in form e (u ++ v) t n (length v) d ≡ true → among n (known z) ≡ true
-  known_to_state u [] t z d h q k = ap (among n) (ends_known form e u t z d q) ∙ sym (knows_end n form e (u ++ []) t d h) ∙ k
-  known_to_state u (tok ∷ v) t z d h q k = known_at n z tok (sym (sees_at n (suc (length v)) (start form e (span_of_first (u ++ tok ∷ v))) u tok v z refl q) ∙ sym (knows_text n (suc (length v)) form e (u ++ tok ∷ v) t d h (length-past n (suc (length v)) u tok v) (omega arith)) ∙ k)
+  pub known_to_state : (u v : List Tok) (t : Node) (z : State) (d : IsText form e (u ++ v) t) → run (start form e (span_of_first (u ++ v))) u ≡ go z → knows_in form e (u ++ v) t n (length v) d ≡ true → among n (known z) ≡ true
+  known_to_state u [] t z d q k = ap (among n) (ends_known form e u t z d q) ∙ sym (knows_end n form e (u ++ []) t d) ∙ k
+  known_to_state u (tok ∷ v) t z d q k = known_at n z tok (sym (sees_at n (suc (length v)) (start form e (span_of_first (u ++ tok ∷ v))) u tok v z refl q) ∙ sym (knows_text n (suc (length v)) form e (u ++ tok ∷ v) t d (length-past n (suc (length v)) u tok v) (omega arith)) ∙ k)
 
   -- known to the state, and no chain goes on: then known in the text
   abbrev pub Settles : State → List Tok → Type 0
   Settles z [] = Unit {0}
   Settles z (tok ∷ v) = names_at z tok ≡ known z
 
-  pub known_in_text : (u v : List Tok) (t : Node) (z : State) (d : IsText form e (u ++ v) t) → Simple (u ++ v) → run (start form e (span_of_first (u ++ v))) u ≡ go z → Settles z v → among n (known z) ≡ true → knows_in form e (u ++ v) t n (length v) d ≡ true
-  known_in_text u [] t z d h q s k = knows_end n form e (u ++ []) t d h ∙ sym (ap (among n) (ends_known form e u t z d q)) ∙ k
-  known_in_text u (tok ∷ v) t z d h q s k = knows_text n (suc (length v)) form e (u ++ tok ∷ v) t d h (length-past n (suc (length v)) u tok v) (omega arith) ∙ sees_at n (suc (length v)) (start form e (span_of_first (u ++ tok ∷ v))) u tok v z refl q ∙ ap (among n) s ∙ k
+  pub known_in_text : (u v : List Tok) (t : Node) (z : State) (d : IsText form e (u ++ v) t) → run (start form e (span_of_first (u ++ v))) u ≡ go z → Settles z v → among n (known z) ≡ true → knows_in form e (u ++ v) t n (length v) d ≡ true
+  known_in_text u [] t z d q s k = knows_end n form e (u ++ []) t d ∙ sym (ap (among n) (ends_known form e u t z d q)) ∙ k
+  known_in_text u (tok ∷ v) t z d q s k = knows_text n (suc (length v)) form e (u ++ tok ∷ v) t d (length-past n (suc (length v)) u tok v) (omega arith) ∙ sees_at n (suc (length v)) (start form e (span_of_first (u ++ tok ∷ v))) u tok v z refl q ∙ ap (among n) s ∙ k

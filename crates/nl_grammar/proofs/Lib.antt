@@ -13,5 +13,4 @@ pub mod Reporters
 pub mod Sees
 pub mod Sound
 pub mod Stack
-pub mod Suffix
 pub mod Taken

@@ -32,7 +32,7 @@ abbrev pub kind_at : State → Tok → TextFault
 kind_at s (word w Unknown r) = unknown_kind (among w (known s))
 kind_at s tok = Unexpected
 
--- Whether a word that is no command takes a block of commands. In this language none does, and so only statements make names.
+-- Whether a word that is no command takes a block of commands. In this language none does.
 
 abbrev pub takes_commands : Need → Bool
 takes_commands Item = false

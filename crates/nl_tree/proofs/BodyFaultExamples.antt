@@ -1,14 +1,17 @@
 -- The faults of some texts, with the tokens marked by the whole word table of a model that declares nothing.
-use Rattle.std.proofs.Common.{◌≡◌, ℕ, zero, suc, ◌+◌, ◌<◌, Bool, true, false, not, List, [], ◌∷◌, Option, Some, None, take, All, refl, ap, ◌∙◌, sym, subst, arith, ℤ, codes}
+use Rattle.std.proofs.Common.{◌≡◌, ℕ, zero, suc, ◌+◌, ◌<◌, ◌≤◌, Bool, true, false, not, List, [], ◌∷◌, Option, Some, None, take, length, All, refl, ap, ◌∙◌, sym, subst, arith, ℤ, codes}
+use Rattle.std.proofs.lemmas.Bool.{false≢true}
+use Rattle.std.proofs.lemmas.List.{length-map}
 use Rattle.nl_fixed.specs.declared.span.Span.{Span}
 use Rattle.nl_words.specs.Rows.{rows}
 use Rattle.nl_tree.specs.declared.declared.Form.TheVariants as form
 use Rattle.nl_tree.specs.Tree.{Node, Nodes}
 use Rattle.nl_tree.specs.Vocabulary.{among, terms}
-use Rattle.nl_tree.specs.Tokens.{Lexeme, Word, End, Token, IsToken, Tok, number, word, end, Unknown, Binary}
-use Rattle.nl_tree.specs.Grammar.{two, Part, Closed, Chain, Sides, Call, LastCall, Items, AnyItems, Level, Literals, Arg, Args, Statement, Statements, Reads, closed_number, closed_text, closed_constant, closed_plain, closed_variable, closed_local, closed_list, closed_block, paren, paren_many, paren_minus, chain_closed, chain_with, chain_near, call_prefix, call_many, item_chain, item_call, item_near, item_of, level_up, level_binary, arg_reporter, IsText}
-use Rattle.nl_tree.specs.BodyFault.{BeginsGood, BeginsReadable, IsUnknown, IsTextFault, UnknownName, Unexpected}
+use Rattle.nl_tree.specs.Tokens.{Lexeme, Word, End, Token, IsToken, Tok, number, word, end, Unknown, Binary, mark, marked}
+use Rattle.nl_tree.specs.Grammar.{two, Part, Closed, Chain, Sides, Call, LastCall, Items, AnyItems, Level, Literals, Arg, Args, Statement, Statements, Reads, closed_number, closed_text, closed_constant, closed_plain, closed_variable, closed_local, closed_list, closed_block, paren, paren_many, paren_minus, chain_closed, chain_with, chain_near, call_prefix, call_many, item_chain, item_call, item_near, item_of, level_up, level_binary, arg_reporter, IsText, knows}
+use Rattle.nl_tree.specs.BodyFault.{BeginsGood, BeginsReadable, Knows, IsUnknown, IsTextFault, UnknownName, Unexpected}
 use Rattle.nl_tree.proofs.GrammarExamples.{bare, at, token, w, n, num, named, item, lifted}
+use Rattle.nl_tree.proofs.Outside.{flat_behind, outside}
 
 -- A part of one value that begins here.
 abbrev pub IsValue : Part → Type 0
@@ -178,9 +181,16 @@ no_such_name : BeginsReadable form.Reporter [] (terms bare) (n 1 0 ∷ w "+" 1 �
 unfolding rows
 no_such_name (after, t, (tokens, d)) = refused _ (at 0) _ t refl d
 
+-- in `1 + after` no bracket opens before what follows, so nothing is known there
+foo_is_not_known : Knows form.Reporter [] (terms bare) (n 1 0 ∷ w "+" 1 ∷ w "foo" 2 ∷ token End 3 ∷ []) 2 (codes "foo") → ⊥
+foo_is_not_known (after, t, (s, d), (tokens, known)) =
+    let behind : length (marked (terms bare) after) ≤ length after = omega (arith, length-map after (mark (terms bare))) in
+    let left : knows (codes "foo") (length after) d ≡ false = outside (codes "foo") (length after) d ((λ low. refl), ((λ low. refl), flat_behind (length after) (marked (terms bare) after) behind)) in
+    false≢true (sym left ∙ known)
+
 foo_is_unknown : IsUnknown form.Reporter [] (terms bare) (n 1 0 ∷ w "+" 1 ∷ w "foo" 2 ∷ token End 3 ∷ []) 2
 unfolding rows
-foo_is_unknown = (codes "foo", at 2, (refl, refl, (λ known. let nowhere = known.3.1 in cc)))
+foo_is_unknown = (codes "foo", at 2, (refl, refl, foo_is_not_known))
 
 name_is_unknown : IsTextFault form.Reporter [] (terms bare) (n 1 0 ∷ w "+" 1 ∷ w "foo" 2 ∷ token End 3 ∷ []) 2 UnknownName
 name_is_unknown =

@@ -1,6 +1,6 @@
 -- The faults of two texts of commands, with the tokens marked by the whole word table of a model that declares nothing.
-use Rattle.std.proofs.Common.{◌≡◌, ℕ, zero, suc, ◌+◌, ◌<◌, ◌≤◌, Bool, true, false, ◌&&◌, ◌||◌, List, [], ◌∷◌, take, length, All, refl, ap, ◌∙◌, sym, subst, arith, ℤ, codes, nat_lt}
-use Rattle.std.proofs.lemmas.Bool.{ne_eqb, lt-leb, false≢true}
+use Rattle.std.proofs.Common.{◌≡◌, ℕ, zero, suc, ◌+◌, ◌<◌, Bool, true, false, List, [], ◌∷◌, take, length, All, refl, ap, ◌∙◌, sym, subst, arith, ℤ, codes}
+use Rattle.std.proofs.lemmas.Bool.{ne_eqb, false≢true}
 use Rattle.std.proofs.lemmas.List.{length-map}
 use Rattle.nl_fixed.specs.declared.span.Span.{Span}
 use Rattle.nl_words.specs.Rows.{rows}
@@ -9,104 +9,28 @@ use Rattle.nl_tree.specs.declared.declared.Form.TheVariants as form
 use Rattle.nl_tree.specs.Tree.{node, Nodes, none}
 use Rattle.nl_tree.specs.Vocabulary.{among, terms}
 use Rattle.nl_tree.specs.Tokens.{Open, Close, End, Token, IsToken, Tok, number, word, open_bracket, end, marked, Unknown, Constant, Command, Whole, Maybe, Within, CommandsBlock}
-use Rattle.nl_tree.specs.Grammar.{one, two, leaf, Part, Ending, AtBracket, Args, Statement, Statements, Reads, IsText, knows, closed_number, closed_text, closed_constant, closed_plain, closed_variable, closed_local, closed_list, closed_block, paren, paren_many, paren_minus, chain_closed, chain_with, chain_near, one_side, more_sides, call_prefix, call_many, one_item, more_items, no_item, any_item, last_call, more_last, item_chain, item_call, item_near, item_of, level_up, level_binary, literal_end, literal_number, literal_text, literal_constant, literal_list, arg_item, arg_whole, arg_commands, arg_reporter, arg_variable, arg_local, no_arg, arg, maybe_there, maybe_missing, command, make, statement_paren, at_bracket, at_end, statements}
+use Rattle.nl_tree.specs.Grammar.{one, two, leaf, Part, Ending, AtBracket, Args, Statement, Statements, Reads, IsText, knows, closed_number, closed_text, closed_constant, closed_plain, closed_variable, closed_local, closed_list, closed_block, paren, paren_many, paren_minus, chain_closed, chain_with, chain_near, call_prefix, call_many, item_chain, item_call, item_near, item_of, level_up, level_binary, arg_whole, arg_commands, arg_reporter, no_arg, arg, maybe_there, maybe_missing, command, make, statement_paren, at_bracket, at_end, statements}
 use Rattle.nl_tree.specs.BodyFault.{BeginsGood, BeginsReadable, Knows, IsUnknown, IsTextFault, UnknownName, Unexpected}
 use Rattle.nl_tree.proofs.GrammarExamples.{bare, at, token, w, n, num, named, item, lifted}
 use Rattle.nl_tree.proofs.BodyFaultExamples.{IsValue, word_there, all_one}
+use Rattle.nl_tree.proofs.Outside.{neither, not_first, not_second, flat_behind, outside}
+use Rattle.nl_tree.proofs.Suffix.{shorter, suffix}
 
--- ---- a reading leaves no more than it was given, and a statement leaves less
-
-shorter : {p : Part} {e : List (List ℕ)} {a c : List Tok} {ts : Nodes} → Reads p e a c ts → length c ≤ length a
-shorter closed_number = omega arith
-shorter closed_text = omega arith
-shorter closed_constant = omega arith
-shorter closed_plain = omega arith
-shorter closed_variable = omega arith
-shorter (closed_local h) = omega arith
-shorter (closed_list d) = omega (arith, shorter d)
-shorter (closed_block d f) = omega (arith, shorter d, shorter f)
-shorter (paren d) = omega (arith, shorter d)
-shorter (paren_many d) = omega (arith, shorter d)
-shorter (paren_minus d) = omega (arith, shorter d)
-shorter (chain_closed d) = shorter d
-shorter (chain_with d f) = omega (arith, shorter d, shorter f)
-shorter (chain_near d f) = omega (arith, shorter d, shorter f)
-shorter (one_side d) = shorter d
-shorter (more_sides d f) = omega (arith, shorter d, shorter f)
-shorter (call_prefix d f) = omega (arith, shorter d, shorter f)
-shorter (call_many d) = omega (arith, shorter d)
-shorter (one_item d) = shorter d
-shorter (more_items d f) = omega (arith, shorter d, shorter f)
-shorter no_item = omega arith
-shorter (any_item d f) = omega (arith, shorter d, shorter f)
-shorter (last_call d) = shorter d
-shorter (more_last d f) = omega (arith, shorter d, shorter f)
-shorter (item_chain d) = shorter d
-shorter (item_call d) = shorter d
-shorter (item_near d f) = omega (arith, shorter d, shorter f)
-shorter (item_of d f) = omega (arith, shorter d, shorter f)
-shorter (level_up d) = shorter d
-shorter (level_binary d f) = omega (arith, shorter d, shorter f)
-shorter literal_end = omega arith
-shorter (literal_number d) = omega (arith, shorter d)
-shorter (literal_text d) = omega (arith, shorter d)
-shorter (literal_constant d) = omega (arith, shorter d)
-shorter (literal_list d f) = omega (arith, shorter d, shorter f)
-shorter (arg_item d) = shorter d
-shorter (arg_whole d) = shorter d
-shorter (arg_commands d) = omega (arith, shorter d)
-shorter (arg_reporter d) = omega (arith, shorter d)
-shorter arg_variable = omega arith
-shorter (arg_local h) = omega arith
-shorter no_arg = omega arith
-shorter (arg d f) = omega (arith, shorter d, shorter f)
-shorter (maybe_there d f) = omega (arith, shorter d, shorter f)
-shorter (maybe_missing h d) = shorter d
-shorter (command d) = omega (arith, shorter d)
-shorter (make h d) = omega (arith, shorter d)
-shorter (statement_paren d) = omega (arith, shorter d)
-shorter at_bracket = omega arith
-shorter at_end = omega arith
-shorter (statements d f) = omega (arith, shorter d, shorter f)
+-- ---- a statement takes a token
 
 statement_takes : {f e : List (List ℕ)} {a c : List Tok} {ts : Nodes} → Reads (Statement f) e a c ts → length c < length a
-statement_takes (command d) = omega (arith, shorter d)
-statement_takes (make h d) = omega (arith, shorter d)
-statement_takes (statement_paren d) = omega (arith, shorter d)
+statement_takes (command d) = omega (arith, shorter (suffix d))
+statement_takes (make h d) = omega (arith, shorter (suffix d))
+statement_takes (statement_paren d) = omega (arith, shorter (suffix d))
 
 -- ---- before the first token of a text no name is known that wasn't given
 
-neither : {a b : Bool} → a ≡ false → b ≡ false → (a || b) ≡ false
-neither h k = rw h k
-
-not_first : {a : Bool} (b : Bool) → a ≡ false → (a && b) ≡ false
-not_first b h = rw h refl
-
-not_second : (a : Bool) {b : Bool} → b ≡ false → (a && b) ≡ false
-not_second true h = h
-not_second false h = refl
-
--- no name is known inside of a reading before its first token
-outside : {p : Part} {e : List (List ℕ)} {a c : List Tok} {ts : Nodes} (v : List ℕ) (left : ℕ) (d : Reads p e a c ts) → length a < left → knows v left d ≡ false
-outside v left (arg_commands d) h = outside v left d (omega (arith, h))
-outside v left (arg d f) h = neither (outside v left d h) (outside v left f (omega (arith, h, shorter d)))
-outside v left (maybe_there d f) h = neither (outside v left d h) (outside v left f (omega (arith, h, shorter d)))
-outside v left (maybe_missing shut d) h = outside v left d h
-outside v left (command d) h = outside v left d (omega (arith, h))
-outside v left (statement_paren {f = f} {c = c} d) h =
-    neither (not_first (among v f) (ne_eqb left (length c + 1) (λ same. omega (arith, h, same, shorter d)))) (outside v left d (omega (arith, h)))
-outside v left (at_bracket {e = e} {c = c}) h = not_first (among v e) (ne_eqb left (length c + 1) (λ same. omega (arith, h, same)))
-outside v left (at_end {e = e}) h = not_first (among v e) (ne_eqb left 1 (λ same. omega (arith, h, same)))
-outside v left (statements {e = e} {a = a} {b = b} d f) h =
-    neither (neither (not_first (among v e) (not_second (nat_lt (length b) left) (lt-leb left (length a) h))) (outside v left d h)) (outside v left f (omega (arith, h, shorter d)))
-outside v left d h = refl
-
 -- nor at the first token of statements
 first_inside : {f e : List (List ℕ)} {a c : List Tok} {ts : Nodes} (v : List ℕ) (d : Reads (Statement f) e a c ts) → knows v (length a) d ≡ false
-first_inside v (command d) = outside v _ d (omega arith)
-first_inside v (make h d) = refl
+first_inside v (command {b = b} d) = outside v _ d (flat_behind _ b (omega arith))
+first_inside v (make {b = b} h d) = outside v _ d (flat_behind _ b (omega arith))
 first_inside v (statement_paren {f = f} {b = b} {c = c} d) =
-    neither (not_first (among v f) (ne_eqb (suc (length b)) (length c + 1) (λ same. omega (arith, same, shorter d)))) (outside v _ d (omega arith))
+    neither (not_first (among v f) (ne_eqb (suc (length b)) (length c + 1) (λ same. omega (arith, same, shorter (suffix d))))) (outside v _ d (omega arith))
 
 first_of_all : {k : Ending} {a c : List Tok} {ts : Nodes} (v : List ℕ) (d : Reads (Statements k) [] a c ts) → knows v (length a) d ≡ false
 first_of_all v at_bracket = not_second _ refl

@@ -134,22 +134,63 @@ IsText form.Commands e a t = (ts : Nodes) × (t ≡ node label.Commands (span_of
 IsText form.Reporter e a t = (s : Span) × Reads (Level top) e a (end s ∷ []) (one t)
 
 -- Which names are known where `left` tokens are left, in a reading: those known to the statements in which that place lies. At a closing
--- parenthesis the statement inside of it is over, so what it makes is known there.
+-- parenthesis the statement inside of it is over, so what it makes is known there. A reading knows what those inside of it know.
 abbrev lies_in : List Tok → List Tok → ℕ → Bool
 lies_in a c left = nat_lt (length c) left && nat_le left (length a)
 
 abbrev pub knows : {p : Part} {e : List (List ℕ)} {a c : List Tok} {ts : Nodes} → List ℕ → ℕ → Reads p e a c ts → Bool
+knows n left closed_number = false
+knows n left closed_text = false
+knows n left closed_constant = false
+knows n left closed_plain = false
+knows n left closed_variable = false
+knows n left (closed_local h) = false
+knows n left (closed_list d) = knows n left d
+knows n left (closed_block ds d) = knows n left ds || knows n left d
+knows n left (paren d) = knows n left d
+knows n left (paren_many ds) = knows n left ds
+knows n left (paren_minus d) = knows n left d
+knows n left (chain_closed d) = knows n left d
+knows n left (chain_with d f) = knows n left d || knows n left f
+knows n left (chain_near d fs) = knows n left d || knows n left fs
+knows n left (one_side d) = knows n left d
+knows n left (more_sides d ds) = knows n left d || knows n left ds
+knows n left (call_prefix ds d) = knows n left ds || knows n left d
+knows n left (call_many ds) = knows n left ds
+knows n left (one_item d) = knows n left d
+knows n left (more_items d ds) = knows n left d || knows n left ds
+knows n left no_item = false
+knows n left (any_item d ds) = knows n left d || knows n left ds
+knows n left (last_call d) = knows n left d
+knows n left (more_last d ds) = knows n left d || knows n left ds
+knows n left (item_chain d) = knows n left d
+knows n left (item_call d) = knows n left d
+knows n left (item_near d fs) = knows n left d || knows n left fs
+knows n left (item_of d f) = knows n left d || knows n left f
+knows n left (level_up d) = knows n left d
+knows n left (level_binary d f) = knows n left d || knows n left f
+knows n left literal_end = false
+knows n left (literal_number ds) = knows n left ds
+knows n left (literal_text ds) = knows n left ds
+knows n left (literal_constant ds) = knows n left ds
+knows n left (literal_list d ds) = knows n left d || knows n left ds
+knows n left (arg_item d) = knows n left d
+knows n left (arg_whole d) = knows n left d
 knows n left (arg_commands d) = knows n left d
+knows n left (arg_reporter d) = knows n left d
+knows n left arg_variable = false
+knows n left (arg_local h) = false
+knows n left no_arg = false
 knows n left (arg d ds) = knows n left d || knows n left ds
 knows n left (maybe_there d ds) = knows n left d || knows n left ds
 knows n left (maybe_missing h ds) = knows n left ds
 knows n left (command ds) = knows n left ds
+knows n left (make h d) = knows n left d
 knows n left (statement_paren {f = f} {c = c} d) = (left == length c + 1) && among n f || knows n left d
 knows n left (at_bracket {e = e} {c = c}) = (left == length c + 1) && among n e
 knows n left (at_end {e = e}) = (left == 1) && among n e
 knows n left (statements {e = e} {a = a} {b = b} d ds) = lies_in a b left && among n e || knows n left d || knows n left ds
-knows n left d = false
 
 abbrev pub knows_in : (f : Form) (e : List (List ℕ)) (a : List Tok) (t : Node) → List ℕ → ℕ → IsText f e a t → Bool
 knows_in form.Commands e a t n left d = among n e || knows n left d.2
-knows_in form.Reporter e a t n left d = among n e
+knows_in form.Reporter e a t n left d = among n e || knows n left d.1
