@@ -9,8 +9,8 @@ use Rattle.nl_tree.specs.declared.declared.Declared.{Declared}
 use Rattle.nl_tree.specs.declared.declared.Form.TheVariants as form
 use Rattle.nl_tree.specs.Tree.{Node, node, Nodes, none, more, depth}
 use Rattle.nl_tree.specs.Vocabulary.{terms}
-use Rattle.nl_tree.specs.Tokens.{Lexeme, Number, Word, Open, Close, OpenParen, CloseParen, End, Token, Tok, marked}
-use Rattle.nl_tree.specs.Grammar.{one, two, leaf, Reads, Level, Closed, Statements, AtEnd, knows, closed_number, closed_constant, closed_plain, closed_variable, closed_local, closed_list, paren, paren_many, paren_minus, chain_closed, chain_with, call_prefix, last_call, no_item, any_item, item_chain, item_call, item_near, item_of, level_up, level_binary, literal_end, literal_constant, arg_whole, arg_commands, arg_reporter, arg_variable, no_arg, arg, maybe_there, maybe_missing, command, make, statement_paren, at_bracket, at_end, statements, IsText}
+use Rattle.nl_tree.specs.Tokens.{Lexeme, Number, Text, Word, Open, Close, OpenParen, CloseParen, End, Token, Tok, marked}
+use Rattle.nl_tree.specs.Grammar.{one, two, leaf, Reads, Level, Closed, Statements, AtEnd, knows, closed_number, closed_text, closed_constant, closed_plain, closed_variable, closed_local, closed_list, closed_block, paren, paren_many, paren_minus, chain_closed, chain_with, chain_near, one_side, more_sides, call_prefix, call_many, one_item, more_items, last_call, more_last, no_item, any_item, item_chain, item_call, item_near, item_of, level_up, level_binary, literal_end, literal_number, literal_text, literal_constant, literal_list, arg_item, arg_whole, arg_commands, arg_reporter, arg_variable, arg_local, no_arg, arg, maybe_there, maybe_missing, command, make, statement_paren, at_bracket, at_end, statements, IsText}
 
 -- a model that declares nothing
 abbrev pub bare : Declared
@@ -31,6 +31,9 @@ n v i = token (Number (pos v)) i
 
 abbrev pub num : ℕ → ℕ → Node
 num v i = leaf (label.Number (pos v)) (at i)
+
+abbrev pub quoted : String → ℕ → Node
+quoted s i = leaf (label.Text (codes s)) (at i)
 
 abbrev pub named : String → ℕ → Nodes → Node
 named s i ts = node (label.Named (codes s)) (at i) ts
@@ -72,6 +75,16 @@ bracket_is_a_block : IsTextOf label.Reporter (token Open 0 ∷ w "red" 1 ∷ tok
 unfolding rows
 bracket_is_a_block = (at 5, lifted 6 (item_of (arg_reporter (lifted 6 (item closed_constant))) (item closed_plain)))
 
+-- "a" is a text, and [1 "a" [2]] a list of a number, a text and a list
+text_is_a_value : IsTextOf label.Reporter (token (Text (codes "a")) 0 ∷ token End 1 ∷ []) (quoted "a" 0)
+unfolding rows
+text_is_a_value = (at 1, lifted 6 (item closed_text))
+
+list_of_literals : IsTextOf label.Reporter (token Open 0 ∷ n 1 1 ∷ token (Text (codes "a")) 2 ∷ token Open 3 ∷ n 2 4 ∷ token Close 5 ∷ token Close 6 ∷ token End 7 ∷ [])
+    (node label.List (at 0) (more (num 1 1) (two (quoted "a" 2) (node label.List (at 3) (one (num 2 4))))))
+unfolding rows
+list_of_literals = (at 7, lifted 6 (item (closed_list (literal_number (literal_text (literal_list (literal_number literal_end) literal_end))))))
+
 -- count turtles = 3 compares a count: an input of a reporter is an item
 inputs_are_items : IsTextOf label.Reporter (w "count" 0 ∷ w "turtles" 1 ∷ w "=" 2 ∷ n 3 3 ∷ token End 4 ∷ [])
     (named "=" 2 (two (named "count" 0 (one (named "turtles" 1 none))) (num 3 3)))
@@ -83,6 +96,30 @@ last_side_is_a_call : IsTextOf label.Reporter (w "turtles" 0 ∷ w "in-radius" 1
     (named "in-radius" 1 (two (named "turtles" 0 none) (named "abs" 2 (one (num 3 3)))))
 unfolding rows
 last_side_is_a_call = (at 4, lifted 6 (item_near (chain_closed closed_plain) (last_call (call_prefix no_arg (item closed_number)))))
+
+-- turtles in-cone 3 60 has two right sides, of which the last may be a call, as in turtles in-cone 3 random 60
+two_sides : IsTextOf label.Reporter (w "turtles" 0 ∷ w "in-cone" 1 ∷ n 3 2 ∷ n 60 3 ∷ token End 4 ∷ [])
+    (named "in-cone" 1 (more (named "turtles" 0 none) (two (num 3 2) (num 60 3))))
+unfolding rows
+two_sides = (at 4, lifted 6 (item_chain (chain_near (chain_closed closed_plain) (more_sides closed_number (one_side closed_number)))))
+
+last_of_two_sides_is_a_call : IsTextOf label.Reporter (w "turtles" 0 ∷ w "in-cone" 1 ∷ n 3 2 ∷ w "random" 3 ∷ n 60 4 ∷ token End 5 ∷ [])
+    (named "in-cone" 1 (more (named "turtles" 0 none) (two (num 3 2) (named "random" 3 (one (num 60 4))))))
+unfolding rows
+last_of_two_sides_is_a_call = (at 5, lifted 6 (item_near (chain_closed closed_plain) (more_last closed_number (last_call (call_prefix no_arg (item closed_number))))))
+
+-- max-n-of 2 turtles [who] ends with its block
+call_ends_with_its_block : IsTextOf label.Reporter (w "max-n-of" 0 ∷ n 2 1 ∷ w "turtles" 2 ∷ token Open 3 ∷ w "who" 4 ∷ token Close 5 ∷ token End 6 ∷ [])
+    (named "max-n-of" 0 (more (num 2 1) (two (named "turtles" 2 none) (node label.Reporter (at 3) (one (named "who" 4 none))))))
+unfolding rows
+call_ends_with_its_block =
+    let inputs = arg (arg_item (item closed_number)) (arg (arg_item (item closed_plain)) no_arg) in
+    (at 6, lifted 6 (item (closed_block inputs (arg_reporter (lifted 6 (item closed_variable))))))
+
+-- list 1 2: without parentheses such a word takes its usual number of items
+usual_items : IsTextOf label.Reporter (w "list" 0 ∷ n 1 1 ∷ n 2 2 ∷ token End 3 ∷ []) (named "list" 0 (two (num 1 1) (num 2 2)))
+unfolding rows
+usual_items = (at 3, lifted 6 (item_call (call_many (more_items (item closed_number) (one_item (item closed_number))))))
 
 -- Parentheses: an expression, a word with any number of items, a negation, a statement.
 around_an_expression : IsTextOf label.Reporter (token OpenParen 0 ∷ n 1 1 ∷ w "+" 2 ∷ n 2 3 ∷ token CloseParen 4 ∷ token End 5 ∷ [])
@@ -179,6 +216,16 @@ variable_is_set = (
   one (named "set" 0 (two (named "color" 1 none) (named "red" 2 none))),
   refl,
   statements (command (arg arg_variable (arg (arg_whole (lifted 6 (item closed_constant))) no_arg))) at_end,
+)
+
+-- let x 1 set x 2: a local is set
+local_is_set : IsTextOf label.Commands (w "let" 0 ∷ w "x" 1 ∷ n 1 2 ∷ w "set" 3 ∷ w "x" 4 ∷ n 2 5 ∷ token End 6 ∷ [])
+    (node label.Commands (at 0) (two (named "let" 0 (two (named "x" 1 none) (num 1 2))) (named "set" 3 (two (named "x" 4 none) (num 2 5)))))
+unfolding rows
+local_is_set = (
+  two (named "let" 0 (two (named "x" 1 none) (num 1 2))) (named "set" 3 (two (named "x" 4 none) (num 2 5))),
+  refl,
+  statements (make refl (lifted 6 (item closed_number))) (statements (command (arg (arg_local refl) (arg (arg_whole (lifted 6 (item closed_number))) no_arg))) at_end),
 )
 
 -- Depth is 1 plus the greatest depth of the parts.
