@@ -6,6 +6,7 @@ use Rattle.std.proofs.lemmas.List.{append-nil}
 use Rattle.std.proofs.lemmas.Slice.Eq.{bytes_eq-Decides}
 use Rattle.nl_words.specs.Rows.{rows}
 use Rattle.nl_words.specs.Table.{is_name, is_word_byte}
+use Rattle.nl_fixed.specs.declared.span.Span.{Span}
 use Rattle.nl_tree.specs.declared.declared.Form.{Form}
 use Rattle.nl_tree.specs.declared.declared.Form.TheVariants as form
 use Rattle.nl_tree.specs.Tree.{Node, depth}
@@ -188,20 +189,44 @@ module _ (form : Form) (names : List (List ℕ)) (table : List Term) (t : Token)
   pub begins_good : (s : State) → reading form names table (t ∷ ts) ≡ go s → least_depth s ≤ deepest → BeginsGood form names table (t ∷ ts)
   begins_good s q h = let (u, d, k) = completed_least s q in (map (token_of table) (pieces s), u, (all_tokens table (pieces s), (d, omega (arith, h, k))))
 
+-- No tokens begin a text of each form.
+
+nothing_completed : (form : Form) (names : List (List ℕ)) (table : List Term) → HasWords table → (u : Node) × IsReadable form names table (map (token_of table) (pieces (start form names nowhere))) u × (depth u ≡ least_depth (start form names nowhere))
+nothing_completed form.Commands names table has =
+    let (u, d, h) = completes_least (unused table) (unused_fresh table) form.Commands names [] (start form.Commands names nowhere) refl in
+    (u, completed form.Commands names table has [] (pieces (start form.Commands names nowhere)) u d, h)
+nothing_completed form.Reporter names table has =
+    let (u, d, h) = completes_least (unused table) (unused_fresh table) form.Reporter names [] (start form.Reporter names nowhere) refl in
+    (u, completed form.Reporter names table has [] (pieces (start form.Reporter names nowhere)) u d, h)
+
+start_depth : (form : Form) (names : List (List ℕ)) (s : Span) → least_depth (start form names s) ≡ least_depth (start form names nowhere)
+start_depth form.Commands names s = refl
+start_depth form.Reporter names s = refl
+
+start_is_low : (form : Form) (names : List (List ℕ)) → least_depth (start form names nowhere) ≤ deepest
+start_is_low form.Commands names = omega arith
+start_is_low form.Reporter names = omega arith
+
 pub completions_are_least : CompletionsAreLeast
 completions_are_least form names table (t ∷ ts) has b = completed_at form names table t ts has (reading form names table (t ∷ ts)) refl b
-completions_are_least form.Commands names table [] has b =
-    let (u, d, h) = completes_least (unused table) (unused_fresh table) form.Commands names [] (start form.Commands names nowhere) refl in
-    (u, completed form.Commands names table has [] (pieces (start form.Commands names nowhere)) u d, all_tokens table (pieces (start form.Commands names nowhere)), λ after v f. subst (λ n. n ≤ depth v) (sym h) (least form.Commands names [] (marked table after) (start form.Commands names (span_of_first (marked table after))) v refl f))
-completions_are_least form.Reporter names table [] has b =
-    let (u, d, h) = completes_least (unused table) (unused_fresh table) form.Reporter names [] (start form.Reporter names nowhere) refl in
-    (u, completed form.Reporter names table has [] (pieces (start form.Reporter names nowhere)) u d, all_tokens table (pieces (start form.Reporter names nowhere)), λ after v f. subst (λ n. n ≤ depth v) (sym h) (least form.Reporter names [] (marked table after) (start form.Reporter names (span_of_first (marked table after))) v refl f))
+completions_are_least form names table [] has b =
+    let (u, d, h) = nothing_completed form names table has in
+    (u, d, all_tokens table (pieces (start form names nowhere)), λ after v f. subst (λ n. n ≤ depth v) (start_depth form names (span_of_first (marked table after)) ∙ sym h) (least form names [] (marked table after) (start form names (span_of_first (marked table after))) v refl f))
 
 pub beginnings_are_taken : BeginningsAreTaken
-beginnings_are_taken form names table t ts has = (
+beginnings_are_taken form names table (t ∷ ts) has = (
   (taken_at form names table t ts has (reading form names table (t ∷ ts)) refl, λ b. begins form names table t ts has b.0 b.1),
   (good_at form names table t ts has, λ b. begins_good form names table t ts has b.0 b.1 b.2),
 )
+beginnings_are_taken form names table [] has =
+    let (u, d, h) = nothing_completed form names table has in
+    let tokens : All IsToken (map (token_of table) (pieces (start form names nowhere))) = all_tokens table (pieces (start form names nowhere)) in (
+      ((λ b. (start form names nowhere, refl)), λ b. (map (token_of table) (pieces (start form names nowhere)), u, (tokens, d))),
+      (
+        (λ b. (start form names nowhere, refl, start_is_low form names)),
+        λ b. (map (token_of table) (pieces (start form names nowhere)), u, (tokens, (d, omega (arith, h, start_is_low form names)))),
+      ),
+    )
 
 pub models_have_words : ModelsHaveWords
 unfolding rows

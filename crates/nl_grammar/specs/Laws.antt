@@ -1,4 +1,6 @@
--- What holds of the grammar, whatever the table of words is and whatever names are known.
+-- What holds of the grammar, whatever names are known. Four laws hold whatever the table of words is: trees are unique, texts are taken, a
+-- good text has no fault, and there is one first fault. The others are for tables that have the words of which completions are made, and
+-- those that tell a first fault also for tables in which only commands take blocks of commands. The table of every model is such a one.
 use Rattle.std.specs.Prelude.{◌≡◌, ◌↔◌, ◌≤◌, ◌<◌, ◌⊎◌, ℕ, List, [], ◌∷◌, ◌++◌, All, Some, length, slice_get}
 use Rattle.nl_fixed.specs.declared.span.Span.{Span}
 use Rattle.nl_tree.specs.declared.declared.Declared.{Declared}
@@ -33,9 +35,9 @@ CompletionsAreLeast =
 -- tokens begin a text exactly where the machine goes over them, and a good one where the least depth that it then allows is allowed
 abbrev pub BeginningsAreTaken : Type 0
 BeginningsAreTaken =
-    (form : Form) (names : List (List ℕ)) (table : List Term) (t : Token) (ts : List Token) → HasWords table →
-    (BeginsReadable form names table (t ∷ ts) ↔ ((s : State) × (reading form names table (t ∷ ts) ≡ go s)))
-    × (BeginsGood form names table (t ∷ ts) ↔ ((s : State) × (reading form names table (t ∷ ts) ≡ go s) × (least_depth s ≤ deepest)))
+    (form : Form) (names : List (List ℕ)) (table : List Term) (ts : List Token) → HasWords table →
+    (BeginsReadable form names table ts ↔ ((s : State) × (reading form names table ts ≡ go s)))
+    × (BeginsGood form names table ts ↔ ((s : State) × (reading form names table ts ≡ go s) × (least_depth s ≤ deepest)))
 
 -- the words of every model have those of which completions are made
 abbrev pub ModelsHaveWords : Type 0
