@@ -1,5 +1,6 @@
 -- The kind of a fault, by what the machine's state knows.
 use Rattle.std.proofs.Common.{◌≡◌, ℕ, zero, suc, ◌+◌, ◌-◌, ◌==◌, ◌&&◌, if◌then◌else◌, nat_le, bytes_eq, codes, Bool, true, false, List, [], ◌∷◌, ◌++◌, map, length, take, All, Option, Some, None, refl, sym, ◌∙◌, ap, subst, IsTrue, arith, slice_get}
+use Rattle.std.specs.List.{list_any}
 use Rattle.nl_fixed.specs.declared.span.Span.{Span}
 use Rattle.nl_words.specs.declared.entry.Role.{Role}
 use Rattle.nl_words.specs.declared.entry.Role.TheVariants as role
@@ -10,7 +11,7 @@ use Rattle.nl_tree.specs.declared.declared.Form.TheVariants as form
 use Rattle.nl_tree.specs.Tree.{Node}
 use Rattle.nl_tree.specs.Term.{Term}
 use Rattle.nl_tree.specs.Vocabulary.{among, term_named}
-use Rattle.nl_tree.specs.Tokens.{inputs_of, Lexeme, Number, Text, Word, Open, Close, OpenParen, CloseParen, End, Token, IsToken, Need, Item, Within, Class, Unknown, Prefix, Many, Closing, Of, Binary, Nowhere, Tok, word, class_of, class_of_term, class_by, before, last_need, reporter_class, one_more, many_class, command_class, near_class, operator_class, need_of_reporter, mark, marked_as, marked}
+use Rattle.nl_tree.specs.Tokens.{inputs_of, Lexeme, Number, Text, Word, Open, Close, OpenParen, CloseParen, End, Token, IsToken, Need, Item, Within, Class, Unknown, Prefix, Many, Closing, Command, Of, Binary, Nowhere, Tok, word, class_of, class_of_term, class_by, before, last_need, is_new, reporter_of, reporter_class, one_more, many_class, command_class, near_class, operator_class, need_of_command, need_of_reporter, mark, marked_as, marked}
 use Rattle.nl_tree.specs.Grammar.{IsText, knows_in, span_of_first}
 use Rattle.nl_tree.specs.BodyFault.{IsReadable, BeginsReadable, Knows, IsUnknown, IsOfKind, Unexpected}
 use Rattle.nl_grammar.specs.Machine.{Have, State, st, go, feed, settle, run, start}
@@ -111,10 +112,13 @@ before_known i (Prefix is) = refl
 before_known i (Closing is b) = refl
 before_known i c = refl
 
+listed_known : (is : List Input) → is_unknown (reporter_of is) ≡ false
+listed_known [] = refl
+listed_known (i ∷ []) = last_known (need_of_reporter i)
+listed_known (i ∷ j ∷ is) = before_known (need_of_reporter i) (reporter_of (j ∷ is))
+
 reporter_known : (is : List Input) → is_unknown (reporter_class is) ≡ false
-reporter_known [] = refl
-reporter_known (i ∷ []) = last_known (need_of_reporter i)
-reporter_known (i ∷ j ∷ is) = before_known (need_of_reporter i) (reporter_class (j ∷ is))
+reporter_known is = either (list_any is_new is) Nowhere (reporter_of is) refl (listed_known is)
 
 more_known : (c : Class) → is_unknown (one_more c) ≡ false
 more_known (Many n) = refl
@@ -127,7 +131,7 @@ many_known is = refl
 
 command_known : (is : List Input) → is_unknown (command_class is) ≡ false
 command_known (input.Fresh ∷ input.Value ∷ []) = refl
-command_known is = refl
+command_known is = either (list_any is_new is) Nowhere (Command (map need_of_command is)) refl refl
 
 near_known : (is : List Input) → is_unknown (near_class is) ≡ false
 near_known (input.Value ∷ input.Reporter ∷ []) = refl

@@ -1,6 +1,6 @@
 -- In every model only commands take blocks of commands.
 use Rattle.std.proofs.Common.{◌≡◌, ℕ, zero, suc, ◌+◌, ◌-◌, ◌==◌, ◌&&◌, if◌then◌else◌, nat_le, bytes_eq, codes, Bool, true, false, List, [], ◌∷◌, ◌++◌, map, length, Option, Some, None, refl, sym, ◌∙◌, subst}
-use Rattle.std.specs.List.{list_all}
+use Rattle.std.specs.List.{list_all, list_any}
 use Rattle.std.specs.Cmp.{first_so, second_so}
 use Rattle.nl_words.specs.Row.{Row, row_named}
 use Rattle.nl_words.specs.Rows.{rows}
@@ -13,7 +13,7 @@ use Rattle.nl_tree.specs.declared.declared.Breed.{Breed}
 use Rattle.nl_tree.specs.declared.declared.Procedure.{Procedure}
 use Rattle.nl_tree.specs.Term.{Term}
 use Rattle.nl_tree.specs.Vocabulary.{Pattern, base_term, counted, global_names, global_term, owned_names, owned_term, made_name, made_as, made_terms, patterns, breed_terms, procedure_term, own_terms, terms, term_named}
-use Rattle.nl_tree.specs.Tokens.{CommandsBlock, ReporterBlock, Item, Class, Prefix, Closing, Of, Binary, Nowhere, repeated, before, reporter_class, near_class, operator_class, class_by, class_of, class_of_term}
+use Rattle.nl_tree.specs.Tokens.{CommandsBlock, ReporterBlock, Item, Class, Prefix, Closing, Of, Binary, Nowhere, Command, need_of_command, is_new, repeated, before, reporter_of, reporter_class, near_class, operator_class, class_by, class_of, class_of_term}
 use Rattle.nl_grammar.specs.Fault.{is_expression}
 use Rattle.nl_grammar.specs.Laws.{ModelsTakeNoCommands}
 
@@ -49,10 +49,13 @@ before_fits (Closing is CommandsBlock) h = h
 before_fits (Closing is ReporterBlock) h = h
 before_fits c h = refl
 
+listed_fit : (n : ℕ) → is_expression (reporter_of (repeated n)) ≡ true
+listed_fit zero = refl
+listed_fit (suc zero) = refl
+listed_fit (suc (suc n)) = before_fits (reporter_of (repeated (suc n))) (listed_fit (suc n))
+
 values_fit : (n : ℕ) → is_expression (reporter_class (repeated n)) ≡ true
-values_fit zero = refl
-values_fit (suc zero) = refl
-values_fit (suc (suc n)) = before_fits (reporter_class (repeated (suc n))) (values_fit (suc n))
+values_fit n = either (list_any is_new (repeated n)) Nowhere (reporter_of (repeated n)) refl (listed_fit n)
 
 -- Rows one by one.
 
@@ -101,7 +104,7 @@ fit_procedures n (p ∷ ps) = (at p.reporter, fit_procedures (n + 1) ps)
       where
         commands_fit : (is : List Input) → is_expression (class_by role.Command false false is) ≡ true
         commands_fit (input.Fresh ∷ input.Value ∷ []) = refl
-        commands_fit is = refl
+        commands_fit is = either (list_any is_new is) Nowhere (Command (map need_of_command is)) refl refl
 
 -- a built-in row that is found is one of them
 row_found : (rs : List Row) (name : List ℕ) (r : Row) → list_all (λ (r : Row). fits (base_term r)) rs ≡ true → row_named rs name ≡ Some r → fits (base_term r) ≡ true

@@ -1,9 +1,10 @@
 -- What rows make of words, where the inputs are those that are listed and then so many values.
-use Rattle.std.proofs.Common.{◌≡◌, ℕ, zero, suc, ◌+◌, ◌-◌, ◌<◌, ◌≤◌, take, get_or, true, false, List, [], ◌∷◌, ◌++◌, map, nat_eq, length, append-nil, refl, sym, subst, ap, ◌∙◌, arith}
+use Rattle.std.proofs.Common.{◌≡◌, ℕ, zero, suc, ◌+◌, ◌-◌, ◌<◌, ◌≤◌, take, get_or, true, false, List, [], ◌∷◌, ◌++◌, map, nat_eq, length, append-nil, refl, sym, subst, ap, ◌∙◌, ◌||◌, if◌then◌else◌, arith}
+use Rattle.std.specs.List.{list_any}
 use Rattle.std.proofs.lemmas.List.{take_more, take_all}
 use Rattle.nl_words.specs.declared.entry.Input.{Input}
 use Rattle.nl_words.specs.declared.entry.Input.TheVariants as input
-use Rattle.nl_tree.specs.Tokens.{CommandsBlock, ReporterBlock, Prefix, Many, Closing, Command, Let, With, Nowhere, need_of_command, need_of_reporter, repeated, before, last_need, reporter_class, one_more, many_class, command_class, near_class}
+use Rattle.nl_tree.specs.Tokens.{CommandsBlock, ReporterBlock, Prefix, Many, Closing, Command, Let, With, Nowhere, need_of_command, need_of_reporter, repeated, before, last_need, is_new, reporter_of, reporter_class, one_more, many_class, command_class, near_class}
 use Rattle.nl_parse.specs.View.{need_by}
 use Rattle.nl_parse.specs.Counts.{are_values, is_let, is_value, is_with, near_by}
 
@@ -37,23 +38,41 @@ let_class (input.MaybeCommands ∷ is) h = cc h
 let_class (input.Reporter ∷ is) h = cc h
 let_class (input.Variable ∷ is) h = cc h
 
-pub other_class : (is : List Input) → is_let is ≡ false → command_class is ≡ Command (map need_of_command is)
-other_class [] h = refl
-other_class (input.Fresh ∷ []) h = refl
-other_class (input.Fresh ∷ input.Value ∷ []) h = cc h
-other_class (input.Fresh ∷ input.Value ∷ i ∷ is) h = refl
-other_class (input.Fresh ∷ input.Expression ∷ is) h = refl
-other_class (input.Fresh ∷ input.Commands ∷ is) h = refl
-other_class (input.Fresh ∷ input.MaybeCommands ∷ is) h = refl
-other_class (input.Fresh ∷ input.Reporter ∷ is) h = refl
-other_class (input.Fresh ∷ input.Variable ∷ is) h = refl
-other_class (input.Fresh ∷ input.Fresh ∷ is) h = refl
-other_class (input.Value ∷ is) h = refl
-other_class (input.Expression ∷ is) h = refl
-other_class (input.Commands ∷ is) h = refl
-other_class (input.MaybeCommands ∷ is) h = refl
-other_class (input.Reporter ∷ is) h = refl
-other_class (input.Variable ∷ is) h = refl
+-- values are no new names
+pub new_listed : (is : List Input) (n : ℕ) → list_any is_new (is ++ repeated n) ≡ list_any is_new is
+new_listed [] zero = refl
+new_listed [] (suc n) = new_listed [] n
+new_listed (i ∷ is) n = ap (λ b. is_new i || b) (new_listed is n)
+
+guarded : (is : List Input) → is_let is ≡ false → command_class is ≡ (if list_any is_new is then Nowhere else Command (map need_of_command is))
+guarded [] h = refl
+guarded (input.Fresh ∷ []) h = refl
+guarded (input.Fresh ∷ input.Value ∷ []) h = cc h
+guarded (input.Fresh ∷ input.Value ∷ i ∷ is) h = refl
+guarded (input.Fresh ∷ input.Expression ∷ is) h = refl
+guarded (input.Fresh ∷ input.Commands ∷ is) h = refl
+guarded (input.Fresh ∷ input.MaybeCommands ∷ is) h = refl
+guarded (input.Fresh ∷ input.Reporter ∷ is) h = refl
+guarded (input.Fresh ∷ input.Variable ∷ is) h = refl
+guarded (input.Fresh ∷ input.Fresh ∷ is) h = refl
+guarded (input.Value ∷ is) h = refl
+guarded (input.Expression ∷ is) h = refl
+guarded (input.Commands ∷ is) h = refl
+guarded (input.MaybeCommands ∷ is) h = refl
+guarded (input.Reporter ∷ is) h = refl
+guarded (input.Variable ∷ is) h = refl
+
+pub other_class : (is : List Input) (n : ℕ) → is_let (is ++ repeated n) ≡ false → list_any is_new is ≡ false → command_class (is ++ repeated n) ≡ Command (map need_of_command (is ++ repeated n))
+other_class is n h k = guarded (is ++ repeated n) h ∙ ap (λ b. if b then Nowhere else Command (map need_of_command (is ++ repeated n))) (new_listed is n ∙ k)
+
+pub new_command : (is : List Input) (n : ℕ) → is_let (is ++ repeated n) ≡ false → list_any is_new is ≡ true → command_class (is ++ repeated n) ≡ Nowhere
+new_command is n h k = guarded (is ++ repeated n) h ∙ ap (λ b. if b then Nowhere else Command (map need_of_command (is ++ repeated n))) (new_listed is n ∙ k)
+
+pub new_reporter : (is : List Input) (n : ℕ) → list_any is_new is ≡ true → reporter_class (is ++ repeated n) ≡ Nowhere
+new_reporter is n k = ap (λ b. if b then Nowhere else reporter_of (is ++ repeated n)) (new_listed is n ∙ k)
+
+pub other_reporter : (is : List Input) (n : ℕ) → list_any is_new is ≡ false → reporter_class (is ++ repeated n) ≡ reporter_of (is ++ repeated n)
+other_reporter is n k = ap (λ b. if b then Nowhere else reporter_of (is ++ repeated n)) (new_listed is n ∙ k)
 
 pub one_count : (is : List Input) (n : ℕ) → is ≡ repeated n → is_value is ≡ nat_eq n 1
 one_count is n q = subst (λ js. is_value js ≡ nat_eq n 1) (sym q) (at n)
@@ -131,34 +150,34 @@ repeated_last [] zero = refl
 repeated_last [] (suc n) = ap (λ js. input.Value ∷ js) (repeated_last [] n)
 repeated_last (i ∷ is) n = ap (λ js. i ∷ js) (repeated_last is n)
 
-pub item_last : (is : List Input) → reporter_class (is ++ input.Value ∷ []) ≡ Prefix (map need_of_reporter is)
+pub item_last : (is : List Input) → reporter_of (is ++ input.Value ∷ []) ≡ Prefix (map need_of_reporter is)
 item_last [] = refl
 item_last (j ∷ []) = refl
 item_last (j ∷ k ∷ is) = ap (before (need_of_reporter j)) (item_last (k ∷ is))
 
-pub commands_last : (is : List Input) → reporter_class (is ++ input.Commands ∷ []) ≡ Closing (map need_of_reporter is) CommandsBlock
+pub commands_last : (is : List Input) → reporter_of (is ++ input.Commands ∷ []) ≡ Closing (map need_of_reporter is) CommandsBlock
 commands_last [] = refl
 commands_last (j ∷ []) = refl
 commands_last (j ∷ k ∷ is) = ap (before (need_of_reporter j)) (commands_last (k ∷ is))
 
-pub reporter_last : (is : List Input) → reporter_class (is ++ input.Reporter ∷ []) ≡ Closing (map need_of_reporter is) ReporterBlock
+pub reporter_last : (is : List Input) → reporter_of (is ++ input.Reporter ∷ []) ≡ Closing (map need_of_reporter is) ReporterBlock
 reporter_last [] = refl
 reporter_last (j ∷ []) = refl
 reporter_last (j ∷ k ∷ is) = ap (before (need_of_reporter j)) (reporter_last (k ∷ is))
 
-pub other_last : (is : List Input) (i : Input) → last_need (need_of_reporter i) ≡ Nowhere → reporter_class (is ++ i ∷ []) ≡ Nowhere
+pub other_last : (is : List Input) (i : Input) → last_need (need_of_reporter i) ≡ Nowhere → reporter_of (is ++ i ∷ []) ≡ Nowhere
 other_last [] i h = h
 other_last (j ∷ []) i h = ap (before (need_of_reporter j)) h
 other_last (j ∷ k ∷ is) i h = ap (before (need_of_reporter j)) (other_last (k ∷ is) i h)
 
 -- the same of inputs that are listed, with no values behind them
-pub item_closed : (is : List Input) → Prefix (map (need_by false) (is ++ repeated 0)) ≡ reporter_class (is ++ input.Value ∷ [])
+pub item_closed : (is : List Input) → Prefix (map (need_by false) (is ++ repeated 0)) ≡ reporter_of (is ++ input.Value ∷ [])
 item_closed is = ap (λ js. Prefix (map need_of_reporter js)) (append-nil is) ∙ sym (item_last is)
 
-pub commands_closed : (is : List Input) → Closing (map (need_by false) (is ++ repeated 0)) CommandsBlock ≡ reporter_class (is ++ input.Commands ∷ [])
+pub commands_closed : (is : List Input) → Closing (map (need_by false) (is ++ repeated 0)) CommandsBlock ≡ reporter_of (is ++ input.Commands ∷ [])
 commands_closed is = ap (λ js. Closing (map need_of_reporter js) CommandsBlock) (append-nil is) ∙ sym (commands_last is)
 
-pub reporter_closed : (is : List Input) → Closing (map (need_by false) (is ++ repeated 0)) ReporterBlock ≡ reporter_class (is ++ input.Reporter ∷ [])
+pub reporter_closed : (is : List Input) → Closing (map (need_by false) (is ++ repeated 0)) ReporterBlock ≡ reporter_of (is ++ input.Reporter ∷ [])
 reporter_closed is = ap (λ js. Closing (map need_of_reporter js) ReporterBlock) (append-nil is) ∙ sym (reporter_last is)
 
 -- the last of inputs that are listed stands apart

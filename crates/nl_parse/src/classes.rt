@@ -1,8 +1,9 @@
 //! What a word's row makes of it for the reader.
 ghost use Rattle.std.specs.Prelude.{◌≡◌, [], ◌∷◌, ◌++◌, ℕ, MatchOption};
+ghost use Rattle.std.specs.List.{list_any};
 ghost use Rattle.std.specs.Option.{option_map};
 ghost use Rattle.nl_decl.specs.Words.{named};
-ghost use Rattle.nl_tree.specs.Tokens.{repeated, class_of, command_class, many_class, reporter_class, near_class, operator_class, class_by};
+ghost use Rattle.nl_tree.specs.Tokens.{repeated, class_of, command_class, is_new, many_class, reporter_class, reporter_of, near_class, operator_class, class_by};
 ghost use Rattle.nl_parse.specs.View as V;
 ghost use Rattle.nl_parse.specs.Counts.{are_values, is_let, is_value, is_with, near_by};
 
@@ -47,19 +48,36 @@ fn class_of_row(word: Word, minus: bool) -> Class
     }
 }
 
-// A command, of which only `let` has a new name as input.
-#[tactic(auto, using(crate::proofs::Rows::let_class, crate::proofs::Rows::other_class))]
+// A command. With a new name among its inputs it is `let`, or may stand nowhere.
+#[tactic(auto, using(crate::proofs::Rows::let_class, crate::proofs::Rows::new_command, crate::proofs::Rows::other_class))]
 fn command_class(listed: &'static [Input], values: u32) -> Class
     ensures { V.class_of result ≡ command_class (listed.now ++ repeated values) }
 {
     if is_let(listed, values) {
         return Class::Let;
     }
+    if asks_new_name(listed) {
+        return Class::Nowhere;
+    }
     Class::Command(Inputs {
         listed,
         values,
         whole: true,
     })
+}
+
+// Whether a new name is among the inputs.
+fn asks_new_name(listed: &'static [Input]) -> bool
+    ensures { result ≡ list_any is_new listed.now }
+{
+    let mut rest = listed;
+    'listed: while let [input, behind @ ..] = rest {
+        if let Input::Fresh = input {
+            return true;
+        }
+        rest = behind;
+    }
+    false
 }
 
 // Whether the inputs are a new name and a value.
@@ -122,10 +140,21 @@ fn are_values(listed: &'static [Input]) -> bool
     true
 }
 
-// A reporter, whose last input is told apart from those before it.
-#[tactic(auto, using(crate::proofs::Rows::repeated_last, crate::proofs::Rows::item_last))]
+// A reporter, which asks for no new name.
+#[tactic(auto, using(crate::proofs::Rows::new_reporter, crate::proofs::Rows::other_reporter))]
 fn reporter_class(listed: &'static [Input], values: u32) -> Class
     ensures { V.class_of result ≡ reporter_class (listed.now ++ repeated values) }
+{
+    if asks_new_name(listed) {
+        return Class::Nowhere;
+    }
+    reporter_of(listed, values)
+}
+
+// A reporter, whose last input is told apart from those before it.
+#[tactic(auto, using(crate::proofs::Rows::repeated_last, crate::proofs::Rows::item_last))]
+fn reporter_of(listed: &'static [Input], values: u32) -> Class
+    ensures { V.class_of result ≡ reporter_of (listed.now ++ repeated values) }
 {
     if values > 0 {
         return Class::Prefix(Inputs {
@@ -143,7 +172,7 @@ fn reporter_class(listed: &'static [Input], values: u32) -> Class
 // A reporter with these inputs and a last one.
 #[tactic(auto, using(crate::proofs::Rows::item_closed, crate::proofs::Rows::commands_closed, crate::proofs::Rows::reporter_closed, crate::proofs::Rows::other_last))]
 fn closed_class(listed: &'static [Input], last: Input) -> Class
-    ensures { V.class_of result ≡ reporter_class (listed.now ++ last ∷ []) }
+    ensures { V.class_of result ≡ reporter_of (listed.now ++ last ∷ []) }
 {
     let before = Inputs {
         listed,

@@ -1,5 +1,6 @@
 -- The tokens of a text as plain data, and what a word's row makes of it for the grammar.
 use Rattle.std.specs.Prelude.{ℕ, zero, suc, ◌+◌, ◌-◌, ◌==◌, Bool, true, false, ◌&&◌, if◌then◌else◌, nat_le, ℤ, IsTrue, List, [], ◌∷◌, ◌++◌, Option, Some, None, map, bytes_eq, codes}
+use Rattle.std.specs.List.{list_any}
 use Rattle.std.specs.Str.{IsUtf8}
 use Rattle.nl_words.specs.Table.{is_name}
 use Rattle.nl_words.specs.declared.entry.Role.{Role}
@@ -71,7 +72,12 @@ pub data Class : Type 0 where
   Binary : ℕ → Bool → Class  -- an operator of level n + 4; whether it is the minus sign
   Nowhere : Class  -- may stand nowhere in a body
 
--- an input of a command, where a value is a whole expression
+-- An input for a new name. Only `let` has one.
+abbrev pub is_new : Input → Bool
+is_new input.Fresh = true
+is_new i = false
+
+-- An input of a command, where a value is a whole expression. A new name is asked for by no row that comes to this.
 abbrev pub need_of_command : Input → Need
 need_of_command input.Value = Whole
 need_of_command input.Expression = Whole
@@ -111,10 +117,13 @@ last_need (Within b) = Closing [] b
 last_need i = Nowhere
 
 -- a reporter with inputs, the last one told apart
+abbrev pub reporter_of : List Input → Class
+reporter_of [] = Plain
+reporter_of (i ∷ []) = last_need (need_of_reporter i)
+reporter_of (i ∷ j ∷ is) = before (need_of_reporter i) (reporter_of (j ∷ is))
+
 abbrev pub reporter_class : List Input → Class
-reporter_class [] = Plain
-reporter_class (i ∷ []) = last_need (need_of_reporter i)
-reporter_class (i ∷ j ∷ is) = before (need_of_reporter i) (reporter_class (j ∷ is))
+reporter_class is = if list_any is_new is then Nowhere else reporter_of is
 
 abbrev pub one_more : Class → Class
 one_more (Many n) = Many (n + 1)
@@ -128,7 +137,7 @@ many_class is = Nowhere
 
 abbrev pub command_class : List Input → Class
 command_class (input.Fresh ∷ input.Value ∷ []) = Let
-command_class is = Command (map need_of_command is)
+command_class is = if list_any is_new is then Nowhere else Command (map need_of_command is)
 
 -- level 1: a chain on the left, and on the right a block, or closed values
 abbrev pub near_class : List Input → Class
