@@ -69,7 +69,7 @@ fn put_plain(
 {
     for at in 0..tree.len() {
         let Some(part) = tree.part(at) else {
-            return Ok(());
+            unreachable!()
         };
         put(declared, part, inner, steps)?;
     }
@@ -118,7 +118,7 @@ fn put_parts(
 {
     for at in from..tree.len() {
         let Some(part) = tree.part(at) else {
-            return Ok(());
+            unreachable!()
         };
         put_part(declared, part, word, name, tree, at, inner, steps)?;
     }

@@ -95,6 +95,7 @@ pub(crate) fn check_bodies(
     called: &[Kinds],
 ) -> Result<(), CheckRefusal>
     requires names { IsDeclared declared.now }
+    requires bodies { length bodies.now ≡ length declared.now.procedures }
     requires many { length called.now ≡ length bodies.now }
     requires left { KindsAreLeft declared.now bodies.now called.now }
     ensures right { OnOk result (BodiesAreRight declared.now bodies.now) }
@@ -115,17 +116,16 @@ fn check_body(
     at: usize,
 ) -> Result<(), CheckRefusal>
     requires names { IsDeclared declared.now }
+    requires bodies { length bodies.now ≡ length declared.now.procedures }
     requires many { length called.now ≡ length bodies.now }
     requires left { KindsAreLeft declared.now bodies.now called.now }
     requires within { at < length declared.now.procedures }
     ensures right { OnOk result ((p : Procedure) (t : Node) → slice_get declared.now.procedures at ≡ Some p → slice_get bodies.now at ≡ Some t → IsRightBody (terms declared.now) bodies.now p.reporter t) }
     ensures refused { IfErr result (λ e. IsBodyFault declared.now bodies.now at e) }
 {
-    let Some(procedure) = declared.procedures.as_slice().get(at) else {
-        return Ok(());
-    };
+    let procedure = &declared.procedures.as_slice()[at];
     let Some(body) = bodies.get(at) else {
-        return Ok(());
+        unreachable!()
     };
     let steps = steps_of(alloc, declared, body)?;
     let everyone = kinds(true, true, true, true);
@@ -160,7 +160,7 @@ fn kinds_in(alloc: Global, program: &Program) -> Result<Vec<Kinds>, NoMemory>
     let mut list = Vec::new(alloc);
     for at in 0..program.declared().procedures.as_slice().len() {
         let Some(kinds) = program.kinds(at) else {
-            return Ok(list);
+            unreachable!()
         };
         list.push(kinds)?;
     }

@@ -1,13 +1,14 @@
 //! What all bodies allow by themselves, and which procedures they call.
-ghost use Rattle.std.specs.Prelude.{◌≡◌, ◌++◌, ◌+◌, IfOk, OnOk, drop};
+ghost use Rattle.std.specs.Prelude.{◌≡◌, ◌∷◌, [], ◌++◌, IfOk, OnOk};
 ghost use Rattle.nl_tree.specs.Names.{IsDeclared};
+ghost use Rattle.nl_tree.specs.Views.{plain};
 ghost use Rattle.nl_tree.specs.Vocabulary.{terms};
-ghost use Rattle.nl_check.specs.Calls.{own_of, calls_from};
+ghost use Rattle.nl_check.specs.Calls.{own_of, calls_from, runs_in, calls_in, body_steps};
 
 use crate::body::steps_of;
 use crate::calls::{Call, put_calls, runs_in};
 use nl_fixed::NoMemory;
-use nl_tree::{Declared, Trees};
+use nl_tree::{Declared, Tree, Trees};
 use nl_words::Kinds;
 use std::alloc::Global;
 
@@ -30,28 +31,25 @@ pub(crate) fn gather_all(
 {
     let mut own = Vec::new(alloc);
     let mut calls = Vec::new(alloc);
-    for at in 0..bodies.len() {
-        put_body(alloc, declared, bodies, at, &mut own, &mut calls)?;
+    for (at, body) in bodies.as_slice().iter().enumerate() {
+        put_body(alloc, declared, body, at, &mut own, &mut calls)?;
     }
     Ok(Gathered { own, calls })
 }
 
-// Appends what the body at a place allows and calls.
+// Appends what a body allows and calls; `at` is its place.
 fn put_body(
     alloc: Global,
     declared: &Declared,
-    bodies: &Trees,
+    body: &Tree,
     at: usize,
     own: &mut Vec<Kinds>,
     calls: &mut Vec<Call>,
 ) -> Result<(), NoMemory>
     requires { IsDeclared declared.now }
-    ensures own { OnOk result (own.new.items ++ own_of (terms declared.now) (drop (at + 1) bodies.now) ≡ own.old.items ++ own_of (terms declared.now) (drop at bodies.now)) }
-    ensures calls { OnOk result (calls.new.items ++ calls_from (terms declared.now) (at + 1) (drop (at + 1) bodies.now) ≡ calls.old.items ++ calls_from (terms declared.now) at (drop at bodies.now)) }
+    ensures own { OnOk result (own.new.items ≡ own.old.items ++ runs_in (body_steps (terms declared.now) (plain body.now)) ∷ []) }
+    ensures calls { OnOk result (calls.new.items ≡ calls.old.items ++ calls_in at (body_steps (terms declared.now) (plain body.now))) }
 {
-    let Some(body) = bodies.get(at) else {
-        return Ok(());
-    };
     let steps = steps_of(alloc, declared, body)?;
     own.push(runs_in(steps.as_slice()))?;
     put_calls(steps.as_slice(), at, calls)

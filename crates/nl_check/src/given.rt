@@ -98,7 +98,7 @@ fn last_value<'a>(word: &Word, tree: &'a Tree) -> Option<&'a Tree>
     let mut found = None;
     for at in 0..tree.len() {
         let Some(part) = tree.part(at) else {
-            return found;
+            unreachable!()
         };
         found = chosen(is_value(input_at(word, at)), part, found);
     }

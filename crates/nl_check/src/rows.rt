@@ -29,7 +29,7 @@ fn base_rows(alloc: Global) -> Result<NamedWhats, NoMemory>
     let mut list = NamedWhats::empty(alloc);
     for place in 0..ROWS {
         let Some(entry) = words.row(place as u16) else {
-            return Err(NoMemory);
+            unreachable!()
         };
         let name = Str::of(alloc, entry.name.as_bytes())?;
         let what = What::Base(entry.code);
