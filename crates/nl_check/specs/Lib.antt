@@ -8,5 +8,4 @@ pub mod Laws
 pub mod Reach
 pub mod Steps
 pub mod Tables
-pub mod Words
 pub mod Samples

@@ -160,7 +160,7 @@ fn put_inner(
     requires { IsDeclared declared.now }
     ensures { OnOk result (steps.new.items ≡ steps.old.items ++ steps_of (terms declared.now) inner (inner_pieces (named [] word.now) (first_of (terms declared.now) (named [] word.now) (parts (plain tree.now))) (sub_of (terms declared.now) (plain part.now)))) }
 {
-    if is_block(part.label()) && !runs_itself(word.what) {
+    if is_block(part.label()) && !runs_itself(word) {
         let first = block_kinds(declared, word, tree);
         steps.push(Step::Open(first))?;
         put(declared, part, true, steps)?;

@@ -1,5 +1,5 @@
 //! What agents an expression may give, by the rows of its words.
-ghost use Rattle.std.specs.Prelude.{◌≡◌, ◌<◌, ℕ, List, IfSome, Some, if◌then◌else◌};
+ghost use Rattle.std.specs.Prelude.{◌≡◌, ◌<◌, ℕ, List, [], IfSome, Some, if◌then◌else◌};
 ghost use Rattle.nl_tree.specs.Term.{Term};
 ghost use Rattle.std.specs.Option.{option_copied, option_map};
 ghost use Rattle.nl_tree.specs.Names.{IsDeclared};
@@ -9,7 +9,7 @@ ghost use Rattle.nl_tree.specs.Vocabulary.{terms};
 ghost use Rattle.nl_tree.specs.Context.{given, givens, told, agents_of, block_kinds, last_value};
 ghost use Rattle.nl_words.specs.Kinds.{agents};
 ghost use Rattle.nl_tree.specs.Tokens.{inputs_of};
-ghost use Rattle.nl_check.specs.Words.{row};
+ghost use Rattle.nl_decl.specs.Words.{named};
 ghost use Rattle.nl_check.specs.Given.{given_by, is_value};
 
 use crate::kinds::kinds;
@@ -21,12 +21,12 @@ use nl_words::{Input, Kinds};
 /// The kinds of agents that run a word's block first: new turtles, new links, or what the word's input of agents may give.
 pub(crate) fn block_kinds(declared: &Declared, word: &Word, tree: &Tree) -> Kinds
     requires { IsDeclared declared.now }
-    ensures { result ≡ block_kinds (row word.now) (givens (terms declared.now) (nodes (parts (plain tree.now)))) }
+    ensures { result ≡ block_kinds (named [] word.now) (givens (terms declared.now) (nodes (parts (plain tree.now)))) }
 {
-    if makes_turtles(word.what) {
+    if makes_turtles(word) {
         return kinds(false, true, false, false);
     }
-    if makes_links(word.what) {
+    if makes_links(word) {
         return kinds(false, false, false, true);
     }
     agents_of(declared, word, tree)
@@ -36,7 +36,7 @@ pub(crate) fn block_kinds(declared: &Declared, word: &Word, tree: &Tree) -> Kind
 #[cycle(given)]
 fn agents_of(declared: &Declared, word: &Word, tree: &Tree) -> Kinds
     requires { IsDeclared declared.now }
-    ensures { result ≡ agents_of (row word.now) (givens (terms declared.now) (nodes (parts (plain tree.now)))) }
+    ensures { result ≡ agents_of (named [] word.now) (givens (terms declared.now) (nodes (parts (plain tree.now)))) }
 {
     match agents_part(word, tree) {
         Some(part) => given(declared, part),
@@ -67,7 +67,7 @@ fn given(declared: &Declared, tree: &Tree) -> Kinds
 #[cycle(given)]
 fn told(declared: &Declared, word: &Word, tree: &Tree) -> Kinds
     requires { IsDeclared declared.now }
-    ensures { result ≡ told (row word.now) (givens (terms declared.now) (nodes (parts (plain tree.now)))) }
+    ensures { result ≡ told (named [] word.now) (givens (terms declared.now) (nodes (parts (plain tree.now)))) }
 {
     let gives = word.gives;
     if gives.turtle && gives.patch && gives.link {
@@ -81,7 +81,7 @@ fn told(declared: &Declared, word: &Word, tree: &Tree) -> Kinds
 
 // The part that is the word's input of agents: the left side of an operator of level 1, else the last value.
 fn agents_part<'a>(word: &Word, tree: &'a Tree) -> Option<&'a Tree>
-    ensures value { (table : List Term) → given_by table (option_map plain (option_copied result)) ≡ agents_of (row word.now) (givens table (nodes (parts (plain tree.now)))) }
+    ensures value { (table : List Term) → given_by table (option_map plain (option_copied result)) ≡ agents_of (named [] word.now) (givens table (nodes (parts (plain tree.now)))) }
     ensures smaller { IfSome result (λ part. size (plain part.now) < size (plain tree.now)) }
 {
     if is_nearest(word.role) {
@@ -92,7 +92,7 @@ fn agents_part<'a>(word: &Word, tree: &'a Tree) -> Option<&'a Tree>
 
 // The part that is the word's last value.
 fn last_value<'a>(word: &Word, tree: &'a Tree) -> Option<&'a Tree>
-    ensures value { (table : List Term) → given_by table (option_map plain (option_copied result)) ≡ last_value agents (inputs_of (row word.now)) (givens table (nodes (parts (plain tree.now)))) }
+    ensures value { (table : List Term) → given_by table (option_map plain (option_copied result)) ≡ last_value agents (inputs_of (named [] word.now)) (givens table (nodes (parts (plain tree.now)))) }
     ensures smaller { IfSome result (λ part. size (plain part.now) < size (plain tree.now)) }
 {
     let mut found = None;

@@ -1,12 +1,12 @@
 //! What a word is, by its built-in word and its row.
-ghost use Rattle.std.specs.Prelude.{◌≡◌, ◌<◌, Bool, map, length, None, bytes_eq, codes, slice_get};
+ghost use Rattle.std.specs.Prelude.{◌≡◌, ◌<◌, [], Bool, map, length, None, bytes_eq, codes, slice_get};
 ghost use Rattle.std.specs.List.{list_any};
 ghost use Rattle.std.specs.Option.{option_copied, option_map};
-ghost use Rattle.nl_tree.specs.Context.{name_of_row, base_name, is_operator, is_nearest, is_fixed, is_variable};
+ghost use Rattle.nl_tree.specs.Context.{name_of_row, base_name, runs_itself, makes_turtles, makes_links, is_operator, is_nearest, is_fixed, is_variable};
 ghost use Rattle.nl_words.specs.Row.{row_at};
 ghost use Rattle.nl_words.specs.Rows.{rows};
 ghost use Rattle.nl_tree.specs.Tokens.{inputs_of};
-ghost use Rattle.nl_check.specs.Words.{is_self_run, is_birth, is_linking, row};
+ghost use Rattle.nl_decl.specs.Words.{named};
 
 use nl_tree::{What, Word};
 use nl_words::{Input, Role, base_words};
@@ -39,21 +39,21 @@ fn is_among(name: &str, names: &[&str]) -> bool
 }
 
 /// Whether the same agent runs the word's blocks.
-pub(crate) fn runs_itself(what: What) -> bool
-    ensures { result ≡ is_self_run (base_name what) }
+pub(crate) fn runs_itself(word: &Word) -> bool
+    ensures { result ≡ runs_itself (named [] word.now) }
 {
     is_among(
-        base_name(what),
+        base_name(word.what),
         &["if", "ifelse", "ifelse-value", "loop", "repeat", "while"],
     )
 }
 
 /// Whether new turtles run the word's block.
-pub(crate) fn makes_turtles(what: What) -> bool
-    ensures { result ≡ is_birth (base_name what) }
+pub(crate) fn makes_turtles(word: &Word) -> bool
+    ensures { result ≡ makes_turtles (named [] word.now) }
 {
     is_among(
-        base_name(what),
+        base_name(word.what),
         &[
             "create-turtles",
             "crt",
@@ -66,11 +66,11 @@ pub(crate) fn makes_turtles(what: What) -> bool
 }
 
 /// Whether new links run the word's block.
-pub(crate) fn makes_links(what: What) -> bool
-    ensures { result ≡ is_linking (base_name what) }
+pub(crate) fn makes_links(word: &Word) -> bool
+    ensures { result ≡ makes_links (named [] word.now) }
 {
     is_among(
-        base_name(what),
+        base_name(word.what),
         &[
             "create-link-with",
             "create-links-with",
@@ -121,7 +121,7 @@ fn is_any(name: &[u8], names: &[&[u8]]) -> bool
 
 /// What the word reads at a place: an input of its row or, after these, one of its further values; nothing past them.
 pub(crate) fn input_at(word: &Word, at: usize) -> Option<Input>
-    ensures { result ≡ slice_get (inputs_of (row word.now)) at }
+    ensures { result ≡ slice_get (inputs_of (named [] word.now)) at }
 {
     if at < word.inputs.len() {
         return Some(word.inputs[at]);

@@ -7,7 +7,7 @@ use Rattle.nl_tree.specs.Views.{plain}
 use Rattle.nl_tree.specs.Vocabulary.{terms, term_named}
 use Rattle.nl_tree.specs.Context.{given, givens, given_as, first_kinds, told, told_by}
 use Rattle.nl_tree.proofs.Parts.{listed_nodes}
-use Rattle.nl_check.specs.Words.{row}
+use Rattle.nl_decl.specs.Words.{named}
 use Rattle.nl_check.proofs.given.+given.Goals as goal
 
 first_there : (table : List Term) (parts : List Node) (t : Node) → Some t ≡ slice_get (listed (nodes parts)) 0 → given table t ≡ first_kinds (givens table (nodes parts))
@@ -24,7 +24,7 @@ given-returns-in-Some t c =
     let tree = c.args.tree.now in
     let ks = givens table (nodes tree.parts) in
     let at = sym c.label.ensures ∙ c.in-Named.is in
-    c.told.ensures ∙ ap (λ ts. told (row c.in-Some.word) (givens table (nodes ts))) (listed_nodes tree.parts) ∙ ap (λ o. told_by o ks) c.in-Some.ensures ∙ ap (λ w. told_by (term_named table w) ks) c.as_bytes.ensures ∙ sym (ap (λ l. given_as table l ks) at)
+    c.told.ensures ∙ ap (λ ts. told (named [] c.in-Some.word) (givens table (nodes ts))) (listed_nodes tree.parts) ∙ ap (λ o. told_by o ks) c.in-Some.ensures ∙ ap (λ w. told_by (term_named table w) ks) c.as_bytes.ensures ∙ sym (ap (λ l. given_as table l ks) at)
 
 pub given-returns-in-Some-part : goal.given-returns-in-Some-part
 given-returns-in-Some-part t c =
