@@ -10,7 +10,11 @@ use std::rt::Env;
 #[cfg(test)]
 mod test_calls;
 #[cfg(test)]
+mod test_texts;
+#[cfg(test)]
 mod tests;
+#[cfg(test)]
+mod tests_bodies;
 #[cfg(test)]
 mod tests_context;
 #[cfg(test)]
