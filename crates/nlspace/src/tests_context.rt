@@ -1,6 +1,6 @@
 //! Who may run the words of blocks.
 
-use crate::test_calls::{Bodies, assert_marked, is_any_among};
+use crate::test_calls::{Bodies, FAULTLESS, assert_marked, is_any_among};
 use std::alloc::Global;
 use std::process::Abort;
 use std::test::Fail;
@@ -62,7 +62,7 @@ fn assert_words(
 ) -> Result<(), Fail> {
     for (word, runners) in words {
         let kind = if is_any_among(*runners, kinds) {
-            "NotBuilt"
+            FAULTLESS
         } else {
             "WrongContext"
         };
@@ -359,7 +359,7 @@ fn members_run_the_blocks_of_reporters(rt: HostRuntime) -> Result<(), Fail> {
 
 // An operator of agents binds tighter than a call, so its agents are those that stand next to it.
 const LEFT_SIDES: &[(&str, &str)] = &[
-    ("to ~go show turtle 0 with [ thickness ] end", "NotBuilt"),
+    ("to ~go show turtle 0 with [ thickness ] end", FAULTLESS),
     (
         "to go show (turtle 0) with [ ~thickness ] end",
         "WrongContext",
@@ -370,7 +370,7 @@ const LEFT_SIDES: &[(&str, &str)] = &[
     ),
     (
         "to ~go show turtles-on patches with [ pcolor ] end",
-        "NotBuilt",
+        FAULTLESS,
     ),
     (
         "to go show turtles-on patches with [ ~xcor ] end",
@@ -378,12 +378,12 @@ const LEFT_SIDES: &[(&str, &str)] = &[
     ),
     (
         "to ~go show (turtles-on patches) with [ xcor ] end",
-        "NotBuilt",
+        FAULTLESS,
     ),
-    ("to ~go show [ xcor ] of turtles-on patches end", "NotBuilt"),
+    ("to ~go show [ xcor ] of turtles-on patches end", FAULTLESS),
     (
         "to ~go show [ xcor ] of turtles-on patches with [ pcolor ] end",
-        "NotBuilt",
+        FAULTLESS,
     ),
     (
         "to go show [ ~xcor ] of patches with [ true ] end",
@@ -391,7 +391,7 @@ const LEFT_SIDES: &[(&str, &str)] = &[
     ),
     (
         "to ~go show [ [ xcor ] of turtles-here ] of patches end",
-        "NotBuilt",
+        FAULTLESS,
     ),
     (
         "to go show [ [ ~xcor ] of neighbors ] of turtles end",

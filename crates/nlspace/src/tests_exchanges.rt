@@ -1,12 +1,13 @@
 //! A whole model with one of its words exchanged.
 
-use crate::test_calls::assert_fault;
+use crate::test_calls::{FAULTLESS, assert_fault, assert_faultless};
 use crate::tests_fire::{FIRE, whole};
 use std::alloc::Global;
 use std::process::Abort;
 use std::test::Fail;
 
-// Each row is a part of the model that stands in it once, what stands there instead, and the fault of the model that this makes.
+// Each row is a part of the model that stands in it once, what stands there instead, and the fault of the model that this makes, or that it
+// makes none.
 
 // Names and words of declarations.
 const DECLARATIONS: &[(&str, &str, &str)] = &[
@@ -76,7 +77,7 @@ const DECLARATIONS: &[(&str, &str, &str)] = &[
         "38:15: WrongContext",
     ),
     ("to setup", "go setup", "5:1: BadDeclaration"),
-    ("to setup", "to-report setup", "1:1: NotBuilt"),
+    ("to setup", "to-report setup", FAULTLESS),
     ("to setup", "to ignite", "27:4: Duplicate"),
     ("to setup", "to fires", "5:4: Duplicate"),
     ("to setup", "to setup [fade-embers]", "34:4: Duplicate"),
@@ -102,6 +103,11 @@ const DECLARATIONS: &[(&str, &str, &str)] = &[
         "          die ] ]\nend",
         "          die ] ]",
         "40:1: BadDeclaration",
+    ),
+    (
+        "          die ] ]\nend",
+        "          die ] ]\nends",
+        "41:1: BadDeclaration",
     ),
 ];
 
@@ -211,6 +217,12 @@ const SETUP: &[(&str, &str, &str)] = &[
         "11:7: WrongContext",
     ),
     (
+        "ask patches with [p",
+        "show patches with [p",
+        "11:5: Unexpected",
+    ),
+    ("patches with [px", "patches of [px", "10:15: Unexpected"),
+    (
         "pxcor = min-pxcor",
         "xcor = min-pxcor",
         "10:21: WrongContext",
@@ -283,6 +295,11 @@ const SETUP: &[(&str, &str, &str)] = &[
         "pcolor = green]\n  reset",
         "tick = green]\n  reset",
         "12:41: Unexpected",
+    ),
+    (
+        "pcolor = green]\n  reset",
+        "pcolor is green]\n  reset",
+        "12:48: UnknownName",
     ),
     (
         "pcolor = green]\n  reset",
@@ -439,11 +456,16 @@ const IGNITE: &[(&str, &str, &str)] = &[
     ("set pcolor black", "sat pcolor black", "30:3: UnknownName"),
     ("set pcolor black", "set color black", "11:7: WrongContext"),
     ("set pcolor black", "set pxcor black", "30:7: NotSettable"),
-    ("set pcolor black", "set plabel black", "1:1: NotBuilt"),
+    ("set pcolor black", "set plabel black", FAULTLESS),
     ("set pcolor black", "set black black", "30:7: Unexpected"),
     ("set pcolor black", "set pcolor blck", "30:14: UnknownName"),
     ("set pcolor black", "set pcolor pd", "30:14: Unexpected"),
     ("set pcolor black", "set pcolor dx", "11:7: WrongContext"),
+    (
+        "set burned-trees burned",
+        "put burned-trees burned",
+        "31:3: UnknownName",
+    ),
     (
         "set burned-trees burned",
         "set burned burned",
@@ -568,7 +590,11 @@ fn assert_exchanges(
     let model = whole(alloc, FIRE)?;
     for (old, new, fault) in rows {
         let text = exchanged(rt, alloc, model.as_str(), *old, *new)?;
-        assert_fault(rt, alloc, text.as_str(), *fault)?;
+        if *fault == FAULTLESS {
+            assert_faultless(rt, alloc, text.as_str(), "1:1")?;
+        } else {
+            assert_fault(rt, alloc, text.as_str(), *fault)?;
+        }
     }
     Ok(())
 }

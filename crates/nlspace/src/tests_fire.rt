@@ -1,6 +1,6 @@
 //! A whole model, cut short at each of its words, and with each of them exchanged.
 
-use crate::test_calls::{assert_at_mark, assert_fault};
+use crate::test_calls::{assert_at_mark, assert_fault, assert_faultless};
 use std::alloc::Global;
 use std::process::Abort;
 use std::test::Fail;
@@ -140,7 +140,7 @@ fn assert_cut(
 ) -> Result<(), Fail> {
     if good {
         let text = cut_model(alloc, model, cut, " ")?;
-        assert_fault(rt, alloc, text.as_str(), "1:1: NotBuilt")
+        assert_faultless(rt, alloc, text.as_str(), "1:1")
     } else {
         let text = cut_model(alloc, model, cut, " ~")?;
         assert_at_mark(rt, alloc, text.as_str(), "Unexpected")
@@ -162,7 +162,7 @@ fn assert_cuts(rt: &impl Abort, alloc: Global, model: &[(&str, &str)]) -> Result
 fn the_fire_model_has_no_fault(rt: HostRuntime) -> Result<(), Fail> {
     let alloc = rt.alloc();
     let fire = whole(alloc, FIRE)?;
-    assert_fault(&rt, alloc, fire.as_str(), "1:1: NotBuilt")?;
+    assert_faultless(&rt, alloc, fire.as_str(), "1:1")?;
     // Without the slider nothing declares it.
     let bare = fire.as_str().replace(alloc, " density ]", " ]")?;
     assert_fault(&rt, alloc, bare.as_str(), "8:42: UnknownName")

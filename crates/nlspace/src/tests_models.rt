@@ -1,6 +1,6 @@
 //! The first faults of models: their order, names, and chains of calls.
 
-use crate::test_calls::{assert_fault, assert_faults, assert_marked};
+use crate::test_calls::{FAULTLESS, assert_fault, assert_faultless, assert_faults, assert_marked};
 use std::alloc::Global;
 use std::process::Abort;
 use std::test::Fail;
@@ -21,30 +21,43 @@ fn faults_of_models_stand_at_their_word(rt: HostRuntime) -> Result<(), Fail> {
                 "1:20: WrongContext",
             ),
             ("to setup\n", "2:1: BadDeclaration"),
+            ("to go cro 1", "1:12: BadDeclaration"),
+            (
+                "to a show turtles in-cone random 3 60 end",
+                "1:27: Unexpected",
+            ),
             ("globals [ a a ]", "1:13: Duplicate"),
         ],
     )
 }
 
 // `show` of a number in so many parentheses. The body, the command and the number are three levels more.
-fn assert_nested(rt: &impl Abort, alloc: Global, times: usize, fault: &str) -> Result<(), Fail> {
-    let mut model = String::from_str(alloc, "to a show ")?;
-    for _ in 0..times {
-        model.push_str("(")?;
-    }
-    model.push_str("1")?;
-    for _ in 0..times {
-        model.push_str(")")?;
-    }
-    model.push_str(" end")?;
-    assert_fault(rt, alloc, model.as_str(), fault)
+fn nested(alloc: Global, times: usize) -> Result<String, Fail> {
+    let open = "(".repeat(alloc, times)?;
+    let close = ")".repeat(alloc, times)?;
+    Ok(format!(in alloc; "to a show {open}1{close} end")?)
 }
 
 // The 198th parenthesis makes the least tree that can come of it one of 201 levels.
 #[test]
 fn bodies_have_two_hundred_levels_at_most(rt: HostRuntime) -> Result<(), Fail> {
-    assert_nested(&rt, rt.alloc(), 197, "1:4: NotBuilt")?;
-    assert_nested(&rt, rt.alloc(), 198, "1:208: TooDeep")
+    let alloc = rt.alloc();
+    let good = nested(alloc, 197)?;
+    assert_faultless(&rt, alloc, good.as_str(), "1:4")?;
+    let deep = nested(alloc, 198)?;
+    assert_fault(&rt, alloc, deep.as_str(), "1:208: TooDeep")
+}
+
+// The first right side of `in-cone` is closed, and a call with inputs stands at the last one alone.
+const CONES: &[(&str, &str)] = &[
+    ("to a show turtles in-cone ~random 3 60 end", "Unexpected"),
+    ("to ~a show turtles in-cone 3 random 60 end", FAULTLESS),
+    ("to ~a show turtles in-cone (random 3) 60 end", FAULTLESS),
+];
+
+#[test]
+fn a_call_is_the_last_right_side_of_a_cone(rt: HostRuntime) -> Result<(), Fail> {
+    assert_marked(&rt, rt.alloc(), CONES)
 }
 
 // Tokens before declarations before bodies before who may run them.
@@ -105,35 +118,35 @@ fn faults_of_one_stage_are_told_by_the_text(rt: HostRuntime) -> Result<(), Fail>
 
 // What a name may be where it stands.
 const NAMES: &[(&str, &str)] = &[
-    ("to ~a b end to b show c end globals [ c ]", "NotBuilt"),
+    ("to ~a b end to b show c end globals [ c ]", FAULTLESS),
     ("to a show ~b end", "UnknownName"),
     ("to a set ~b 1 end", "UnknownName"),
-    ("to ~a let b 1 set b b + 1 end", "NotBuilt"),
+    ("to ~a let b 1 set b b + 1 end", FAULTLESS),
     ("to a if true [ let b 1 ] show ~b end", "UnknownName"),
     ("to a let b ~b end", "UnknownName"),
     ("to a let b 1 let ~b 2 end", "Unexpected"),
     ("to a let ~b 1 end globals [ b ]", "Unexpected"),
-    ("to ~a [ b ] show b end", "NotBuilt"),
+    ("to ~a [ b ] show b end", FAULTLESS),
     ("to a [ b ] end to c show ~b end", "UnknownName"),
     ("to a [ b ] let ~b 1 end", "Unexpected"),
     ("to a show ~fd 1 end", "Unexpected"),
     ("to a ~xcor end", "Unexpected"),
     ("to a show ~a end", "Unexpected"),
     ("to-report a ~a end", "Unexpected"),
-    ("to ~a FD Xcor end", "NotBuilt"),
+    ("to ~a FD Xcor end", FAULTLESS),
     ("to a show ~to end", "Unexpected"),
     ("to a show ~turtles-own end", "Unexpected"),
     ("to a show ~foxes-own end breed [ foxes fox ]", "Unexpected"),
     ("to a show ~foxes end", "UnknownName"),
     (
         "to ~a create-foxes 1 show fox 0 end breed [ foxes fox ]",
-        "NotBuilt",
+        FAULTLESS,
     ),
     ("to a ~create-fox 1 end breed [ foxes fox ]", "UnknownName"),
     ("to a show ~my-foxes end breed [ foxes fox ]", "UnknownName"),
     (
         "to ~a ask turtles [ create-tie-with turtle 0 ] end undirected-link-breed [ ties tie ]",
-        "NotBuilt",
+        FAULTLESS,
     ),
     (
         "to a ask turtles [ ~create-tie-to turtle 0 ] end undirected-link-breed [ ties tie ]",
@@ -141,7 +154,7 @@ const NAMES: &[(&str, &str)] = &[
     ),
     (
         "to ~a ask turtles [ create-tie-to turtle 0 ] end directed-link-breed [ ties tie ]",
-        "NotBuilt",
+        FAULTLESS,
     ),
     (
         "to a ask turtles [ ~create-tie-with turtle 0 ] end directed-link-breed [ ties tie ]",
@@ -156,15 +169,15 @@ fn names_are_known_where_they_are_declared(rt: HostRuntime) -> Result<(), Fail> 
 
 // A procedure that calls itself, by itself or by others, may be run by those that may run all of its words.
 const RINGS: &[(&str, &str)] = &[
-    ("to ~go go end", "NotBuilt"),
-    ("to ~go a end to a go end", "NotBuilt"),
-    ("to ~go a end to a b end to b a end", "NotBuilt"),
-    ("to ~go [ n ] if n > 0 [ go n - 1 ] end", "NotBuilt"),
-    ("to ~go tick go end", "NotBuilt"),
-    ("to ~go go tick end", "NotBuilt"),
-    ("to ~go ask turtles [ go ] end", "NotBuilt"),
-    ("to ~go ask turtles [ a ] end to a fd 1 a end", "NotBuilt"),
-    ("to ~go show a end to-report a report a + 1 end", "NotBuilt"),
+    ("to ~go go end", FAULTLESS),
+    ("to ~go a end to a go end", FAULTLESS),
+    ("to ~go a end to a b end to b a end", FAULTLESS),
+    ("to ~go [ n ] if n > 0 [ go n - 1 ] end", FAULTLESS),
+    ("to ~go tick go end", FAULTLESS),
+    ("to ~go go tick end", FAULTLESS),
+    ("to ~go ask turtles [ go ] end", FAULTLESS),
+    ("to ~go ask turtles [ a ] end to a fd 1 a end", FAULTLESS),
+    ("to ~go show a end to-report a report a + 1 end", FAULTLESS),
     ("to go tick ask turtles [ ~go ] end", "WrongContext"),
     ("to go crt 1 [ ~go ] end", "WrongContext"),
     ("to go tick ~go fd 1 end", "WrongContext"),
@@ -178,7 +191,7 @@ const RINGS: &[(&str, &str)] = &[
     ),
     (
         "to ~go ask turtles [ a ] end to a b fd 1 end to b a end",
-        "NotBuilt",
+        FAULTLESS,
     ),
     (
         "to go fd 1 ~a end to a b end to b tick a end",
@@ -197,16 +210,16 @@ fn rings_of_calls_bar_by_all_of_their_words(rt: HostRuntime) -> Result<(), Fail>
 
 // `a` calls `b`, and that `c`, whose word only turtles may run.
 const CHAINS: &[(&str, &str)] = &[
-    ("to ~go a end @", "NotBuilt"),
+    ("to ~go a end @", FAULTLESS),
     ("to go tick ~a end @", "WrongContext"),
     ("to go a ~tick end @", "WrongContext"),
-    ("to ~go a ask patches [ sprout 1 ] end @", "NotBuilt"),
-    ("to ~go ask turtles [ a ] tick end @", "NotBuilt"),
+    ("to ~go a ask patches [ sprout 1 ] end @", FAULTLESS),
+    ("to ~go ask turtles [ a ] tick end @", FAULTLESS),
     ("to go ask patches [ ~a ] end @", "WrongContext"),
     ("to go ask links [ ~a ] end @", "WrongContext"),
-    ("to ~go ask self [ a ] end @", "NotBuilt"),
+    ("to ~go ask self [ a ] end @", FAULTLESS),
     ("to go ask self [ a ~sprout 1 ] end @", "WrongContext"),
-    ("to ~go crt 1 [ a ] end @", "NotBuilt"),
+    ("to ~go crt 1 [ a ] end @", FAULTLESS),
     (
         "to go ask turtles [ create-links-with other turtles [ ~a ] ] end @",
         "WrongContext",
@@ -253,18 +266,18 @@ const ENDS: &[(&str, &str)] = &[
     // Words in blocks that other agents run bar nobody who calls.
     (
         "to ~go tick a end to a ask turtles [ b ] end to b fd 1 end",
-        "NotBuilt",
+        FAULTLESS,
     ),
     (
         "to ~go ask patches [ a ] end to a show [ b ] of turtles end to-report b report xcor end",
-        "NotBuilt",
+        FAULTLESS,
     ),
     (
         "to go ask patches [ ~a ] end to a hatch 1 [ b ] end to b fd 1 end",
         "WrongContext",
     ),
     // The variable of `diffuse` and its kin is no word of its text, and that of `set` is one.
-    ("to ~go tick a end to a diffuse pcolor 1 end", "NotBuilt"),
+    ("to ~go tick a end to a diffuse pcolor 1 end", FAULTLESS),
     ("to go tick ~a end to a set pcolor 1 end", "WrongContext"),
     // A call is judged before its inputs, and an operator behind its left side.
     ("to go tick ~a xcor end to a [ n ] fd n end", "WrongContext"),
@@ -281,7 +294,7 @@ const ENDS: &[(&str, &str)] = &[
         "to go sprout 1 show turtles-here ~in-cone 1 2 end",
         "WrongContext",
     ),
-    ("to ~go tick show turtles at-points [ ] end", "NotBuilt"),
+    ("to ~go tick show turtles at-points [ ] end", FAULTLESS),
     (
         "to go ask links [ show turtles ~at-points [ ] ] end",
         "WrongContext",
@@ -289,7 +302,7 @@ const ENDS: &[(&str, &str)] = &[
     // A reporter that is called in a block is run by its agents.
     (
         "to ~go tick show [ a ] of turtles end to-report a report xcor end",
-        "NotBuilt",
+        FAULTLESS,
     ),
     (
         "to go show [ ~a ] of patches end to-report a report xcor end",

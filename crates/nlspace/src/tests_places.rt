@@ -1,6 +1,6 @@
 //! Where `report` and `stop` may stand, and which variables may be set.
 
-use crate::test_calls::{Bodies, assert_marked, is_any_among};
+use crate::test_calls::{Bodies, FAULTLESS, assert_marked, is_any_among};
 use std::alloc::Global;
 use std::process::Abort;
 use std::test::Fail;
@@ -80,7 +80,7 @@ fn assert_leaving(
 }
 
 fn leaving_fault(fits: bool) -> &'static str {
-    if fits { "NotBuilt" } else { "NoReport" }
+    if fits { FAULTLESS } else { "NoReport" }
 }
 
 #[test]
@@ -104,13 +104,13 @@ fn a_block_of_other_agents_is_left_by_stop(rt: HostRuntime) -> Result<(), Fail> 
 
 const BESIDE: &[(&str, &str)] = &[
     // Nothing asks a reporter for a report.
-    ("~to-report r end", "NotBuilt"),
-    ("~to-report r report 1 end to a show r end", "NotBuilt"),
-    ("~to-report r report 1 report 2 end", "NotBuilt"),
+    ("~to-report r end", FAULTLESS),
+    ("~to-report r report 1 end to a show r end", FAULTLESS),
+    ("~to-report r report 1 report 2 end", FAULTLESS),
     // What calls a procedure tells nothing of its words.
     (
         "~to-report r ask turtles [ a ] report 1 end to a stop end",
-        "NotBuilt",
+        FAULTLESS,
     ),
     ("to a show r end to-report r ~stop end", "NoReport"),
     // The word comes before its inputs.
@@ -200,7 +200,7 @@ fn setting_fault(runners: &str, kinds: &str, fixed: bool) -> &'static str {
     } else if fixed {
         "NotSettable"
     } else {
-        "NotBuilt"
+        FAULTLESS
     }
 }
 
@@ -257,7 +257,7 @@ fn assert_spreads(
     for text in texts {
         for (variable, runners, fixed) in variables {
             let spreads = is_any_among(*runners, "p") && !is_any_among(*runners, "o") && !*fixed;
-            let kind = if spreads { "NotBuilt" } else { "NotSettable" };
+            let kind = if spreads { FAULTLESS } else { "NotSettable" };
             bodies.assert_word(rt, ("to", *text), *variable, kind, declared)?;
         }
     }
@@ -277,15 +277,15 @@ const SPREADS: &[(&str, &str)] = &[
     ("to a ask links [ ~downhill4 pcolor ] end", "WrongContext"),
     ("to a fd 1 ~diffuse4 pcolor 1 end", "WrongContext"),
     // The variable bars nobody, and the number behind it does.
-    ("to ~a diffuse pcolor 1 tick end", "NotBuilt"),
+    ("to ~a diffuse pcolor 1 tick end", FAULTLESS),
     ("to a diffuse pcolor ~xcor end", "WrongContext"),
     ("to a diffuse ~xcor xcor end", "NotSettable"),
     // A local and an input are no variables of patches, and can be set.
     ("to a let x 1 diffuse ~x 1 end", "NotSettable"),
     ("to a [ x ] ask turtles [ uphill ~x ] end", "NotSettable"),
-    ("to ~a let x 1 set x 2 end", "NotBuilt"),
-    ("to ~a [ x ] set x 2 tick end", "NotBuilt"),
-    ("to ~a let x 1 ask patches [ set x 2 ] end", "NotBuilt"),
+    ("to ~a let x 1 set x 2 end", FAULTLESS),
+    ("to ~a [ x ] set x 2 tick end", FAULTLESS),
+    ("to ~a let x 1 ask patches [ set x 2 ] end", FAULTLESS),
     // What is no variable at all can't be read there.
     ("to a diffuse ~1 1 end", "Unexpected"),
     ("to a diffuse ~turtles 1 end", "Unexpected"),
