@@ -22,6 +22,8 @@ mod tests_exchanges;
 #[cfg(test)]
 mod tests_fire;
 #[cfg(test)]
+mod tests_lone;
+#[cfg(test)]
 mod tests_models;
 #[cfg(test)]
 mod tests_places;
