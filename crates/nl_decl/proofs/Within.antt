@@ -4,11 +4,10 @@ use Rattle.std.specs.Prelude.{nat_lt}
 use Rattle.std.specs.Str.{is_utf8}
 use Rattle.std.proofs.lemmas.List.{length-append}
 use Rattle.std.proofs.lemmas.Bool.{ltb-false}
-use Rattle.nl_scan.specs.declared.TheConstants.{TEXT_LIMIT}
 use Rattle.nl_scan.specs.declared.token.Token.{Token}
 use Rattle.nl_scan.specs.declared.token.Lexeme.TheVariants as scanned
 use Rattle.nl_scan.specs.declared.token.Lexeme.{Lexeme as Scanned}
-use Rattle.nl_scan.specs.Tokens.{ScanFault, cut_from, tokens_of, least_length, AreInOrder}
+use Rattle.nl_scan.specs.Tokens.{ScanFault, text_limit, cut_from, tokens_of, least_length, AreInOrder}
 use Rattle.nl_scan.proofs.Order.{tokens_of-in_order}
 use Rattle.nl_tree.specs.Tokens.{Lexeme, IsLexeme, IsToken}
 use Rattle.nl_decl.specs.declared.declaration.Declaration.{Declaration}
@@ -42,19 +41,19 @@ as_many from end (t ∷ ts) (before, least, rest) =
     let one = least_one t.lexeme in omega (arith, before, least, more, one)
 
 record IsShort (text : List ℕ) : Type 0 where
-  short : length text ≤ 4194304
+  short : length text ≤ text_limit
 
-short_of : (a b : Bool) (text : List ℕ) (ts : List Token) (long not_text : ScanFault) → nat_lt TEXT_LIMIT (length text) ≡ a
+short_of : (a b : Bool) (text : List ℕ) (ts : List Token) (long not_text : ScanFault) → nat_lt text_limit (length text) ≡ a
     → cond a (Err long) (cond b (cut_from (length text) 0 text) (Err not_text)) ≡ Ok ts → IsShort text
 short_of true b text ts long not_text h e = cc
-short_of false b text ts long not_text h e = record { short = ltb-false TEXT_LIMIT (length text) h }
+short_of false b text ts long not_text h e = record { short = ltb-false text_limit (length text) h }
 
 is_short : (text : List ℕ) (ts : List Token) → tokens_of text ≡ Ok ts → IsShort text
 unfolding tokens_of
-is_short text ts e = short_of (nat_lt TEXT_LIMIT (length text)) (is_utf8 text) text ts _ _ refl e
+is_short text ts e = short_of (nat_lt text_limit (length text)) (is_utf8 text) text ts _ _ refl e
 
 -- a text has no more tokens than it may have bytes
-pub few_tokens : (text : List ℕ) (ts : List Token) → tokens_of text ≡ Ok ts → length (lexemes_of text ts) ≤ 4194304
+pub few_tokens : (text : List ℕ) (ts : List Token) → tokens_of text ≡ Ok ts → length (lexemes_of text ts) ≤ text_limit
 few_tokens text ts e =
     let order = as_many 0 (length text) ts (tokens_of-in_order text ts e) in
     let short = (is_short text ts e).short in

@@ -4,14 +4,13 @@ use Rattle.std.specs.Str.{IsUtf8, is_utf8}
 use Rattle.std.proofs.lemmas.Bool.{cases_Bool, cases_lt}
 use Rattle.std.proofs.lemmas.List.{drop-drop, length-take, take-append-drop}
 use Rattle.std.proofs.lemmas.Str.{IsUtf8-from_is_utf8, is_utf8-from_IsUtf8}
-use Rattle.nl_scan.specs.declared.TheConstants.{TEXT_LIMIT}
 use Rattle.nl_scan.specs.declared.token.Lexeme.{Lexeme}
 use Rattle.nl_scan.specs.declared.token.Token.{Token}
 use Rattle.nl_scan.specs.declared.token.ScanKind.{ScanKind}
 use Rattle.nl_scan.specs.declared.pieces.Form.{Form}
 use Rattle.nl_scan.specs.declared.pieces.Piece.{Piece}
 use Rattle.nl_scan.specs.Forms.{Flaw, has_form, meaning_of}
-use Rattle.nl_scan.specs.Tokens.{ScanFault, cut_from, tokens_of, after_piece, token_first, piece_at}
+use Rattle.nl_scan.specs.Tokens.{ScanFault, text_limit, cut_from, tokens_of, after_piece, token_first, piece_at}
 use Rattle.nl_scan.specs.Cuts.{Stretch, IsFirst, IsSound, IsCutTo, IsCut, joined, token_before, tokens_in, kind_of_first, IsFlaw, IsCutToFault, IsTokens, IsFault, TextsAreCutOnce, StretchesJoin, FaultsAreUnique, FaultOrTokens, TokensAreComputed, FaultsAreComputed, AreMeant, TokensAreMeant}
 use Rattle.nl_scan.proofs.Runs.{form_at-begins}
 use Rattle.nl_scan.proofs.Firsts.{piece_of, IsBegun, IsStopped, first_of, has_form-nil, has_form-parts}
@@ -169,13 +168,13 @@ abbrev IsOutcome : List ℕ → Result (List Token) ScanFault → Type 0
 IsOutcome text (Ok tokens) = IsTokens text tokens
 IsOutcome text (Err fault) = IsFault text fault
 
-outcome_of_cut : (text : List ℕ) (r : Result (List Token) ScanFault) → length text ≤ TEXT_LIMIT → IsUtf8 text → Says 0 text r → IsOutcome text r
+outcome_of_cut : (text : List ℕ) (r : Result (List Token) ScanFault) → length text ≤ text_limit → IsUtf8 text → Says 0 text r → IsOutcome text r
 outcome_of_cut text (Ok tokens) short is says = (short, is, says)
 outcome_of_cut text (Err fault) short is (stretches, behind, flaw, cut, flawed, e) =
     let place : 0 + (length (joined stretches) + flaw.before) ≡ length (joined stretches) + flaw.before = omega arith in
     inr (inr (short, is, (stretches, behind, flaw, cut, flawed, e ∙ ap (placed flaw.kind) place)))
 
-outcome_of_text : (text : List ℕ) → length text ≤ TEXT_LIMIT → (is_utf8 text ≡ true) ⊎ (is_utf8 text ≡ false) → IsOutcome text (tokens_of text)
+outcome_of_text : (text : List ℕ) → length text ≤ text_limit → (is_utf8 text ≡ true) ⊎ (is_utf8 text ≡ false) → IsOutcome text (tokens_of text)
 outcome_of_text text short (inl e) =
     let is = IsUtf8-from_is_utf8 text e in
     subst (IsOutcome text) (sym (tokens_of-text text short is)) (outcome_of_cut text (cut_from (length text) 0 text) short is (cut_from-says (length text) 0 text (omega arith)))
@@ -183,12 +182,12 @@ outcome_of_text text short (inr e) =
     let none : IsUtf8 text → ⊥ = λ is. (let also = is_utf8-from_IsUtf8 text is in cc) in
     subst (IsOutcome text) (sym (tokens_of-no_text text short none)) (inr (inl (short, none, refl)))
 
-outcome_by : (text : List ℕ) → (TEXT_LIMIT < length text) ⊎ (length text ≤ TEXT_LIMIT) → IsOutcome text (tokens_of text)
+outcome_by : (text : List ℕ) → (text_limit < length text) ⊎ (length text ≤ text_limit) → IsOutcome text (tokens_of text)
 outcome_by text (inl long) = subst (IsOutcome text) (sym (tokens_of-long text long)) (inl (long, refl))
 outcome_by text (inr short) = outcome_of_text text short (cases_Bool (is_utf8 text))
 
 outcome_of : (text : List ℕ) → IsOutcome text (tokens_of text)
-outcome_of text = outcome_by text (cases_lt TEXT_LIMIT (length text))
+outcome_of text = outcome_by text (cases_lt text_limit (length text))
 
 tokens_same : (text : List ℕ) (a b : List Token) → IsTokens text a → IsTokens text b → a ≡ b
 tokens_same text a b (short, is, (p, cut, e)) (short2, is2, (q, cut2, e2)) =

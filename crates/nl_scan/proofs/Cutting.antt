@@ -10,14 +10,13 @@ use Rattle.std.proofs.lemmas.List.Sums.{prefix_len-le-length}
 use Rattle.std.proofs.lemmas.Str.{IsUtf8-from_is_utf8, is_utf8-from_IsUtf8}
 use Rattle.nl_fixed.specs.declared.number.NumFault.{NumFault}
 use Rattle.nl_fixed.specs.Spelling.{read_of}
-use Rattle.nl_scan.specs.declared.TheConstants.{TEXT_LIMIT}
 use Rattle.nl_scan.specs.declared.token.Lexeme.{Lexeme}
 use Rattle.nl_scan.specs.declared.token.Token.{Token}
 use Rattle.nl_scan.specs.declared.token.ScanKind.{ScanKind}
 use Rattle.nl_scan.specs.declared.pieces.Form.{Form}
 use Rattle.nl_scan.specs.declared.pieces.Piece.{Piece}
 use Rattle.nl_scan.specs.Forms.{is_in_line, is_word_byte, bracket_of, first_bad_escape}
-use Rattle.nl_scan.specs.Tokens.{ScanFault, cut_from, tokens_of, after_piece, token_first, piece_at, piece_by, form_at, word_piece, quoted_piece, escaped_piece, bracket_piece, closed_length, least_length, IsPieceWithin}
+use Rattle.nl_scan.specs.Tokens.{ScanFault, text_limit, cut_from, tokens_of, after_piece, token_first, piece_at, piece_by, form_at, word_piece, quoted_piece, escaped_piece, bracket_piece, closed_length, least_length, IsPieceWithin}
 use Rattle.nl_scan.proofs.Runs.{IsWithin, IsBelow, begins-form_at, closed_length-within, first_bad_escape-below, word_len-some}
 
 pub least_length-some : (lexeme : Lexeme) → 0 < least_length lexeme
@@ -148,10 +147,10 @@ pub rest_from : (text : List ℕ) (at : ℕ) → take (length text - at) (drop a
 rest_from text at = take_all _ _ (simp length-drop (omega arith))
 
 -- a text past the limit, one that is no text, and one that is
-pub tokens_of-long : (text : List ℕ) → TEXT_LIMIT < length text → tokens_of text ≡ Err (record { kind = ScanKind.TooLong; place = TEXT_LIMIT })
+pub tokens_of-long : (text : List ℕ) → text_limit < length text → tokens_of text ≡ Err (record { kind = ScanKind.TooLong; place = text_limit })
 unfolding tokens_of
 tokens_of-long text long =
-    let test : nat_lt TEXT_LIMIT (length text) ≡ true = grind (arith, nat_tests) in
+    let test : nat_lt text_limit (length text) ≡ true = grind (arith, nat_tests) in
     rw test
 
 no_text : (text : List ℕ) → (IsUtf8 text → ⊥) → is_utf8 text ≡ false
@@ -161,16 +160,16 @@ no_text text none = by (cases_Bool (is_utf8 text))
     by (inl e) = absurd (none (IsUtf8-from_is_utf8 text e))
     by (inr e) = e
 
-pub tokens_of-no_text : (text : List ℕ) → length text ≤ TEXT_LIMIT → (IsUtf8 text → ⊥) → tokens_of text ≡ Err (record { kind = ScanKind.NotText; place = utf8_valid_len text })
+pub tokens_of-no_text : (text : List ℕ) → length text ≤ text_limit → (IsUtf8 text → ⊥) → tokens_of text ≡ Err (record { kind = ScanKind.NotText; place = utf8_valid_len text })
 unfolding tokens_of
 tokens_of-no_text text short none =
-    let test : nat_lt TEXT_LIMIT (length text) ≡ false = grind (arith, nat_tests) in
+    let test : nat_lt text_limit (length text) ≡ false = grind (arith, nat_tests) in
     rw (test, no_text text none)
 
-pub tokens_of-text : (text : List ℕ) → length text ≤ TEXT_LIMIT → IsUtf8 text → tokens_of text ≡ cut_from (length text) 0 text
+pub tokens_of-text : (text : List ℕ) → length text ≤ text_limit → IsUtf8 text → tokens_of text ≡ cut_from (length text) 0 text
 unfolding tokens_of
 tokens_of-text text short is =
-    let test : nat_lt TEXT_LIMIT (length text) ≡ false = grind (arith, nat_tests) in
+    let test : nat_lt text_limit (length text) ≡ false = grind (arith, nat_tests) in
     rw (test, is_utf8-from_IsUtf8 text is)
 
 -- all tokens, where nothing is left

@@ -2,11 +2,10 @@
 use Rattle.std.proofs.Common.{◌≡◌, ℕ, zero, suc, ◌+◌, ◌≤◌, ◌<◌, List, [], ◌∷◌, length, drop, get_or, Result, Ok, Err, refl, subst, arith, length-drop, zero-add, Bool, true, false, cond, nat_lt}
 use Rattle.std.specs.Str.{is_utf8}
 use Rattle.std.proofs.lemmas.Option.{slice_get_within, get_or_from_slice_get}
-use Rattle.nl_scan.specs.declared.TheConstants.{TEXT_LIMIT}
 use Rattle.nl_scan.specs.declared.token.Lexeme.{Lexeme}
 use Rattle.nl_scan.specs.declared.token.Token.{Token}
 use Rattle.nl_scan.specs.declared.pieces.Piece.{Piece}
-use Rattle.nl_scan.specs.Tokens.{ScanFault, cut_from, tokens_of, IsTokenOf, after_piece, token_first, piece_at, least_length, AreInOrder, IsPieceWithin}
+use Rattle.nl_scan.specs.Tokens.{ScanFault, text_limit, cut_from, tokens_of, IsTokenOf, after_piece, token_first, piece_at, least_length, AreInOrder, IsPieceWithin}
 use Rattle.nl_scan.proofs.Cutting.{least_length-some, piece_at-within}
 
 -- tokens in order from a place on are so from an earlier one on
@@ -87,7 +86,7 @@ cut_of false false text tokens long not_text e = cc
 
 pub tokens_of-in_order : (text : List ℕ) (tokens : List Token) → tokens_of text ≡ Ok tokens → AreInOrder 0 (length text) tokens
 unfolding tokens_of
-tokens_of-in_order text tokens e = cut_from-in_order text tokens (cut_of (nat_lt TEXT_LIMIT (length text)) (is_utf8 text) text tokens _ _ e).cut
+tokens_of-in_order text tokens e = cut_from-in_order text tokens (cut_of (nat_lt text_limit (length text)) (is_utf8 text) text tokens _ _ e).cut
 
 -- a token of a text has its least length and lies in the text
 pub token_in : (text : List ℕ) (token : Token) → IsTokenOf text token → (least_length token.lexeme ≤ token.span.len) × (token.span.start + token.span.len ≤ length text)

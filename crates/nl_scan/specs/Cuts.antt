@@ -2,13 +2,12 @@
 use Rattle.std.specs.Prelude.{◌≡◌, ℕ, ◌+◌, ◌≤◌, ◌<◌, ◌==◌, ◌⊎◌, ◌↔◌, List, [], ◌∷◌, ◌++◌, length, take, drop, true, if◌then◌else◌, Option, Some, None, Result, Ok, Err}
 use Rattle.std.specs.Str.{IsUtf8}
 use Rattle.std.specs.Str.Lossy.{utf8_valid_len}
-use Rattle.nl_scan.specs.declared.TheConstants.{TEXT_LIMIT}
 use Rattle.nl_scan.specs.declared.token.Lexeme.{Lexeme}
 use Rattle.nl_scan.specs.declared.token.Token.{Token}
 use Rattle.nl_scan.specs.declared.token.ScanKind.{ScanKind}
 use Rattle.nl_scan.specs.declared.pieces.Form.{Form}
 use Rattle.nl_scan.specs.Forms.{Flaw, has_form, meaning_of, quote}
-use Rattle.nl_scan.specs.Tokens.{ScanFault, tokens_of}
+use Rattle.nl_scan.specs.Tokens.{ScanFault, text_limit, tokens_of}
 
 -- a stretch of a text, and the form that it has
 pub record Stretch : Type 0 where
@@ -78,17 +77,17 @@ IsCutToFault text fault =
 
 -- a text that is not too long and is UTF-8 has these tokens
 abbrev pub IsTokens : List ℕ → List Token → Type 0
-IsTokens text tokens = (length text ≤ TEXT_LIMIT) × IsUtf8 text × ((stretches : List Stretch) × IsCut text stretches × (tokens ≡ tokens_in 0 stretches))
+IsTokens text tokens = (length text ≤ text_limit) × IsUtf8 text × ((stretches : List Stretch) × IsCut text stretches × (tokens ≡ tokens_in 0 stretches))
 
 abbrev pub IsTooLong : List ℕ → ScanFault → Type 0
-IsTooLong text fault = (TEXT_LIMIT < length text) × (fault ≡ record { kind = ScanKind.TooLong; place = TEXT_LIMIT })
+IsTooLong text fault = (text_limit < length text) × (fault ≡ record { kind = ScanKind.TooLong; place = text_limit })
 
 abbrev pub IsNotText : List ℕ → ScanFault → Type 0
 IsNotText text fault =
-    (length text ≤ TEXT_LIMIT) × (IsUtf8 text → ⊥) × (fault ≡ record { kind = ScanKind.NotText; place = utf8_valid_len text })
+    (length text ≤ text_limit) × (IsUtf8 text → ⊥) × (fault ≡ record { kind = ScanKind.NotText; place = utf8_valid_len text })
 
 abbrev pub IsMiscut : List ℕ → ScanFault → Type 0
-IsMiscut text fault = (length text ≤ TEXT_LIMIT) × IsUtf8 text × IsCutToFault text fault
+IsMiscut text fault = (length text ≤ text_limit) × IsUtf8 text × IsCutToFault text fault
 
 -- a text has this fault: it is too long; else it isn't UTF-8; else gaps and tokens end at it
 abbrev pub IsFault : List ℕ → ScanFault → Type 0

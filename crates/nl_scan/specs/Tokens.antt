@@ -6,7 +6,6 @@ use Rattle.std.specs.Str.{is_utf8}
 use Rattle.std.specs.Str.Lossy.{utf8_valid_len}
 use Rattle.nl_fixed.specs.declared.number.NumFault.{NumFault}
 use Rattle.nl_fixed.specs.Spelling.{read_of}
-use Rattle.nl_scan.specs.declared.TheConstants.{TEXT_LIMIT}
 use Rattle.nl_scan.specs.declared.token.Lexeme.{Lexeme}
 use Rattle.nl_scan.specs.declared.token.Token.{Token}
 use Rattle.nl_scan.specs.declared.token.ScanKind.{ScanKind}
@@ -14,6 +13,10 @@ use Rattle.nl_scan.specs.declared.token.ScanRefusal.{ScanRefusal}
 use Rattle.nl_scan.specs.declared.pieces.Form.{Form}
 use Rattle.nl_scan.specs.declared.pieces.Piece.{Piece}
 use Rattle.nl_scan.specs.Forms.{is_space, is_in_line, is_word_byte, bracket_of, is_some_bracket, semicolon, quote, backslash, first_bad_escape}
+
+-- a text of more bytes is too long
+abbrev pub text_limit : ℕ
+text_limit = 4194304
 
 -- the form that begins with a byte
 abbrev pub form_at : ℕ → Option Form
@@ -91,7 +94,7 @@ cut_from (suc room) at (byte ∷ rest) = after_piece at (λ len. cut_from room (
 -- the tokens of a text, or its first fault; each piece has a byte at least, so there is room for all of them
 unfoldable pub tokens_of : List ℕ → Result (List Token) ScanFault
 tokens_of text =
-    if nat_lt TEXT_LIMIT (length text) then Err (record { kind = ScanKind.TooLong; place = TEXT_LIMIT })
+    if nat_lt text_limit (length text) then Err (record { kind = ScanKind.TooLong; place = text_limit })
     else (if is_utf8 text then cut_from (length text) 0 text
     else Err (record { kind = ScanKind.NotText; place = utf8_valid_len text }))
 

@@ -1,6 +1,6 @@
 //! A text cut into tokens.
 ghost use Rattle.std.specs.Prelude.{◌≡◌, ◌≤◌, length, IfOk};
-ghost use Rattle.nl_scan.specs.Tokens.{AreInOrder, Scans, cut_from, tokens_of};
+ghost use Rattle.nl_scan.specs.Tokens.{AreInOrder, Scans, cut_from, text_limit, tokens_of};
 
 use crate::TEXT_LIMIT;
 use crate::pieces::{Piece, first_piece};
@@ -30,7 +30,7 @@ pub fn scan(alloc: Global, text: &[u8]) -> Result<Tokens, ScanRefusal>
 
 // The tokens of a text that is neither too long nor anything but text.
 fn cut(alloc: Global, text: &[u8]) -> Result<Tokens, ScanRefusal>
-    requires { length text.now ≤ TEXT_LIMIT }
+    requires { length text.now ≤ text_limit }
     ensures tokens { Scans (cut_from (length text.now) 0 text.now) result }
     ensures order { IfOk result (AreInOrder 0 (length text.now)) }
 {
