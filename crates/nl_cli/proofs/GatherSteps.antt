@@ -2,7 +2,7 @@
 use Rattle.std.proofs.Common.{◌≡◌, ℕ, ◌≤◌, List, Option, Some, Result, Ok, Err, sym, ap, ◌∙◌, subst, arith}
 use Rattle.std.specs.Option.{ForSome}
 use Rattle.nl_outer.specs.Folder.{Folder, read_of}
-use Rattle.nl_cli.specs.declared.TheConstants.{FILE_LIMIT}
+use Rattle.nl_cli.specs.Limits.{file_limit}
 use Rattle.nl_cli.specs.declared.modelling.Walkers.{Walkers}
 use Rattle.nl_cli.specs.declared.planning.Fields.{Fields}
 use Rattle.nl_cli.specs.declared.planning.PlanFault.{PlanFault}
@@ -19,22 +19,22 @@ use Rattle.nl_cli.proofs.Reading.{IsRead-read_of, IsVerdict-take, experiment_say
 
 -- a read gave these bytes of the file at a path, where the folder is known
 abbrev pub Got : List ℕ → Option Folder → List ℕ → Type 0
-Got path known bytes = ForSome known (λ folder. read_of path FILE_LIMIT folder ≡ Some bytes)
+Got path known bytes = ForSome known (λ folder. read_of path file_limit folder ≡ Some bytes)
 
 -- the same of an equal folder
 pub Got-same : (path : List ℕ) (a b : Option Folder) (bytes : List ℕ) → a ≡ b → Got path a bytes → Got path b bytes
 Got-same path a b bytes e got folder is = got folder (e ∙ is)
 
-model_whole_says : (path bytes : List ℕ) (folder : Folder) (verdict : Verdict) → (read : read_of path FILE_LIMIT folder ≡ Some bytes) → IsVerdict bytes verdict
-    → IsVerdict (IsRead-read_of path FILE_LIMIT folder bytes read).whole verdict
+model_whole_says : (path bytes : List ℕ) (folder : Folder) (verdict : Verdict) → (read : read_of path file_limit folder ≡ Some bytes) → IsVerdict bytes verdict
+    → IsVerdict (IsRead-read_of path file_limit folder bytes read).whole verdict
 model_whole_says path bytes folder verdict read says =
-    let got = IsRead-read_of path FILE_LIMIT folder bytes read in
+    let got = IsRead-read_of path file_limit folder bytes read in
     IsVerdict-take got.whole verdict (subst (λ text. IsVerdict text verdict) got.first says)
 
-experiment_whole_says : (path bytes : List ℕ) (folder : Folder) (r : Result Fields PlanFault) → (read : read_of path FILE_LIMIT folder ≡ Some bytes) → experiment_says bytes ≡ r
-    → experiment_says (IsRead-read_of path FILE_LIMIT folder bytes read).whole ≡ r
+experiment_whole_says : (path bytes : List ℕ) (folder : Folder) (r : Result Fields PlanFault) → (read : read_of path file_limit folder ≡ Some bytes) → experiment_says bytes ≡ r
+    → experiment_says (IsRead-read_of path file_limit folder bytes read).whole ≡ r
 experiment_whole_says path bytes folder r read says =
-    let got = IsRead-read_of path FILE_LIMIT folder bytes read in
+    let got = IsRead-read_of path file_limit folder bytes read in
     sym (experiment_says-take got.whole) ∙ sym (ap experiment_says got.first) ∙ says
 
 -- the model's read stops
@@ -55,7 +55,7 @@ experiment_read_stops names before between after last known now model (End.Read 
     rw stopped.0 (record {
       rose = omega (arith, stopped.1);
       named = sym stopped.2;
-      turn = λ folder is. let read = IsRead-read_of names.model FILE_LIMIT folder model (got folder is) in experiment_missing (found_in names folder) read.whole read.there;
+      turn = λ folder is. let read = IsRead-read_of names.model file_limit folder model (got folder is) in experiment_missing (found_in names folder) read.whole read.there;
     })
 experiment_read_stops names before between after last known now model End.Memory later same got stopped = tt
 experiment_read_stops names before between after last known now model (End.Model _) later same got stopped = absurd stopped
@@ -67,8 +67,8 @@ pub experiment_stops : (names : Names) (files : Asked) (model text : List ℕ) (
     → Got names.model files.folder model → Got names.experiment files.folder text
     → ExperimentSays text (Err end) → Gathers names files (Err end)
 experiment_stops names files model text (End.Plan fault) got_model got_text says = λ folder is.
-    let read_model = IsRead-read_of names.model FILE_LIMIT folder model (got_model folder is) in
-    let read_text = IsRead-read_of names.experiment FILE_LIMIT folder text (got_text folder is) in
+    let read_model = IsRead-read_of names.model file_limit folder model (got_model folder is) in
+    let read_text = IsRead-read_of names.experiment file_limit folder text (got_text folder is) in
     experiment_bad (found_in names folder) read_model.whole read_text.whole fault read_model.there read_text.there (experiment_whole_says names.experiment text folder (Err fault) (got_text folder is) says)
 experiment_stops names files model text End.Memory got_model got_text says = tt
 experiment_stops names files model text (End.Read _) got_model got_text says = absurd says
@@ -80,8 +80,8 @@ both_said : (names : Names) (known : Option Folder) (model text : List ℕ) (fie
     → Got names.model known model → Got names.experiment known text
     → experiment_says text ≡ Ok fields → IsVerdict model verdict → ForSome known (λ folder. IsJob (found_in names folder) (job_with fields verdict))
 both_said names known model text fields verdict got_model got_text said says folder is =
-    let read_model = IsRead-read_of names.model FILE_LIMIT folder model (got_model folder is) in
-    let read_text = IsRead-read_of names.experiment FILE_LIMIT folder text (got_text folder is) in
+    let read_model = IsRead-read_of names.model file_limit folder model (got_model folder is) in
+    let read_text = IsRead-read_of names.experiment file_limit folder text (got_text folder is) in
     all_said (found_in names folder) read_model.whole read_text.whole fields verdict read_model.there read_text.there
     (experiment_whole_says names.experiment text folder (Ok fields) (got_text folder is) said) (model_whole_says names.model model folder verdict (got_model folder is) says)
 

@@ -4,7 +4,7 @@ use Rattle.nl_scan.specs.declared.token.Token.{Token}
 use Rattle.nl_scan.specs.CodePart.{code_of}
 use Rattle.nl_scan.specs.Tokens.{ScanFault, tokens_of}
 use Rattle.nl_cli.specs.Steps.{with_fault}
-use Rattle.nl_cli.specs.declared.TheConstants.{FILE_LIMIT}
+use Rattle.nl_cli.specs.Limits.{file_limit}
 use Rattle.nl_cli.specs.declared.words.Role.{Role}
 use Rattle.nl_cli.specs.declared.ends.End.{End}
 use Rattle.nl_cli.specs.declared.job.Job.{Job}
@@ -34,7 +34,7 @@ file_says_once limit false file v w a b = scanned_say_once (code_of file) (token
 
 pub verdicts_are_unique : VerdictsAreUnique
 unfolding IsVerdict
-verdicts_are_unique file v w a b = file_says_once FILE_LIMIT (nat_lt FILE_LIMIT (length file)) file v w a b
+verdicts_are_unique file v w a b = file_says_once file_limit (nat_lt file_limit (length file)) file v w a b
 
 jobs_are_unique : (found : Found) (r s : Result Job End) → IsJob found r → IsJob found s → r ≡ s
 unfolding IsJob

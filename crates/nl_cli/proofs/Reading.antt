@@ -8,7 +8,7 @@ use Rattle.nl_scan.specs.declared.token.ScanKind.{ScanKind}
 use Rattle.nl_scan.specs.Place.{line_after, column_after}
 use Rattle.nl_scan.specs.CodePart.{code_of}
 use Rattle.nl_cli.specs.Steps.{within}
-use Rattle.nl_cli.specs.declared.TheConstants.{FILE_LIMIT}
+use Rattle.nl_cli.specs.Limits.{file_limit}
 use Rattle.nl_cli.specs.declared.fault.ModelKind.{ModelKind}
 use Rattle.nl_cli.specs.declared.fault.ModelFault.{ModelFault}
 use Rattle.nl_cli.specs.declared.planning.PlanKind.TheVariants as PlanKind
@@ -45,9 +45,9 @@ within-take : {X E : Type 0} (limit : ℕ) (e : E) (says : List ℕ → Result X
 within-take limit e says text = rw (same_test limit text) (short_take limit text (nat_lt limit (length text)) (Err e) says refl)
 
 -- what the first bytes of an experiment say
-pub experiment_says-take : (text : List ℕ) → experiment_says (take (FILE_LIMIT + 1) text) ≡ experiment_says text
+pub experiment_says-take : (text : List ℕ) → experiment_says (take (file_limit + 1) text) ≡ experiment_says text
 unfolding experiment_says
-experiment_says-take text = within-take FILE_LIMIT (file_fault PlanKind.TooLong) fields_of_text text
+experiment_says-take text = within-take file_limit (file_fault PlanKind.TooLong) fields_of_text text
 
 -- a place is told by what stands before it
 fault_by : ModelKind → List ℕ → ModelFault
@@ -75,6 +75,6 @@ says-take limit text v said =
     says_by limit text v (nat_lt limit (length text)) refl here
 
 -- what the first bytes of a model say: a longer one is too long at the same line and column
-pub IsVerdict-take : (text : List ℕ) (v : Verdict) → IsVerdict (take (FILE_LIMIT + 1) text) v → IsVerdict text v
+pub IsVerdict-take : (text : List ℕ) (v : Verdict) → IsVerdict (take (file_limit + 1) text) v → IsVerdict text v
 unfolding IsVerdict
-IsVerdict-take text v said = says-take FILE_LIMIT text v said
+IsVerdict-take text v said = says-take file_limit text v said

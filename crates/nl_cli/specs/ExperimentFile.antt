@@ -7,7 +7,7 @@ use Rattle.nl_outer.specs.Folder.{same_bytes}
 use Rattle.toml.specs.Data.{Data, string, integer, array, Items, no_items, item, Members, no_members, member, get_member}
 use Rattle.toml.specs.Parse.{parse_document}
 use Rattle.nl_cli.specs.Steps.{◌>>=◌, only_if, or_else, within}
-use Rattle.nl_cli.specs.declared.TheConstants.{FILE_LIMIT, MOST_BUDGET, USUAL_BUDGET}
+use Rattle.nl_cli.specs.Limits.{file_limit, most_budget, usual_budget}
 use Rattle.nl_cli.specs.declared.planning.Fields.{Fields}
 use Rattle.nl_cli.specs.declared.planning.PlanKind.{PlanKind}
 use Rattle.nl_cli.specs.declared.planning.PlanFault.{PlanFault}
@@ -88,7 +88,7 @@ fields_of_members members = do
   name ← or_else (not_built (codes "name")) (text_of (get_member (codes "name") members))
   seed ← or_else (not_built (codes "seed")) (number_within 0 most_integer 0 (get_member (codes "seed") members))
   steps ← or_else (not_built (codes "steps")) (number_within 0 most_integer 0 (get_member (codes "steps") members))
-  budget ← or_else (not_built (codes "budget")) (number_within 1 MOST_BUDGET USUAL_BUDGET (get_member (codes "budget") members))
+  budget ← or_else (not_built (codes "budget")) (number_within 1 most_budget usual_budget (get_member (codes "budget") members))
   metrics ← only_if (is_only_text (codes "count turtles") (get_member (codes "metrics") members)) (not_built (codes "metrics"))
   Ok (record { name = name; seed = seed; steps = steps; budget = budget })
 
@@ -99,7 +99,7 @@ fields_of_text text = do
 
 -- what an experiment's text says: its fields, or its first fault
 unfoldable pub experiment_says : List ℕ → Result Fields PlanFault
-experiment_says = within FILE_LIMIT (file_fault PlanKind.TooLong) fields_of_text
+experiment_says = within file_limit (file_fault PlanKind.TooLong) fields_of_text
 
 -- a call gives what is defined, or wants memory
 abbrev pub PlanGives : {X : Type 0} → Result X PlanFault → Result X PlanRefusal → Type 0

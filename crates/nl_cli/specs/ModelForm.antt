@@ -15,7 +15,7 @@ use Rattle.nl_cli.specs.declared.fault.ModelFault.{ModelFault}
 use Rattle.nl_cli.specs.declared.fault.ModelRefusal.{ModelRefusal}
 use Rattle.nl_cli.specs.declared.modelling.Slot.{Slot as Slot'}
 use Rattle.nl_cli.specs.declared.modelling.Slot.TheVariants as CodeSlot
-use Rattle.nl_cli.specs.declared.TheConstants.{FILE_LIMIT}
+use Rattle.nl_cli.specs.Limits.{file_limit}
 use Rattle.nl_cli.specs.ModelFault.{IsAccepted, IsCodeFault}
 
 -- what a token of the form has to be: this word in any case of letters, a word of digits, or a bracket
@@ -127,7 +127,7 @@ FileSays limit false file verdict = CodeSays (code_of file) verdict
 
 -- what a model's file says
 unfoldable pub IsVerdict : List ℕ → Verdict → Type 0
-IsVerdict file verdict = FileSays FILE_LIMIT (nat_lt FILE_LIMIT (length file)) file verdict
+IsVerdict file verdict = FileSays file_limit (nat_lt file_limit (length file)) file verdict
 
 -- a call gives what is said, or wants memory
 abbrev pub ModelGives : (Verdict → Type 0) → Result Walkers ModelRefusal → Type 0

@@ -5,7 +5,7 @@ use Rattle.std.specs.declared.alloc.Global.{Global}
 use Rattle.nl_outer.specs.Bytes.{Appended, PartAppended}
 use Rattle.nl_outer.specs.Faults.{Rose}
 use Rattle.nl_outer.specs.Folder.{Folder, read_of}
-use Rattle.nl_cli.specs.declared.TheConstants.{FILE_LIMIT, MOST_BUDGET}
+use Rattle.nl_cli.specs.Limits.{file_limit, most_budget}
 use Rattle.nl_cli.specs.declared.words.Role.{Role}
 use Rattle.nl_cli.specs.declared.modelling.Walkers.{Walkers}
 use Rattle.nl_cli.specs.declared.planning.Fields.{Fields}
@@ -20,14 +20,14 @@ use Rattle.nl_cli.specs.Outcome.{Asked, Given, Gets}
 
 -- one read: the first bytes of the file at a path, or its end
 abbrev pub Reads : Role → List ℕ → Asked → Result (Vec ℕ Global) End → Type 0
-Reads role path files (Ok bytes) = (length bytes.items ≤ FILE_LIMIT + 1) × ForSome files.folder (λ folder. read_of path FILE_LIMIT folder ≡ Some bytes.items)
+Reads role path files (Ok bytes) = (length bytes.items ≤ file_limit + 1) × ForSome files.folder (λ folder. read_of path file_limit folder ≡ Some bytes.items)
 Reads role path files (Err (End.Read at)) = (at ≡ role) × Rose files.faults_before files.faults_after × (files.last_fault ≡ path)
 Reads role path files (Err End.Memory) = Unit {0}
 Reads role path files (Err _) = ⊥
 
 -- what an experiment's text says, as an end
 abbrev pub ExperimentSays : List ℕ → Result Fields End → Type 0
-ExperimentSays text (Ok fields) = (experiment_says text ≡ Ok fields) × (fields.budget ≤ MOST_BUDGET)
+ExperimentSays text (Ok fields) = (experiment_says text ≡ Ok fields) × (fields.budget ≤ most_budget)
 ExperimentSays text (Err (End.Plan fault)) = experiment_says text ≡ Err fault
 ExperimentSays text (Err End.Memory) = Unit {0}
 ExperimentSays text (Err _) = ⊥
@@ -49,7 +49,7 @@ pub record ReadStops (names : Names) (files : Asked) (role : Role) : Type 0 wher
 pub record IsSmall (job : Job) : Type 0 where
   pub few : job.model.births ≤ 1000
   pub near : job.model.distance ≤ 1000
-  pub bounded : job.fields.budget ≤ MOST_BUDGET
+  pub bounded : job.fields.budget ≤ most_budget
 
 -- the inputs are read: the job, or the end that is defined, a failed read, or want of memory
 abbrev pub Gathers : Names → Asked → Result Job End → Type 0

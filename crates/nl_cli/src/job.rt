@@ -1,15 +1,16 @@
 //! What the inputs say.
 ghost use Rattle.std.specs.Prelude.{◌≡◌, ◌≤◌, ◌+◌, length, true, IfOk};
+ghost use Rattle.nl_cli.specs.Limits.{file_limit};
 ghost use Rattle.nl_cli.specs.Outcome.{asked};
 ghost use Rattle.nl_cli.specs.Stages.{ExperimentSays, Gathers, IsSmall, ModelSays, Reads};
 ghost use Rattle.nl_cli.specs.Words.{AllServed, names_in};
 
+use crate::FILE_LIMIT;
 use crate::ends::End;
 use crate::fault::ModelRefusal;
 use crate::modelling::{Walkers, read_model};
 use crate::planning::{Fields, PlanRefusal, read_experiment};
 use crate::words::{Named, Role};
-use crate::{FILE_LIMIT, MOST_BUDGET};
 use nl_outer::{Files, ReadFail};
 use std::alloc::Global;
 
@@ -41,7 +42,7 @@ pub(crate) fn read_input<F: Files>(
 }
 
 fn fields_of(alloc: Global, text: &[u8]) -> Result<Fields, End>
-    requires { length text.now ≤ FILE_LIMIT + 1 }
+    requires { length text.now ≤ file_limit + 1 }
     ensures { ExperimentSays text.now result }
 {
     match read_experiment(alloc, text) {
@@ -52,7 +53,7 @@ fn fields_of(alloc: Global, text: &[u8]) -> Result<Fields, End>
 }
 
 fn model_of(alloc: Global, text: &[u8]) -> Result<Walkers, End>
-    requires { length text.now ≤ FILE_LIMIT + 1 }
+    requires { length text.now ≤ file_limit + 1 }
     ensures { ModelSays text.now result }
 {
     match read_model(alloc, text) {

@@ -15,10 +15,11 @@ mod top;
 mod words;
 
 pub use ends::Status;
+use nl_scan::TEXT_LIMIT;
 pub use top::run;
 
 /// A model or an experiment of more bytes is refused.
-pub(crate) const FILE_LIMIT: u64 = 4_194_304;
+pub(crate) const FILE_LIMIT: u64 = TEXT_LIMIT as u64;
 
 /// A run has at most so many units.
 pub(crate) const MOST_BUDGET: u64 = 1_000_000_000;

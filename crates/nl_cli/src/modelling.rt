@@ -1,6 +1,7 @@
 //! The form of a model that runs today.
 ghost use Rattle.std.specs.Prelude.{◌≡◌, ◌≤◌, ◌+◌, ◌<◌, Ok, length, IfSome, IfOk, slice_get, map};
 ghost use Rattle.nl_scan.specs.Tokens.{AreInOrder, tokens_of};
+ghost use Rattle.nl_cli.specs.Limits.{file_limit};
 ghost use Rattle.nl_cli.specs.ModelForm.{CodeSays, IsVerdict, ModelGives, TokensSay, bytes_of, fits, form, misfit, model_of_tokens, number_at, number_of, slot_of, is_word_in_any_case};
 
 use crate::FILE_LIMIT;
@@ -107,7 +108,7 @@ fn is_fitting(slot: &Slot, lexeme: Lexeme, bytes: &[u8]) -> bool
 // The byte at which the first token stands that the slots have no place for, or of none the text's end.
 fn misfit_in(slots: &[Slot], text: &[u8], tokens: &[Token]) -> Option<u32>
     requires few { length slots.now < 100 }
-    requires short { length text.now ≤ FILE_LIMIT + 1 }
+    requires short { length text.now ≤ file_limit + 1 }
     requires order { AreInOrder 0 (length text.now) tokens.now }
     ensures { result ≡ misfit text.now (map slot_of slots.now) tokens.now }
 {
@@ -127,7 +128,7 @@ fn misfit_in(slots: &[Slot], text: &[u8], tokens: &[Token]) -> Option<u32>
 
 // The same against the form.
 fn first_misfit(text: &[u8], tokens: &[Token]) -> Option<u32>
-    requires short { length text.now ≤ FILE_LIMIT + 1 }
+    requires short { length text.now ≤ file_limit + 1 }
     requires order { AreInOrder 0 (length text.now) tokens.now }
     ensures { result ≡ misfit text.now form tokens.now }
 {
@@ -148,7 +149,7 @@ fn number_in(text: &[u8], tokens: &[Token], at: usize) -> u64
 
 // The model that tokens of the form are, or where they leave it.
 fn read_form(text: &[u8], tokens: &[Token]) -> Result<Walkers, ModelRefusal>
-    requires short { length text.now ≤ FILE_LIMIT + 1 }
+    requires short { length text.now ≤ file_limit + 1 }
     requires order { AreInOrder 0 (length text.now) tokens.now }
     ensures says { ModelGives (λ verdict. verdict ≡ model_of_tokens text.now tokens.now (misfit text.now form tokens.now)) result }
     ensures few { IfOk result (λ model. model.births ≤ 1000) }
@@ -165,7 +166,7 @@ fn read_form(text: &[u8], tokens: &[Token]) -> Result<Walkers, ModelRefusal>
 
 // The model that the code of a file is, by its tokens.
 fn read_tokens(alloc: Global, code: &[u8], tokens: &Tokens) -> Result<Walkers, ModelRefusal>
-    requires short { length code.now ≤ FILE_LIMIT + 1 }
+    requires short { length code.now ≤ file_limit + 1 }
     requires scanned { tokens_of code.now ≡ Ok tokens.now }
     requires order { AreInOrder 0 (length code.now) tokens.now }
     ensures says { ModelGives (TokensSay code.now tokens.now) result }
@@ -180,7 +181,7 @@ fn read_tokens(alloc: Global, code: &[u8], tokens: &Tokens) -> Result<Walkers, M
 
 // The model that the code of a file is.
 fn read_code(alloc: Global, code: &[u8]) -> Result<Walkers, ModelRefusal>
-    requires { length code.now ≤ FILE_LIMIT + 1 }
+    requires { length code.now ≤ file_limit + 1 }
     ensures says { ModelGives (CodeSays code.now) result }
     ensures few { IfOk result (λ model. model.births ≤ 1000) }
     ensures near { IfOk result (λ model. model.distance ≤ 1000) }
@@ -197,7 +198,7 @@ fn read_code(alloc: Global, code: &[u8]) -> Result<Walkers, ModelRefusal>
 /// The model that a file is, of which there are all bytes or one more than the limit.
 #[tactic(auto, unfolding(crate::specs::ModelForm::IsVerdict))]
 pub fn read_model(alloc: Global, file: &[u8]) -> Result<Walkers, ModelRefusal>
-    requires { length file.now ≤ FILE_LIMIT + 1 }
+    requires { length file.now ≤ file_limit + 1 }
     ensures says { ModelGives (IsVerdict file.now) result }
     ensures few { IfOk result (λ model. model.births ≤ 1000) }
     ensures near { IfOk result (λ model. model.distance ≤ 1000) }

@@ -5,6 +5,7 @@ ghost use Rattle.std.specs.Result.{result_map_both};
 ghost use Rattle.toml.specs.View.{items_view, table_view, view};
 ghost use Rattle.toml.specs.Data.{get_member};
 ghost use Rattle.nl_outer.specs.Folder.{same_bytes};
+ghost use Rattle.nl_cli.specs.Limits.{file_limit, most_budget};
 ghost use Rattle.nl_cli.specs.Steps.{or_else};
 ghost use Rattle.nl_cli.specs.ExperimentFile.{IsFaultAt, PlanGives, all_known, document, experiment_says, fields_of_members, file_fault, is_known, keys_in, least_unknown, most_integer, not_built, number_within, is_only_text, is_text, only_item, text_of};
 
@@ -203,7 +204,7 @@ fn table_of(alloc: Global, text: &[u8]) -> Result<Table, PlanRefusal>
 // The fields in a table.
 fn fields_in(alloc: Global, table: &Table) -> Result<Fields, PlanRefusal>
     ensures says { PlanGives (fields_of_members (table_view table.now)) result }
-    ensures few { IfOk result (λ fields. fields.budget ≤ MOST_BUDGET) }
+    ensures few { IfOk result (λ fields. fields.budget ≤ most_budget) }
 {
     if let Some(key) = unknown_key(table) {
         return Err(key_fault(alloc, key));
@@ -227,9 +228,9 @@ fn fields_in(alloc: Global, table: &Table) -> Result<Fields, PlanRefusal>
 /// The experiment that a text is, of which there are all bytes or one more than the limit.
 #[tactic(auto, unfolding(crate::specs::ExperimentFile::experiment_says))]
 pub fn read_experiment(alloc: Global, text: &[u8]) -> Result<Fields, PlanRefusal>
-    requires { length text.now ≤ FILE_LIMIT + 1 }
+    requires { length text.now ≤ file_limit + 1 }
     ensures says { PlanGives (experiment_says text.now) result }
-    ensures few { IfOk result (λ fields. fields.budget ≤ MOST_BUDGET) }
+    ensures few { IfOk result (λ fields. fields.budget ≤ most_budget) }
 {
     if text.len() as u64 > FILE_LIMIT {
         return Err(whole_fault(alloc, PlanKind::TooLong));

@@ -8,10 +8,10 @@ ghost use Rattle.nl_tree.specs.Vocabulary.{terms};
 ghost use Rattle.nl_decl.specs.Bodies.{LieFrom, place_of};
 ghost use Rattle.nl_decl.specs.Outcome.{Declares};
 ghost use Rattle.nl_decl.specs.Texts.{lexemes_of};
+ghost use Rattle.nl_cli.specs.Limits.{file_limit};
 ghost use Rattle.nl_cli.specs.ModelFault.{AreBodies, IsBody, IsRead, start_at};
 ghost use Rattle.nl_cli.specs.ProgramParts.{IsBodiesRefusal, IsBodyRefusal, IsCheckRefusal, IsCodeRefusal};
 
-use crate::FILE_LIMIT;
 use crate::fault::{ModelKind, ModelRefusal, refusal_at};
 use nl_check::{CheckRefusal, check};
 use nl_decl::{DeclRefusal, declare};
@@ -24,7 +24,7 @@ use std::alloc::Global;
 /// The checked program that the tokens of a code are, with no widgets, or its first fault: that of its declarations, then that of its
 /// bodies in the order of the text, then that of who may run them.
 pub fn read_program(alloc: Global, code: &[u8], tokens: &Tokens) -> Result<Program, ModelRefusal>
-    requires short { length code.now ≤ FILE_LIMIT + 1 }
+    requires short { length code.now ≤ file_limit + 1 }
     requires scanned { tokens_of code.now ≡ Ok tokens.now }
     requires order { AreInOrder 0 (length code.now) tokens.now }
     ensures read { IfOk result (λ program. IsRead code.now tokens.now program.declared program.bodies) }
@@ -38,7 +38,7 @@ pub fn read_program(alloc: Global, code: &[u8], tokens: &Tokens) -> Result<Progr
 
 // What the tokens declare, with no widgets.
 fn read_declarations(alloc: Global, code: &[u8], tokens: &Tokens) -> Result<Declared, ModelRefusal>
-    requires short { length code.now ≤ FILE_LIMIT + 1 }
+    requires short { length code.now ≤ file_limit + 1 }
     requires scanned { tokens_of code.now ≡ Ok tokens.now }
     requires order { AreInOrder 0 (length code.now) tokens.now }
     ensures declared { IfOk result (Declares (lexemes_of code.now tokens.now) []) }
@@ -63,7 +63,7 @@ fn read_bodies(
     tokens: &[Token],
     declared: &Declared,
 ) -> Result<Trees, ModelRefusal>
-    requires short { length code.now ≤ FILE_LIMIT + 1 }
+    requires short { length code.now ≤ file_limit + 1 }
     requires tokens { All (IsTokenOf code.now) tokens.now }
     requires order { AreInOrder 0 (length code.now) tokens.now }
     requires declared { IsDeclared declared.now }
@@ -87,7 +87,7 @@ fn read_procedure(
     declared: &Declared,
     procedure: &Procedure,
 ) -> Result<Tree, ModelRefusal>
-    requires short { length code.now ≤ FILE_LIMIT + 1 }
+    requires short { length code.now ≤ file_limit + 1 }
     requires tokens { All (IsTokenOf code.now) tokens.now }
     requires order { AreInOrder 0 (length code.now) tokens.now }
     requires declared { IsDeclared declared.now }
@@ -142,7 +142,7 @@ fn checked(
 
 // The byte at which the token at a place begins, or where there is none, the text's end.
 fn start_of(code: &[u8], tokens: &[Token], at: usize) -> u32
-    requires { length code.now ≤ FILE_LIMIT + 1 }
+    requires { length code.now ≤ file_limit + 1 }
     ensures { result ≡ start_at code.now tokens.now at }
 {
     match tokens.get(at) {

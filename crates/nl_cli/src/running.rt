@@ -1,8 +1,8 @@
 //! A run of the form.
 ghost use Rattle.std.specs.Prelude.{◌≡◌, ◌≤◌};
 ghost use Rattle.nl_cli.specs.Course.{row_of, spent_row as a_spent_row};
+ghost use Rattle.nl_cli.specs.Limits.{most_budget};
 
-use crate::MOST_BUDGET;
 use crate::modelling::Walkers;
 
 /// How a run ended.
@@ -30,7 +30,7 @@ pub struct Row {
 pub fn run_form(model: Walkers, steps: u64, budget: u64) -> Row
     requires few { model.births ≤ 1000 }
     requires near { model.distance ≤ 1000 }
-    requires bounded { budget ≤ MOST_BUDGET }
+    requires bounded { budget ≤ most_budget }
     ensures { result ≡ row_of model steps budget }
 {
     // The statement `setup`, and in it the statement `cro`.
