@@ -1,15 +1,15 @@
 //! The line that tells why a call ended.
 ghost use Rattle.std.specs.Prelude.{◌≡◌, map, IfOk};
 ghost use Rattle.nl_cli.specs.Answer as spec;
-ghost use Rattle.nl_cli.specs.Answer.{joined_text, line_of};
+ghost use Rattle.nl_cli.specs.Answer.{joined_text};
 ghost use Rattle.nl_cli.specs.Outcome.{Gets, given};
 ghost use Rattle.nl_cli.specs.Stages.{Tells};
-ghost use Rattle.nl_cli.specs.Words.{names_in};
+ghost use Rattle.nl_cli.specs.Words.{names_in, path_of};
 
 use crate::ends::{End, Status};
 use crate::fault::ModelFault;
 use crate::planning::{PlanFault, PlanKind};
-use crate::words::{Named, path_for};
+use crate::words::{Named, Role, path_for};
 use nl_fixed::{NoMemory, Str};
 use nl_outer::Sink;
 use std::alloc::Global;
@@ -71,19 +71,11 @@ fn plan_line(alloc: Global, path: &str, fault: &PlanFault) -> Result<Str, NoMemo
     }
 }
 
-fn end_line(alloc: Global, named: &Named<'_>, end: &End) -> Result<Str, NoMemory>
-    ensures { IfOk result (λ line. line ≡ line_of (names_in named.now) end.now) }
+fn read_line(alloc: Global, named: &Named<'_>, role: Role) -> Result<Str, NoMemory>
+    ensures { IfOk result (λ line. line ≡ spec.cannot_read (path_of (names_in named.now) role)) }
 {
-    match end {
-        End::Model(fault) => model_line(alloc, named.model, fault),
-        End::Plan(fault) => plan_line(alloc, named.experiment, fault),
-        End::Read(role) => joined(
-            alloc,
-            &[b"cannot read ", path_for(named, *role).as_bytes(), b"\n"],
-        ),
-        End::Write => Str::of(alloc, WRITE_LINE),
-        End::Memory => Str::of(alloc, MEMORY_LINE),
-    }
+    let path = path_for(named, role);
+    joined(alloc, &[b"cannot read ", path.as_bytes(), b"\n"])
 }
 
 /// Puts a line, as far as that can be done.
@@ -97,7 +89,10 @@ pub fn say<E: Sink>(err: &mut E, line: &[u8])
 pub fn tell<E: Sink>(alloc: Global, named: &Named<'_>, end: &End, err: &mut E) -> Status
     ensures { Tells (names_in named.now) end.now (given E.faults E.written err.old err.new) result }
 {
-    match end {
+    let line = match end {
+        End::Model(fault) => model_line(alloc, named.model, fault),
+        End::Plan(fault) => plan_line(alloc, named.experiment, fault),
+        End::Read(role) => read_line(alloc, named, *role),
         End::Write => {
             say(err, WRITE_LINE);
             return Status::Write;
@@ -106,9 +101,8 @@ pub fn tell<E: Sink>(alloc: Global, named: &Named<'_>, end: &End, err: &mut E) -
             say(err, MEMORY_LINE);
             return Status::Memory;
         }
-        _ => {}
-    }
-    match end_line(alloc, named, end) {
+    };
+    match line {
         Ok(line) => {
             say(err, line.as_bytes());
             end.status()
