@@ -9,4 +9,5 @@ mod Pieces
 mod SampleModel
 mod Sites
 mod Verdicts
+pub mod Either
 pub mod Firsts

@@ -1,5 +1,5 @@
 -- The laws of the first fault of context, of a model's bodies and of a lone text.
-use Rattle.std.specs.Prelude.{◌≡◌, ℕ, List}
+use Rattle.std.specs.Prelude.{◌≡◌, ◌⊎◌, ℕ, List, length}
 use Rattle.nl_fixed.specs.declared.span.Span.{Span}
 use Rattle.nl_tree.specs.declared.declared.Declared.{Declared}
 use Rattle.nl_tree.specs.Tree.{Node}
@@ -17,6 +17,12 @@ FaultsAreUnique =
 abbrev pub RightBodiesHaveNoFault : Type 0
 RightBodiesHaveNoFault = (d : Declared) (bodies : List Node) (i : ℕ) (x : ContextFault) (p : Span) → BodiesAreRight d bodies → IsModelFault d bodies i x p → ⊥
 
+-- and bodies, one a procedure, are right or have one
+abbrev pub BodiesAreRightOrFaulty : Type 0
+BodiesAreRightOrFaulty =
+    (d : Declared) (bodies : List Node) → length bodies ≡ length d.procedures →
+    BodiesAreRight d bodies ⊎ ((i : ℕ) × (x : ContextFault) × (p : Span) × IsModelFault d bodies i x p)
+
 -- a lone text has one first fault at most: one kind and one place
 abbrev pub LoneFaultsAreUnique : Type 0
 LoneFaultsAreUnique =
@@ -25,3 +31,9 @@ LoneFaultsAreUnique =
 -- a lone text that is right has none
 abbrev pub RightTextsHaveNoFault : Type 0
 RightTextsHaveNoFault = (d : Declared) (bodies : List Node) (t : Node) (x : ContextFault) (p : Span) → IsRightText (terms d) bodies t → IsLoneFault d bodies t x p → ⊥
+
+-- and a lone text beside bodies, one a procedure, is right or has one
+abbrev pub TextsAreRightOrFaulty : Type 0
+TextsAreRightOrFaulty =
+    (d : Declared) (bodies : List Node) (t : Node) → length bodies ≡ length d.procedures →
+    IsRightText (terms d) bodies t ⊎ ((x : ContextFault) × (p : Span) × IsLoneFault d bodies t x p)

@@ -2,6 +2,7 @@ pub mod Forms
 pub mod Programs
 pub mod OneFault
 pub mod OneAnswer
+pub mod EachVerdict
 pub mod Keys
 pub mod Items
 pub mod Costs

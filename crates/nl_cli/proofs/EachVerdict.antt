@@ -1,0 +1,194 @@
+-- Code is accepted or has a fault. So each file has a verdict, and words over a folder have an answer.
+use Rattle.std.proofs.Common.{◌≡◌, ◌⊎◌, inl, inr, ℕ, ◌+◌, Bool, true, false, List, [], ◌∷◌, Option, Some, None, Result, Ok, Err, length, nat_lt, slice_get, refl, sym, ◌∙◌, subst}
+use Rattle.nl_scan.specs.declared.token.Token.{Token}
+use Rattle.nl_scan.specs.declared.token.ScanKind.{ScanKind}
+use Rattle.nl_scan.specs.CodePart.{code_of}
+use Rattle.nl_scan.specs.Tokens.{ScanFault, tokens_of}
+use Rattle.nl_tree.specs.declared.declared.Declared.{Declared}
+use Rattle.nl_tree.specs.declared.declared.Form.TheVariants as form
+use Rattle.nl_tree.specs.declared.declared.Procedure.{Procedure}
+use Rattle.nl_tree.specs.BodyFault.{IsTextFault, TextFault, UnknownName, Unexpected, TooDeep}
+use Rattle.nl_tree.specs.Checked.{IsModelFault}
+use Rattle.nl_tree.specs.Context.{ContextFault, WrongContext, NotSettable, NoReport}
+use Rattle.nl_tree.specs.Tokens.{Lexeme}
+use Rattle.nl_tree.specs.Tree.{Node}
+use Rattle.nl_tree.specs.Vocabulary.{terms}
+use Rattle.nl_decl.specs.declared.declaration.Declaration.{Declaration}
+use Rattle.nl_decl.specs.declared.declaration.Mode.{Mode}
+use Rattle.nl_decl.specs.declared.declaration.Mode.TheVariants.{Between, Awaiting, Listing, Titling, Heading, Inside}
+use Rattle.nl_decl.specs.declared.declaration.Owner.TheVariants as owner
+use Rattle.nl_decl.specs.declared.refusal.DeclKind.{DeclKind}
+use Rattle.nl_decl.specs.Claims.{duplicate_in}
+use Rattle.nl_decl.specs.Declarations.{AreDeclarations, IsBadPlace}
+use Rattle.nl_decl.specs.Gathered.{Gathers, breeds_in, globals_in, owned_in, procedures_in}
+use Rattle.nl_decl.specs.Outcome.{Declares}
+use Rattle.nl_decl.specs.Reading.{State, run}
+use Rattle.nl_decl.specs.Texts.{lexemes_of, plain_tokens}
+use Rattle.nl_decl.proofs.Begins.{bad_end}
+use Rattle.nl_decl.proofs.Lawful.{are_taken, or_place}
+use Rattle.nl_grammar.proofs.Ends.{texts_are_good_or_faulty}
+use Rattle.nl_grammar.proofs.Good.{models_have_words}
+use Rattle.nl_grammar.proofs.Reporters.{models_take_no_commands}
+use Rattle.nl_parse.specs.Outcome.{kind_of}
+use Rattle.nl_parse.specs.declared.body.BodyKind.{BodyKind}
+use Rattle.nl_check.specs.Faults.{fault_of}
+use Rattle.nl_check.specs.declared.refusal.CheckKind.{CheckKind}
+use Rattle.nl_check.proofs.Either.{bodies_are_right_or_faulty}
+use Rattle.nl_cli.specs.Steps.{Goes, with_fault}
+use Rattle.nl_cli.specs.Limits.{file_limit}
+use Rattle.nl_cli.specs.declared.fault.ModelKind.{ModelKind}
+use Rattle.nl_cli.specs.declared.words.Role.{Role}
+use Rattle.nl_cli.specs.declared.ends.End.{End}
+use Rattle.nl_cli.specs.declared.ends.Status.{Status}
+use Rattle.nl_cli.specs.declared.job.Job.{Job}
+use Rattle.nl_cli.specs.Words.{Names, names_of}
+use Rattle.nl_cli.specs.ModelFault.{AreBodies, IsAccepted, IsBody, IsCodeFault, IsFaultOfBodies, IsFaultOfBody, IsRead, body_of, span_by, start_at, text_of_body}
+use Rattle.nl_cli.specs.ModelForm.{FileSays, IsVerdict, ScannedSay, TokensSay, Verdict, fault_at, form as the_form, misfit, model_of_tokens}
+use Rattle.nl_cli.specs.ExperimentFile.{experiment_says}
+use Rattle.nl_cli.specs.Answer.{Answer, AnswersTo, Found, IsJob, answer_to, found_in, job_with, read, usage_line}
+use Rattle.nl_cli.specs.Laws.{CodeIsAcceptedOrFaulty, FilesHaveVerdicts, WordsHaveAnswers}
+use Rattle.nl_cli.proofs.CourseSteps.{experiment_said, model_read, model_said}
+use Rattle.nl_cli.proofs.Programs.{bodies_many}
+
+-- ---- declarations
+
+abbrev DeclaredOrBad : List Lexeme → Type 0
+DeclaredOrBad ls = ((ds : List Declaration) × AreDeclarations ls ds) ⊎ ((k : ℕ) × IsBadPlace ls k)
+
+-- tokens that end within a declaration have a bad place at their end
+unended : (ls : List Lexeme) (m : Mode) (done : List Declaration) → run ls ≡ Some (record { mode = m; done = done }) → (m ≡ Between → ⊥) → DeclaredOrBad ls
+unended ls m done e within = inr (length ls, bad_end ls (record { mode = m; done = done }) e within)
+
+by_mode : (ls : List Lexeme) (m : Mode) (done : List Declaration) → run ls ≡ Some (record { mode = m; done = done }) → DeclaredOrBad ls
+by_mode ls Between done e = inl (done, (are_taken ls done).1 e)
+by_mode ls (Awaiting s) done e = unended ls (Awaiting s) done e (λ m. cc)
+by_mode ls (Listing s names) done e = unended ls (Listing s names) done e (λ m. cc)
+by_mode ls (Titling reporter) done e = unended ls (Titling reporter) done e (λ m. cc)
+by_mode ls (Heading reporter name) done e = unended ls (Heading reporter name) done e (λ m. cc)
+by_mode ls (Inside reporter name inputs n) done e = unended ls (Inside reporter name inputs n) done e (λ m. cc)
+
+by_run : (ls : List Lexeme) (s : Option State) → run ls ≡ s → DeclaredOrBad ls
+by_run ls None e = inr ((or_place ls).1 (λ ds h. let bad : None ≡ Some (record { mode = Between; done = ds }) = sym e ∙ (are_taken ls ds).0 h in cc))
+by_run ls (Some s) e = by_mode ls s.mode s.done e
+
+-- what declarations declare; their index may be any
+abbrev gathered : List Declaration → Declared
+gathered ds = record {
+  widgets = [];
+  globals = globals_in ds;
+  turtles_own = owned_in owner.AllTurtles ds;
+  patches_own = owned_in owner.AllPatches ds;
+  links_own = owned_in owner.AllLinks ds;
+  breeds = breeds_in ds;
+  procedures = procedures_in ds;
+  index = [];
+}
+
+gathered_is : (ds : List Declaration) → Gathers [] ds (gathered ds)
+gathered_is ds = (refl, refl, refl, refl, refl, refl, refl)
+
+-- ---- bodies
+
+kind_for : (kind : TextFault) → (told : BodyKind) × (kind ≡ kind_of told)
+kind_for UnknownName = (BodyKind.UnknownName, refl)
+kind_for Unexpected = (BodyKind.Unexpected, refl)
+kind_for TooDeep = (BodyKind.TooDeep, refl)
+
+module _ (text : List ℕ) (tokens : List Token) (d : Declared) where
+  body_or_fault : (p : Procedure) → ((tree : Node) × IsBody text tokens (terms d) p tree) ⊎ ((kind : BodyKind) × (place : ℕ) × IsFaultOfBody text tokens (terms d) p kind place)
+  body_or_fault p =
+      elim (texts_are_good_or_faulty form.Commands p.inputs (terms d) (plain_tokens text (body_of tokens p)) (span_by (slice_get tokens p.after)) (models_have_words d) (models_take_no_commands d)) [
+        | inl good ↦ inl good
+        | inr (k, kind, fault) ↦
+            let (told, same) = kind_for kind in
+            inr (told, start_at text tokens (p.first + k), (k, (subst (IsTextFault form.Commands p.inputs (terms d) (text_of_body text tokens p) k) same fault, refl)))
+      ]
+
+  bodies_or_fault : (ps : List Procedure) → ((trees : List Node) × AreBodies text tokens (terms d) ps trees) ⊎ ((kind : BodyKind) × (place : ℕ) × IsFaultOfBodies text tokens (terms d) ps kind place)
+  bodies_or_fault [] = inl ([], tt)
+  bodies_or_fault (p ∷ ps) = elim (body_or_fault p) [
+    | inr (kind, place, fault) ↦ inr (kind, place, inl fault)
+    | inl (tree, good) ↦ elim (bodies_or_fault ps) [
+      | inl (trees, are) ↦ inl (tree ∷ trees, (good, are))
+      | inr (kind, place, fault) ↦ inr (kind, place, inr ((tree, good), fault))
+    ]
+  ]
+
+-- ---- who may run them
+
+check_for : (kind : ContextFault) → (told : CheckKind) × (kind ≡ fault_of told)
+check_for WrongContext = (CheckKind.WrongContext, refl)
+check_for NotSettable = (CheckKind.NotSettable, refl)
+check_for NoReport = (CheckKind.NoReport, refl)
+
+-- ---- code
+
+module _ (text : List ℕ) (tokens : List Token) where
+  abbrev AcceptedOrFaulty : Type 0
+  AcceptedOrFaulty = IsAccepted text tokens ⊎ ((kind : ModelKind) × (place : ℕ) × IsCodeFault text tokens kind place)
+
+  by_check : (d : Declared) (bodies : List Node) → IsRead text tokens d bodies → AcceptedOrFaulty
+  by_check d bodies read = elim (bodies_are_right_or_faulty d bodies (bodies_many text tokens (terms d) d.procedures bodies read.trees)) [
+    | inl right ↦ inl (record { declared = d; bodies = bodies; read = read; right = right })
+    | inr (i, kind, span, fault) ↦
+        let (told, same) = check_for kind in
+        inr (ModelKind.Check told, span.start, (d, bodies, i, span, (read, subst (λ x. IsModelFault d bodies i x span) same fault, refl)))
+  ]
+
+  by_bodies : (d : Declared) → Declares (lexemes_of text tokens) [] d → AcceptedOrFaulty
+  by_bodies d declares = elim (bodies_or_fault text tokens d d.procedures) [
+    | inl (bodies, trees) ↦ by_check d bodies (record { declares = declares; trees = trees })
+    | inr (kind, place, fault) ↦ inr (ModelKind.Body kind, place, (d, (declares, fault)))
+  ]
+
+  by_duplicate : (ds : List Declaration) → AreDeclarations (lexemes_of text tokens) ds → (found : Option ℕ) → duplicate_in [] ds ≡ found → AcceptedOrFaulty
+  by_duplicate ds are None is = by_bodies (gathered ds) (ds, (are, is, gathered_is ds))
+  by_duplicate ds are (Some k) is = inr (ModelKind.Declaration DeclKind.Duplicate, start_at text tokens k, (k, ((ds, (are, is)), refl)))
+
+pub code_is_accepted_or_faulty : CodeIsAcceptedOrFaulty
+code_is_accepted_or_faulty text tokens = elim (by_run (lexemes_of text tokens) (run (lexemes_of text tokens)) refl) [
+  | inl (ds, are) ↦ by_duplicate text tokens ds are (duplicate_in [] ds) refl
+  | inr (k, bad) ↦ inr (ModelKind.Declaration DeclKind.BadDeclaration, start_at text tokens k, (k, (bad, refl)))
+]
+
+-- ---- verdicts
+
+tokens_say : (code : List ℕ) (tokens : List Token) → (verdict : Verdict) × TokensSay code tokens verdict
+tokens_say code tokens = elim (code_is_accepted_or_faulty code tokens) [
+  | inl accepted ↦ (model_of_tokens code tokens (misfit code the_form tokens), inr (accepted, refl))
+  | inr (kind, place, fault) ↦ (Err (fault_at code kind place), inl (kind, place, (fault, refl)))
+]
+
+scanned_say : (code : List ℕ) (scanned : Result (List Token) ScanFault) → (verdict : Verdict) × ScannedSay code scanned verdict
+scanned_say code (Ok tokens) = tokens_say code tokens
+scanned_say code (Err fault) = (Err (fault_at code (ModelKind.Scan fault.kind) fault.place), refl)
+
+file_says : (limit : ℕ) (long : Bool) (file : List ℕ) → (verdict : Verdict) × FileSays limit long file verdict
+file_says limit true file = (Err (fault_at file (ModelKind.Scan ScanKind.TooLong) limit), refl)
+file_says limit false file = scanned_say (code_of file) (tokens_of (code_of file))
+
+pub files_have_verdicts : FilesHaveVerdicts
+unfolding IsVerdict
+files_have_verdicts file = file_says file_limit (nat_lt file_limit (length file)) file
+
+-- ---- answers
+
+-- a chain of steps has a result where each step leads to one
+goes : {A B E : Type 0} (step : Result A E) (Next : Result B E → A → Type 0) → ((x : A) → (r : Result B E) × Next r x) → (r : Result B E) × Goes step r (Next r)
+goes (Ok x) Next next = next x
+goes (Err e) Next next = (Err e, refl)
+
+jobs_are_there : (found : Found) → (job : Result Job End) × IsJob found job
+unfolding IsJob
+jobs_are_there found =
+    goes (read Role.Model found) (λ job. model_read found job) (λ model_text.
+    goes (read Role.Experiment found) (λ job. experiment_said model_text job) (λ text.
+    goes (with_fault End.Plan (experiment_says text)) (λ job. model_said model_text job) (λ fields.
+    let (verdict, said) = files_have_verdicts model_text in (job_with fields verdict, (verdict, (said, refl))))))
+
+answers_to : (found : Names → Found) (names : Option Names) → (answer : Answer) × AnswersTo names found answer
+answers_to found None = (record { status = Status.Usage; bytes = []; line = usage_line }, refl)
+answers_to found (Some names) = let (job, is) = jobs_are_there (found names) in (answer_to names job, (job, (is, refl)))
+
+pub words_have_answers : WordsHaveAnswers
+words_have_answers words folder = answers_to (λ names. found_in names folder) (names_of words)

@@ -1,0 +1,5 @@
+use Rattle.nl_cli.proofs.EachVerdict.{words_have_answers}
+use Rattle.nl_cli.proofs.laws.words_have_answers.Goals as goal
+
+pub returns : goal.returns
+returns c = words_have_answers
