@@ -1,12 +1,12 @@
 -- Steps that turn on the top of the machine's stack.
 use Rattle.std.proofs.Common.{◌≡◌, ℕ, suc, true, false, List, ◌∷◌, refl}
 use Rattle.nl_fixed.specs.declared.span.Span.{Span}
-use Rattle.nl_tree.specs.Tree.{Nodes, node, none, more}
+use Rattle.nl_tree.specs.Tree.{Node, Nodes, node, none, more}
 use Rattle.nl_tree.specs.declared.tree.Label.TheVariants as label
 use Rattle.nl_parse.specs.Limit.{is_one}
 use Rattle.nl_tree.specs.Tokens.{Need}
-use Rattle.nl_grammar.specs.Machine.{Frame, InNear, InMany, InOf, ThenItem, Begin, st, go, stop, next, begin_call, begin_many, feed_of}
-use Rattle.nl_parse.specs.Asked.{more_sides}
+use Rattle.nl_grammar.specs.Machine.{Shape, Literal, Have, closed, end_list, Frame, InNear, InMany, InOf, InList, InBracket, ThenItem, Begin, Listing, st, go, stop, next, begin_call, begin_many, begin_bracket, feed_of}
+use Rattle.nl_parse.specs.Asked.{more_sides, is_at_side, is_in_list}
 
 pub no_call : (w : List ℕ) (s : Span) (is : List Need) (e : List (List ℕ)) (K : List Frame) → more_sides K ≡ true → begin_call w s is e K ≡ stop
 no_call w s is e (InNear v r ts (suc n) ∷ K) h = refl
@@ -23,6 +23,22 @@ no_many w s m e K h = cc h
 pub a_many : (w : List ℕ) (s : Span) (m : ℕ) (e : List (List ℕ)) (K : List Frame) → more_sides K ≡ false → begin_many w s m e K ≡ go (st Begin e (InMany w s none m ∷ K))
 a_many w s m e (InNear v r ts (suc n) ∷ K) h = cc h
 a_many w s m e K h = refl
+
+pub a_list : (s : Span) (e : List (List ℕ)) (K : List Frame) → is_at_side K ≡ true → begin_bracket s e K ≡ go (st Listing e (InList s none ∷ K))
+a_list s e (InNear v r ts n ∷ K) h = refl
+a_list s e K h = cc h
+
+pub a_bracket : (s : Span) (e : List (List ℕ)) (K : List Frame) → is_at_side K ≡ false → begin_bracket s e K ≡ go (st Begin e (InBracket s ∷ K))
+a_bracket s e (InNear v r ts n ∷ K) h = cc h
+a_bracket s e K h = refl
+
+pub at_hand : (x : Shape) (t : Node) (e : List (List ℕ)) (K : List Frame) → is_at_side K ≡ false → closed x t e K ≡ st (Have x t) e K
+at_hand x t e (InNear v r ts n ∷ K) h = cc h
+at_hand x t e K h = refl
+
+pub outer_list : (t : Node) (e : List (List ℕ)) (K : List Frame) → is_in_list K ≡ false → end_list t e K ≡ closed Literal t e K
+outer_list t e (InList s ts ∷ K) h = cc h
+outer_list t e K h = refl
 
 -- a list of one literal is also a block
 pub a_block : (w : List ℕ) (s r : Span) (ts : Nodes) (e : List (List ℕ)) (K : List Frame) → is_one ts ≡ true → feed_of w s (node label.List r ts) e K ≡ go (st Begin e (InOf w s (node label.Reporter r ts) ∷ K))

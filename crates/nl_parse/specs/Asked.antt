@@ -3,12 +3,22 @@ use Rattle.std.specs.Prelude.{ℕ, suc, Bool, true, false, List, ◌∷◌}
 use Rattle.nl_fixed.specs.declared.span.Span.{Span}
 use Rattle.nl_tree.specs.Tree.{Node, node}
 use Rattle.nl_tree.specs.Tokens.{Tok}
-use Rattle.nl_grammar.specs.Machine.{Frame, InNear, InItems, InParen, Shape, Growing, Step, stop, feed_begin}
+use Rattle.nl_grammar.specs.Machine.{Frame, InNear, InList, InItems, InParen, Shape, Growing, Step, stop, feed_begin}
 
 -- a right side is read that others follow
 abbrev pub more_sides : List Frame → Bool
 more_sides (InNear w s ts (suc n) ∷ K) = true
 more_sides K = false
+
+-- a right side is read
+abbrev pub is_at_side : List Frame → Bool
+is_at_side (InNear w s ts n ∷ K) = true
+is_at_side K = false
+
+-- a literal list is read
+abbrev pub is_in_list : List Frame → Bool
+is_in_list (InList s ts ∷ K) = true
+is_in_list K = false
 
 -- parentheses are open
 abbrev pub is_in_paren : List Frame → Bool

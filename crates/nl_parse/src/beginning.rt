@@ -1,5 +1,5 @@
 //! Tokens where an expression begins.
-ghost use Rattle.std.specs.Prelude.{◌≡◌, ◌∷◌, ℕ, List, OnOk, IfOk};
+ghost use Rattle.std.specs.Prelude.{◌≡◌, ◌∷◌, ℕ, List, OnOk};
 ghost use Rattle.std.specs.Result.{IsErrOf};
 ghost use Rattle.nl_tree.specs.Vocabulary.{among};
 ghost use Rattle.nl_grammar.specs.Machine.{go, stop, feed_begin, feed_local, begin_call, begin_many, begin_minus, begin_bracket, end_bracket, end_many, closed, InMany};
@@ -17,7 +17,7 @@ use crate::frames::{Frame, Last, Mode, Shape};
 use crate::marks::{Class, Head, Inputs, Mark};
 use crate::parts::{Grouped, Grown};
 use crate::reader::{Reader, Refusal, refuse};
-use nl_fixed::{NoMemory, Span};
+use nl_fixed::Span;
 use nl_tree::Label;
 
 impl<'a> Reader<'a> {
@@ -98,7 +98,7 @@ impl<'a> Reader<'a> {
         ensures ok { OnOk result (begin_call head.name head.place (needs_of inputs) (names_of self.old) (stack_of self.old) ≡ go (state_of self.new)) }
         ensures fault { IsErrOf result Unexpected → begin_call head.name head.place (needs_of inputs) (names_of self.old) (stack_of self.old) ≡ stop }
     {
-        if self.has_more_sides()? {
+        if self.has_more_sides() {
             return Err(Refusal::Unexpected);
         }
         let none = Grouped::new(self.alloc);
@@ -112,7 +112,7 @@ impl<'a> Reader<'a> {
         ensures ok { OnOk result (begin_many head.name head.place others (names_of self.old) (stack_of self.old) ≡ go (state_of self.new)) }
         ensures fault { IsErrOf result Unexpected → begin_many head.name head.place others (names_of self.old) (stack_of self.old) ≡ stop }
     {
-        if self.has_more_sides()? {
+        if self.has_more_sides() {
             return Err(Refusal::Unexpected);
         }
         let none = Grouped::new(self.alloc);
@@ -121,18 +121,12 @@ impl<'a> Reader<'a> {
     }
 
     // Whether a right side is read that others follow.
-    fn has_more_sides(&mut self) -> Result<bool, NoMemory>
-        ensures more { IfOk result (λ more. more ≡ more_sides (stack_of self.old)) }
-        ensures stack { OnOk result (stack_of self.new ≡ stack_of self.old) }
-        ensures names { OnOk result (names_of self.new ≡ names_of self.old) }
+    fn has_more_sides(&self) -> bool
+        ensures { result ≡ more_sides (stack_of self.now) }
     {
-        match self.take() {
-            Some(frame) => {
-                let more = is_more_sides(&frame);
-                self.put(frame)?;
-                Ok(more)
-            }
-            None => Ok(false),
+        match self.newest() {
+            Some(frame) => is_more_sides(frame),
+            None => false,
         }
     }
 
@@ -154,22 +148,17 @@ impl<'a> Reader<'a> {
     }
 
     // A bracket: a literal list where a right side begins, since that has no block.
+    #[tactic(auto, using(crate::proofs::Stacked::a_list, crate::proofs::Stacked::a_bracket))]
     fn begin_bracket(&mut self, place: Span) -> Result<(), Refusal>
         ensures ok { OnOk result (begin_bracket place (names_of self.old) (stack_of self.old) ≡ go (state_of self.new)) }
         ensures fault { IsErrOf result Unexpected → begin_bracket place (names_of self.old) (stack_of self.old) ≡ stop }
     {
-        match self.take() {
-            Some(Frame::Near(head, sides, others)) => {
-                let none = Grouped::new(self.alloc);
-                self.put(Frame::Near(head, sides, others))?;
-                self.enter(Mode::Listing, Frame::List(place, none))?;
-            }
-            Some(frame) => {
-                self.put(frame)?;
-                self.enter(Mode::Begin, Frame::Bracket(place))?;
-            }
-            None => self.enter(Mode::Begin, Frame::Bracket(place))?,
+        if self.is_at_side() {
+            let none = Grouped::new(self.alloc);
+            self.enter(Mode::Listing, Frame::List(place, none))?;
+            return Ok(());
         }
+        self.enter(Mode::Begin, Frame::Bracket(place))?;
         Ok(())
     }
 

@@ -139,10 +139,7 @@ impl<'a> Reader<'a> {
         if let Err(refusal) = self.read_tokens(text, tokens, declared) {
             return Err(refusal);
         }
-        match self.finish(end, tokens.len()) {
-            Ok(tree) => Ok(tree),
-            Err(refusal) => Err(refusal),
-        }
+        self.finish(end, tokens.len())
     }
 
     // Goes over these tokens of the text.

@@ -70,19 +70,20 @@ impl<'a> Reader<'a> {
         }
     }
 
-    /// Hands a closed to what waits for it.
+    /// Hands what is closed to what waits for it.
+    #[tactic(auto, using(crate::proofs::Stacked::at_hand))]
     pub fn closed(&mut self, shape: Shape, tree: Grown) -> Result<(), NoMemory>
         ensures { OnOk result (state_of self.new ≡ closed (shape_of shape) tree (names_of self.old) (stack_of self.old)) }
     {
+        if !self.is_at_side() {
+            self.turn(Mode::Have(shape, tree));
+            return Ok(());
+        }
         match self.take() {
             Some(Frame::Near(head, sides, others)) => {
                 self.another_side(head, sides, others, shape, tree)
             }
-            Some(frame) => self.enter(Mode::Have(shape, tree), frame),
-            None => {
-                self.turn(Mode::Have(shape, tree));
-                Ok(())
-            }
+            _ => unreachable!(),
         }
     }
 
@@ -225,20 +226,20 @@ impl<'a> Reader<'a> {
     }
 
     /// Hands a literal list to what waits for it.
+    #[tactic(auto, using(crate::proofs::Stacked::outer_list))]
     pub fn end_list(&mut self, tree: Grown) -> Result<(), NoMemory>
         ensures { OnOk result (state_of self.new ≡ end_list tree (names_of self.old) (stack_of self.old)) }
     {
+        if !self.is_in_list() {
+            return self.closed(Shape::Literal, tree);
+        }
         match self.take() {
             Some(Frame::List(bracket, items)) => {
                 let mut items = items;
                 items.add(self.alloc, tree)?;
                 self.enter(Mode::Listing, Frame::List(bracket, items))
             }
-            Some(frame) => {
-                self.put(frame)?;
-                self.closed(Shape::Literal, tree)
-            }
-            None => self.closed(Shape::Literal, tree),
+            _ => unreachable!(),
         }
     }
 }

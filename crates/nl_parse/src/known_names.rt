@@ -12,6 +12,7 @@ use std::marker::Model;
 /// A name is looked for in a set, so that the time doesn't grow with how many there are.
 #[derive(Drop)]
 pub struct KnownNames {
+    // No code reads the list: it is what contracts see. A set has no order, and a ghost field holds facts alone and no list.
     list: Vec<Str>,
     // the same names
     index: HashSet<Vec<u8>>,

@@ -4,7 +4,8 @@ ghost use Rattle.nl_parse.specs.declared.reader.Refusal.TheVariants as Refusal;
 ghost use Rattle.nl_tree.specs.Vocabulary.{among};
 ghost use Rattle.nl_grammar.specs.Machine.{st};
 ghost use Rattle.nl_parse.specs.Reading.{frame_of, mode_of, mode_names, names_with};
-ghost use Rattle.nl_parse.specs.State.{stack_of, names_of, state_of};
+ghost use Rattle.nl_parse.specs.State.{stack_of, names_of, state_of, outer_stack_of, outer_names_of};
+ghost use Rattle.nl_parse.specs.Asked.{is_at_side, is_in_list};
 
 use crate::frames::{Frame, Mode, make_name};
 use crate::known_names::KnownNames;
@@ -87,6 +88,37 @@ impl<'a> Reader<'a> {
         ensures shorter { IfSome result (λ frame. length self.old.stack.items ≡ length self.new.stack.items + 1) }
     {
         self.stack.pop()
+    }
+
+    /// The newest frame, which stays where it is.
+    pub fn newest(&self) -> Option<&Frame>
+        ensures stack { IfSome result (λ frame. stack_of self.now ≡ frame_of (outer_names_of self.now) frame.now ∷ outer_stack_of self.now) }
+        ensures none { IfNone result (stack_of self.now ≡ []) }
+    {
+        match self.stack.as_slice() {
+            [_below @ .., newest] => Some(newest),
+            [] => None,
+        }
+    }
+
+    /// Whether a right side of an operator of level 1 is read, with no other frame between.
+    pub fn is_at_side(&self) -> bool
+        ensures { result ≡ is_at_side (stack_of self.now) }
+    {
+        match self.newest() {
+            Some(Frame::Near(_, _, _)) => true,
+            _ => false,
+        }
+    }
+
+    /// Whether a literal list is read, with no other frame between.
+    pub fn is_in_list(&self) -> bool
+        ensures { result ≡ is_in_list (stack_of self.now) }
+    {
+        match self.newest() {
+            Some(Frame::List(_, _)) => true,
+            _ => false,
+        }
     }
 
     /// Whether the name is that of a local or an input that is known.

@@ -1,5 +1,5 @@
 //! The next token, in each mode.
-ghost use Rattle.std.specs.Prelude.{◌≡◌, ◌∷◌, suc, nat_lt, OnOk, IfOk};
+ghost use Rattle.std.specs.Prelude.{◌≡◌, ◌∷◌, suc, nat_lt, OnOk};
 ghost use Rattle.std.specs.Result.{IsErrOf};
 ghost use Rattle.nl_tree.specs.Grammar.{top};
 ghost use Rattle.nl_grammar.specs.Machine.{InCall, next, without_maybes, st, go, stop, settle, takes_operator, feed_plain, feed_optional, feed_ready, feed_broken, feed_binary, feed_of, feed_have, feed};
@@ -13,7 +13,6 @@ use crate::frames::{Frame, Last, Mode, Shape, TOP, takes_operator};
 use crate::marks::{Block, Class, Head, Inputs, Mark, Need};
 use crate::parts::{Grouped, Grown};
 use crate::reader::{Reader, Refusal, refuse};
-use nl_fixed::NoMemory;
 use nl_tree::Label;
 use std::mem;
 
@@ -186,7 +185,7 @@ impl<'a> Reader<'a> {
             return Err(Refusal::Unexpected);
         }
         let (_, left) = self.settle(level + 1, shape, tree)?;
-        if !self.may_operate()? {
+        if !self.may_operate() {
             return Err(Refusal::Unexpected);
         }
         self.enter(Mode::Begin, Frame::Binary(level + 1, head, left))?;
@@ -194,18 +193,12 @@ impl<'a> Reader<'a> {
     }
 
     // Whether an operator may follow an expression here.
-    fn may_operate(&mut self) -> Result<bool, NoMemory>
-        ensures takes { IfOk result (λ takes. takes ≡ takes_operator (stack_of self.old)) }
-        ensures stack { OnOk result (stack_of self.new ≡ stack_of self.old) }
-        ensures names { OnOk result (names_of self.new ≡ names_of self.old) }
+    fn may_operate(&self) -> bool
+        ensures { result ≡ takes_operator (stack_of self.now) }
     {
-        match self.take() {
-            Some(frame) => {
-                let takes = takes_operator(&frame);
-                self.put(frame)?;
-                Ok(takes)
-            }
-            None => Ok(true),
+        match self.newest() {
+            Some(frame) => takes_operator(frame),
+            None => true,
         }
     }
 

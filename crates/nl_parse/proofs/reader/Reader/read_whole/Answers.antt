@@ -1,4 +1,5 @@
 use Rattle.std.proofs.Common.{◌∙◌, ap, sym}
+use Rattle.std.proofs.lemmas.Result.{IfOk-weaker, IfErr-weaker}
 use Rattle.nl_tree.specs.Vocabulary.{terms}
 use Rattle.nl_tree.specs.Views.{plain}
 use Rattle.nl_grammar.specs.Machine.{go, run_from}
@@ -13,15 +14,14 @@ returns-in-Err-clause-fault c = λ form names q.
     let d = c.args.declared.now in
     refused_within form names (terms d) c.args.text.now c.args.tokens.now c.args.end (state_of c.args.self.now) c.in-Err.refusal (models_have_words d) (models_take_no_commands d) q c.in-Err.ensures.fault
 
-pub returns-in-Ok-clause-ok : goal.returns-in-Ok-clause-ok
-returns-in-Ok-clause-ok c = λ form names q.
+pub returns-clause-ok : goal.returns-clause-ok
+returns-clause-ok c = λ form names q.
     let d = c.args.declared.now in
     let a = toks_of (terms d) c.args.text.now c.args.tokens.now in
-    let r = c.in-Ok.ensures.ok in
-    good_text form names (terms d) c.args.text.now c.args.tokens.now c.args.end (state_of c.read_tokens.new.self) (plain c.in-Ok.tree) r.0 r.1 (ap (λ s. run_from (go s) a) (sym q) ∙ c.in_default.ensures.ok) r.2.0 r.2.1
+    IfOk-weaker c.finish.result _ _ (λ tree r. good_text form names (terms d) c.args.text.now c.args.tokens.now c.args.end (state_of c.read_tokens.new.self) (plain tree) r.0 r.1 (ap (λ s. run_from (go s) a) (sym q) ∙ c.in_default.ensures.ok) r.2.0 r.2.1) c.finish.ensures.ok
 
-pub returns-in-Err-finish-clause-fault : goal.returns-in-Err-finish-clause-fault
-returns-in-Err-finish-clause-fault c = λ form names q.
+pub returns-clause-fault : goal.returns-clause-fault
+returns-clause-fault c = λ form names q.
     let d = c.args.declared.now in
     let a = toks_of (terms d) c.args.text.now c.args.tokens.now in
-    refused_end form names (terms d) c.args.text.now c.args.tokens.now c.args.end (state_of c.read_tokens.new.self) c.in-Err-finish.refusal (models_have_words d) (models_take_no_commands d) (ap (λ s. run_from (go s) a) (sym q) ∙ c.in_default.ensures.ok) c.in_default.ensures.allowed c.in-Err-finish.ensures.fault
+    IfErr-weaker c.finish.result _ _ (λ refusal stops. refused_end form names (terms d) c.args.text.now c.args.tokens.now c.args.end (state_of c.read_tokens.new.self) refusal (models_have_words d) (models_take_no_commands d) (ap (λ s. run_from (go s) a) (sym q) ∙ c.in_default.ensures.ok) c.in_default.ensures.allowed stops) c.finish.ensures.fault
