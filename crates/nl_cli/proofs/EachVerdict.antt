@@ -28,7 +28,6 @@ use Rattle.nl_decl.proofs.Begins.{bad_end}
 use Rattle.nl_decl.proofs.Lawful.{are_taken, or_place}
 use Rattle.nl_grammar.proofs.Ends.{texts_are_good_or_faulty}
 use Rattle.nl_grammar.proofs.Good.{models_have_words}
-use Rattle.nl_grammar.proofs.Reporters.{models_take_no_commands}
 use Rattle.nl_parse.specs.Outcome.{kind_of}
 use Rattle.nl_parse.specs.declared.body.BodyKind.{BodyKind}
 use Rattle.nl_check.specs.Faults.{fault_of}
@@ -97,7 +96,7 @@ kind_for TooDeep = (BodyKind.TooDeep, refl)
 module _ (text : List ℕ) (tokens : List Token) (d : Declared) where
   body_or_fault : (p : Procedure) → ((tree : Node) × IsBody text tokens (terms d) p tree) ⊎ ((kind : BodyKind) × (place : ℕ) × IsFaultOfBody text tokens (terms d) p kind place)
   body_or_fault p =
-      elim (texts_are_good_or_faulty form.Commands p.inputs (terms d) (plain_tokens text (body_of tokens p)) (span_by (slice_get tokens p.after)) (models_have_words d) (models_take_no_commands d)) [
+      elim (texts_are_good_or_faulty form.Commands p.inputs (terms d) (plain_tokens text (body_of tokens p)) (span_by (slice_get tokens p.after)) (models_have_words d)) [
         | inl good ↦ inl good
         | inr (k, kind, fault) ↦
             let (told, same) = kind_for kind in

@@ -12,7 +12,7 @@ use Rattle.nl_tree.specs.BodyFault.{IsReadable, IsGood, IsFaultPlace, IsOfKind, 
 use Rattle.nl_grammar.specs.Machine.{Frame, InCall, InParen, InMinus, InReporter, InBracket, InList, InStatementParen, InStatements, Shape, Literal, Growing, Fixed, Begin, Opening, Optional, Choosing, Have, Blocked, Shut, Listing, Stating, Naming, Ended, Over, Dead, State, st, Step, go, stop, Got, got, next, accept, settle, feed_begin, feed_bracket, feed_paren, feed_shut, feed_plain, without_maybes, feed_ready, feed_broken, feed, run, start}
 use Rattle.nl_grammar.specs.Depth.{least_depth}
 use Rattle.nl_grammar.specs.Completion.{HasWords}
-use Rattle.nl_grammar.specs.Fault.{reading_to, kind_at, ReportersTakeNoCommands}
+use Rattle.nl_grammar.specs.Fault.{reading_to, kind_at}
 use Rattle.nl_grammar.specs.Laws.{TextsAreGoodOrFaulty, FaultsAreUnique, GoodHasNoFault}
 use Rattle.nl_grammar.proofs.Taken.{taken_text}
 use Rattle.nl_grammar.proofs.Place.{next_token}
@@ -119,7 +119,7 @@ take_all [] (suc k) h = refl
 take_all (x ∷ a) zero h = absurd (omega (arith, h))
 take_all (x ∷ a) (suc k) h = ap (λ c. x ∷ c) (take_all a k (omega (arith, h)))
 
-module _ (form : Form) (names : List (List ℕ)) (table : List Term) (ts : List Token) (sp : Span) (has : HasWords table) (plain : ReportersTakeNoCommands table) where
+module _ (form : Form) (names : List (List ℕ)) (table : List Term) (ts : List Token) (sp : Span) (has : HasWords table) where
   all : List Token
   all = ts ++ ends_at sp ∷ []
 
@@ -129,10 +129,10 @@ module _ (form : Form) (names : List (List ℕ)) (table : List Term) (ts : List 
   -- the token at a place, with which the state goes on or not
   module _ (k : ℕ) (s : State) (inside : k < length (ts ++ ends_at sp ∷ [])) (reached : reading_to form names table (ts ++ ends_at sp ∷ []) k ≡ go s) (low : least_depth s ≤ deepest) where
     stopped : (t : Token) → slice_get (ts ++ ends_at sp ∷ []) k ≡ Some t → feed s (mark table t) ≡ stop → Outcome
-    stopped t there q = inr (k, kind_at s (mark table t), (faults_are_told form names table (ts ++ ends_at sp ∷ []) k s t has plain inside reached low there).0 q)
+    stopped t there q = inr (k, kind_at s (mark table t), (faults_are_told form names table (ts ++ ends_at sp ∷ []) k s t has inside reached low there).0 q)
 
     deep : (t : Token) (z : State) → slice_get (ts ++ ends_at sp ∷ []) k ≡ Some t → feed s (mark table t) ≡ go z → deepest < least_depth z → Outcome
-    deep t z there q h = inr (k, TooDeep, (faults_are_told form names table (ts ++ ends_at sp ∷ []) k s t has plain inside reached low there).1 z q h)
+    deep t z there q h = inr (k, TooDeep, (faults_are_told form names table (ts ++ ends_at sp ∷ []) k s t has inside reached low there).1 z q h)
 
     on : (t : Token) → slice_get (ts ++ ends_at sp ∷ []) k ≡ Some t → ((z : State) → feed s (mark table t) ≡ go z → least_depth z ≤ deepest → Outcome) → Outcome
     on t there f = at (feed s (mark table t)) refl
@@ -165,8 +165,8 @@ length-end [] x = refl
 length-end (t ∷ ts) x = ap suc (length-end ts x)
 
 pub texts_are_good_or_faulty : TextsAreGoodOrFaulty
-texts_are_good_or_faulty form names table ts sp has plain =
-    outcome form names table ts sp has plain (length ts) 0 (start form names (span_of_first (marked table (ts ++ ends_at sp ∷ [])))) (omega (arith, length-end ts (ends_at sp))) refl (start_depth form names (span_of_first (marked table (ts ++ ends_at sp ∷ []))))
+texts_are_good_or_faulty form names table ts sp has =
+    outcome form names table ts sp has (length ts) 0 (start form names (span_of_first (marked table (ts ++ ends_at sp ∷ [])))) (omega (arith, length-end ts (ends_at sp))) refl (start_depth form names (span_of_first (marked table (ts ++ ends_at sp ∷ []))))
 
 all_left : (ts : List Token) (n : ℕ) → All IsToken ts → All IsToken (drop n ts)
 all_left ts zero h = h

@@ -203,8 +203,8 @@ module _ (form : Form) (names : List (List ℕ)) (table : List Term) (t : Token)
   told End sp q = other End sp refl q
 
 pub faults_are_told : FaultsAreTold
-faults_are_told form names table [] k s t has plain l q h there = absurd (omega (arith, l))
-faults_are_told form names table (t0 ∷ ts) k s t has plain l q h there =
+faults_are_told form names table [] k s t has l q h there = absurd (omega (arith, l))
+faults_are_told form names table (t0 ∷ ts) k s t has l q h there =
     let fed : reading_to form names table (t0 ∷ ts) (suc k) ≡ feed s (mark table t) = next_token form names table (t0 ∷ ts) k s t q there in (
       (λ r. (stop_place form names table t0 ts has k s l q h (fed ∙ r), told form names table t0 ts k s has q (stops form names table t0 ts has k (fed ∙ r)) t.lexeme t.span there)),
       (λ z r d. deep_place form names table t0 ts has k s z l q h (fed ∙ r) d),

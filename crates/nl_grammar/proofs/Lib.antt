@@ -9,7 +9,6 @@ pub mod Live
 pub mod MachineExamples
 pub mod Over
 pub mod Place
-pub mod Reporters
 pub mod Sees
 pub mod Sound
 pub mod Stack

@@ -1,10 +1,9 @@
 -- Where the machine stops, and why.
-use Rattle.std.specs.Prelude.{ℕ, Bool, true, false, not, List, ◌∷◌, take, IsTrue}
-use Rattle.std.specs.List.{list_any}
+use Rattle.std.specs.Prelude.{ℕ, Bool, true, false, List, ◌∷◌, take}
 use Rattle.nl_tree.specs.declared.declared.Form.{Form}
 use Rattle.nl_tree.specs.Term.{Term}
-use Rattle.nl_tree.specs.Vocabulary.{among, term_named}
-use Rattle.nl_tree.specs.Tokens.{CommandsBlock, ReporterBlock, Need, Item, Whole, Within, Maybe, Variable, Class, Prefix, Closing, Unknown, Tok, word, Token, class_of, marked}
+use Rattle.nl_tree.specs.Vocabulary.{among}
+use Rattle.nl_tree.specs.Tokens.{Unknown, Tok, word, Token, marked}
 use Rattle.nl_tree.specs.Grammar.{top, span_of_first}
 use Rattle.nl_tree.specs.BodyFault.{TextFault, UnknownName, Unexpected}
 use Rattle.nl_grammar.specs.Machine.{InLet, Have, State, st, Step, Got, got, settle, run, start}
@@ -31,22 +30,3 @@ unknown_kind false = UnknownName
 abbrev pub kind_at : State → Tok → TextFault
 kind_at s (word w Unknown r) = unknown_kind (among w (known s))
 kind_at s tok = Unexpected
-
--- Whether a word that is no command takes a block of commands. In this language none does.
-
-abbrev pub takes_commands : Need → Bool
-takes_commands Item = false
-takes_commands Whole = false
-takes_commands (Within CommandsBlock) = true
-takes_commands (Within ReporterBlock) = false
-takes_commands Maybe = true
-takes_commands Variable = false
-
-abbrev pub is_expression : Class → Bool
-is_expression (Prefix is) = not (list_any takes_commands is)
-is_expression (Closing is CommandsBlock) = false
-is_expression (Closing is ReporterBlock) = not (list_any takes_commands is)
-is_expression c = true
-
-abbrev pub ReportersTakeNoCommands : List Term → Type 0
-ReportersTakeNoCommands table = (name : List ℕ) → IsTrue (is_expression (class_of (term_named table name)))

@@ -1,6 +1,6 @@
 -- What holds of the grammar, whatever names are known. Four laws hold whatever the table of words is: trees are unique, texts are taken, a
--- good text has no fault, and there is one first fault. The others are for tables that have the words of which completions are made, and
--- those that tell a first fault also for tables in which only commands take blocks of commands. The table of every model is such a one.
+-- good text has no fault, and there is one first fault. The others are for tables that have the words of which completions are made. The
+-- table of every model is such a one.
 use Rattle.std.specs.Prelude.{◌≡◌, ◌↔◌, ◌≤◌, ◌<◌, ◌⊎◌, ℕ, List, [], ◌∷◌, ◌++◌, All, Some, length, slice_get}
 use Rattle.nl_fixed.specs.declared.span.Span.{Span}
 use Rattle.nl_tree.specs.declared.declared.Declared.{Declared}
@@ -13,7 +13,7 @@ use Rattle.nl_tree.specs.BodyFault.{IsReadable, IsGood, BeginsReadable, BeginsGo
 use Rattle.nl_grammar.specs.Machine.{State, st, Over, go, stop, feed}
 use Rattle.nl_grammar.specs.Depth.{least_depth}
 use Rattle.nl_grammar.specs.Completion.{HasWords, reading, completion}
-use Rattle.nl_grammar.specs.Fault.{ReportersTakeNoCommands, kind_at, reading_to}
+use Rattle.nl_grammar.specs.Fault.{kind_at, reading_to}
 
 -- tokens have one tree at most
 abbrev pub TreesAreUnique : Type 0
@@ -47,19 +47,15 @@ ModelsHaveWords = (d : Declared) → HasWords (terms d)
 -- unknown name where the machine stops at a word that has no row and that the state doesn't know.
 abbrev pub FaultsAreTold : Type 0
 FaultsAreTold =
-    (form : Form) (names : List (List ℕ)) (table : List Term) (ts : List Token) (k : ℕ) (s : State) (t : Token) → HasWords table → ReportersTakeNoCommands table →
+    (form : Form) (names : List (List ℕ)) (table : List Term) (ts : List Token) (k : ℕ) (s : State) (t : Token) → HasWords table →
     k < length ts → reading_to form names table ts k ≡ go s → least_depth s ≤ deepest → slice_get ts k ≡ Some t →
     (feed s (mark table t) ≡ stop → IsTextFault form names table ts k (kind_at s (mark table t)))
     × ((z : State) → feed s (mark table t) ≡ go z → deepest < least_depth z → IsTextFault form names table ts k TooDeep)
 
--- in every model only commands take blocks of commands
-abbrev pub ModelsTakeNoCommands : Type 0
-ModelsTakeNoCommands = (d : Declared) → ReportersTakeNoCommands (terms d)
-
 -- tokens and what ends them are a good text or have a fault
 abbrev pub TextsAreGoodOrFaulty : Type 0
 TextsAreGoodOrFaulty =
-    (form : Form) (names : List (List ℕ)) (table : List Term) (ts : List Token) (s : Span) → HasWords table → ReportersTakeNoCommands table →
+    (form : Form) (names : List (List ℕ)) (table : List Term) (ts : List Token) (s : Span) → HasWords table →
     ((t : Node) × IsGood form names table (ts ++ ends_at s ∷ []) t) ⊎ ((k : ℕ) × (kind : TextFault) × IsTextFault form names table (ts ++ ends_at s ∷ []) k kind)
 
 -- but not both

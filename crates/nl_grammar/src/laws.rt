@@ -1,5 +1,5 @@
 //! What the grammar means. These functions do nothing: the contract of each is a law.
-ghost use Rattle.nl_grammar.specs.Laws.{BeginningsAreTaken, CompletionsAreLeast, FaultsAreTold, FaultsAreUnique, GoodHasNoFault, ModelsHaveWords, ModelsTakeNoCommands, TextsAreGoodOrFaulty, TextsAreTaken, TreesAreUnique};
+ghost use Rattle.nl_grammar.specs.Laws.{BeginningsAreTaken, CompletionsAreLeast, FaultsAreTold, FaultsAreUnique, GoodHasNoFault, ModelsHaveWords, TextsAreGoodOrFaulty, TextsAreTaken, TreesAreUnique};
 
 /// Tokens have one tree at most, whatever the table of words is and whatever names are known.
 pub fn trees_are_unique()
@@ -21,10 +21,9 @@ pub fn texts_are_taken()
 {}
 
 /// The first fault of tokens, and its kind, are those of the first token that the machine doesn't go over, or over which it goes to a state
-/// that allows no good text. Only commands take blocks of commands, as it is in every model.
+/// that allows no good text.
 pub fn faults_are_told()
-    ensures faults { FaultsAreTold }
-    ensures words { ModelsTakeNoCommands }
+    ensures { FaultsAreTold }
 {}
 
 /// Tokens and what ends them are a good text or have a first fault, and not both; and a first fault is one place and one kind.

@@ -14,7 +14,7 @@ use Rattle.nl_tree.specs.BodyFault.{IsGood, IsTextFault, ends_at, deepest}
 use Rattle.nl_decl.specs.Texts.{plain_token, plain_tokens}
 use Rattle.nl_grammar.specs.Machine.{State, st, Frame, Over, Step, go, stop, feed, run_from, run, start}
 use Rattle.nl_grammar.specs.Depth.{least_depth}
-use Rattle.nl_grammar.specs.Fault.{ReportersTakeNoCommands, reading_to}
+use Rattle.nl_grammar.specs.Fault.{reading_to}
 use Rattle.nl_grammar.specs.Completion.{HasWords}
 use Rattle.nl_parse.specs.Outcome.{first_span, kind_of, Stops, StopsAt, StopsIn, Refuses}
 use Rattle.nl_parse.specs.declared.body.BodyKind.{BodyKind}
@@ -108,10 +108,10 @@ good_text f names table text ts e s t known K q r h =
     (taken_text f names known K (marked table (whole text ts e)) t all, h)
 
 -- what stops at a token of the whole text
-refused_by : (f : Form) (names : List (List ℕ)) (table : List Term) (w : List plain.Token) (k : ℕ) (z : State) (t : plain.Token) (kind : BodyKind) → HasWords table → ReportersTakeNoCommands table → k < length w → reading_to f names table w k ≡ go z → least_depth z ≤ deepest → slice_get w k ≡ Some t → Stops z (mark table t) (kind_of kind) → IsTextFault f names table w k (kind_of kind)
-refused_by f names table w k z t BodyKind.TooDeep words few within q small at (y, (go_y, deep)) = (faults_are_told f names table w k z t words few within q small at).1 y go_y deep
-refused_by f names table w k z t BodyKind.UnknownName words few within q small at (stops, kind) = subst (IsTextFault f names table w k) kind ((faults_are_told f names table w k z t words few within q small at).0 stops)
-refused_by f names table w k z t BodyKind.Unexpected words few within q small at (stops, kind) = subst (IsTextFault f names table w k) kind ((faults_are_told f names table w k z t words few within q small at).0 stops)
+refused_by : (f : Form) (names : List (List ℕ)) (table : List Term) (w : List plain.Token) (k : ℕ) (z : State) (t : plain.Token) (kind : BodyKind) → HasWords table → k < length w → reading_to f names table w k ≡ go z → least_depth z ≤ deepest → slice_get w k ≡ Some t → Stops z (mark table t) (kind_of kind) → IsTextFault f names table w k (kind_of kind)
+refused_by f names table w k z t BodyKind.TooDeep words within q small at (y, (go_y, deep)) = (faults_are_told f names table w k z t words within q small at).1 y go_y deep
+refused_by f names table w k z t BodyKind.UnknownName words within q small at (stops, kind) = subst (IsTextFault f names table w k) kind ((faults_are_told f names table w k z t words within q small at).0 stops)
+refused_by f names table w k z t BodyKind.Unexpected words within q small at (stops, kind) = subst (IsTextFault f names table w k) kind ((faults_are_told f names table w k z t words within q small at).0 stops)
 
 token_within : (text : List ℕ) (ts : List Token) (e : Span) (k : ℕ) (t : Token) → slice_get ts k ≡ Some t → (slice_get (whole text ts e) k ≡ Some (plain_token text t)) × (k < length ts) × (k < length (whole text ts e))
 token_within text [] e zero t h = cc h
@@ -123,18 +123,18 @@ token_end : (text : List ℕ) (ts : List Token) (e : Span) → (slice_get (whole
 token_end text [] e = (refl, omega arith)
 token_end text (t ∷ ts) e = let (at, within) = token_end text ts e in (at, omega (arith, within))
 
-pub refused_within : (f : Form) (names : List (List ℕ)) (table : List Term) (text : List ℕ) (ts : List Token) (e : Span) (s : State) (r : BodyRefusal) → HasWords table → ReportersTakeNoCommands table → s ≡ start f names (first_span ts e) → StopsIn table text s ts r → Refuses f names table (whole text ts e) r
-refused_within f names table text ts e s BodyRefusal.NoMemory words few q h = tt
-refused_within f names table text ts e s (BodyRefusal.Fault kind k) words few q (z, t, (at, run_z, small, stops)) =
+pub refused_within : (f : Form) (names : List (List ℕ)) (table : List Term) (text : List ℕ) (ts : List Token) (e : Span) (s : State) (r : BodyRefusal) → HasWords table → s ≡ start f names (first_span ts e) → StopsIn table text s ts r → Refuses f names table (whole text ts e) r
+refused_within f names table text ts e s BodyRefusal.NoMemory words q h = tt
+refused_within f names table text ts e s (BodyRefusal.Fault kind k) words q (z, t, (at, run_z, small, stops)) =
     let (there, before, within) = token_within text ts e k t at in
     let here : reading_to f names table (whole text ts e) k ≡ go z = reading_within f names table text ts e k (omega (arith, before)) ∙ ap (λ y. run_from (go y) (take k (toks_of table text ts))) (sym q) ∙ run_z in
-    refused_by f names table (whole text ts e) k z (plain_token text t) kind words few within here small there stops
+    refused_by f names table (whole text ts e) k z (plain_token text t) kind words within here small there stops
 
 -- and at what ends it
-pub refused_end : (f : Form) (names : List (List ℕ)) (table : List Term) (text : List ℕ) (ts : List Token) (e : Span) (s : State) (r : BodyRefusal) → HasWords table → ReportersTakeNoCommands table → run_from (go (start f names (first_span ts e))) (toks_of table text ts) ≡ go s → least_depth s ≤ deepest → StopsAt s (end e) (length ts) r → Refuses f names table (whole text ts e) r
-refused_end f names table text ts e s BodyRefusal.NoMemory words few q small h = tt
-refused_end f names table text ts e s (BodyRefusal.Fault kind k) words few q small (at, stops) =
+pub refused_end : (f : Form) (names : List (List ℕ)) (table : List Term) (text : List ℕ) (ts : List Token) (e : Span) (s : State) (r : BodyRefusal) → HasWords table → run_from (go (start f names (first_span ts e))) (toks_of table text ts) ≡ go s → least_depth s ≤ deepest → StopsAt s (end e) (length ts) r → Refuses f names table (whole text ts e) r
+refused_end f names table text ts e s BodyRefusal.NoMemory words q small h = tt
+refused_end f names table text ts e s (BodyRefusal.Fault kind k) words q small (at, stops) =
     let z = start f names (first_span ts e) in
     let (there, within) = token_end text ts e in
     let here : reading_to f names table (whole text ts e) (length ts) ≡ go s = reading_within f names table text ts e (length ts) (omega arith) ∙ ap (run_from (go z)) (all_toks table text ts (length ts) (omega arith)) ∙ q in
-    subst (λ n. IsTextFault f names table (whole text ts e) n (kind_of kind)) (sym at) (refused_by f names table (whole text ts e) (length ts) s (ends_at e) kind words few within here small there stops)
+    subst (λ n. IsTextFault f names table (whole text ts e) n (kind_of kind)) (sym at) (refused_by f names table (whole text ts e) (length ts) s (ends_at e) kind words within here small there stops)
