@@ -1,3 +1,4 @@
+pub mod Nouns
 pub mod NumberLaws
 pub mod Numbers
 pub mod Sines
