@@ -4,9 +4,16 @@ use Rattle.nl_fixed.specs.declared.span.Span.{Span}
 use Rattle.nl_tree.specs.declared.declared.Form.{Form}
 use Rattle.nl_tree.specs.Term.{Term}
 use Rattle.nl_tree.specs.Vocabulary.{term_named}
-use Rattle.nl_tree.specs.Tokens.{Lexeme, Word, Open, Close, CloseParen, End, Token, Block, CommandsBlock, ReporterBlock, Need, Item, Whole, Within, Maybe, Variable, Constant, Named, Command, Of, class_of, marked}
-use Rattle.nl_tree.specs.Grammar.{AtBracket, AtEnd, span_of_first}
-use Rattle.nl_grammar.specs.Machine.{Last, ThenItem, ThenBlock, ThenNothing, Frame, InBinary, InWith, InNear, InOf, InCall, InLastItem, InLastBlock, InMany, InItems, InParen, InMinus, InReporter, InBracket, InList, InLet, InStatementParen, InStatements, Begin, Opening, Optional, Choosing, Have, Blocked, Shut, Listing, Stating, Naming, Ended, Over, Dead, State, st, Step, go, stop, run, start}
+use Rattle.nl_tree.specs.Tokens.{Lexeme, Word, Open, Close, CloseParen, End, Token, Constant, Named, Command, Of, class_of, marked}
+use Rattle.nl_tree.specs.declared.needs.Block.{Block}
+use Rattle.nl_tree.specs.declared.needs.Block.TheVariants as blocks
+use Rattle.nl_tree.specs.declared.needs.Need.{Need}
+use Rattle.nl_tree.specs.declared.needs.Need.TheVariants.{Item, Whole, Within, Maybe, Variable}
+use Rattle.nl_tree.specs.Grammar.{span_of_first}
+use Rattle.nl_tree.specs.declared.needs.Ending.TheVariants.{AtBracket, AtEnd}
+use Rattle.nl_grammar.specs.Machine.{Frame, InBinary, InWith, InNear, InOf, InCall, InLastItem, InLastBlock, InMany, InItems, InParen, InMinus, InReporter, InBracket, InList, InLet, InStatementParen, InStatements, Begin, Opening, Optional, Choosing, Have, Blocked, Shut, Listing, Stating, Naming, Ended, Over, Dead, State, st, Step, go, stop, run, start}
+use Rattle.nl_grammar.specs.declared.pending.Last.{Last}
+use Rattle.nl_grammar.specs.declared.pending.Last.TheVariants as lasts
 use Rattle.nl_grammar.specs.Depth.{is_literal}
 
 -- What may be missing.
@@ -23,13 +30,13 @@ pub data Piece : Type 0 where
 
 -- a block with nothing in it, or with a value
 abbrev pub block_pieces : Block → List Piece
-block_pieces CommandsBlock = ABracket ∷ ItsBracket ∷ []
-block_pieces ReporterBlock = ABracket ∷ AValue ∷ ItsBracket ∷ []
+block_pieces blocks.Commands = ABracket ∷ ItsBracket ∷ []
+block_pieces blocks.Reporter = ABracket ∷ AValue ∷ ItsBracket ∷ []
 
 abbrev pub last_pieces : Last → List Piece
-last_pieces ThenItem = AValue ∷ []
-last_pieces (ThenBlock b) = block_pieces b
-last_pieces ThenNothing = []
+last_pieces lasts.Item = AValue ∷ []
+last_pieces (lasts.Block b) = block_pieces b
+last_pieces lasts.Nothing = []
 
 -- whether a block must come, perhaps behind some that may be missing
 abbrev pub needs_bracket : List Need → Last → Bool
@@ -38,13 +45,13 @@ needs_bracket (Whole ∷ is) last = false
 needs_bracket (Within b ∷ is) last = true
 needs_bracket (Maybe ∷ is) last = needs_bracket is last
 needs_bracket (Variable ∷ is) last = false
-needs_bracket [] ThenItem = false
-needs_bracket [] (ThenBlock b) = true
-needs_bracket [] ThenNothing = false
+needs_bracket [] lasts.Item = false
+needs_bracket [] (lasts.Block b) = true
+needs_bracket [] lasts.Nothing = false
 
 -- A block that may be missing is missing, but not before one that must come: the first bracket is its own.
 abbrev pub maybe_pieces : Bool → List Piece
-maybe_pieces true = block_pieces CommandsBlock
+maybe_pieces true = block_pieces blocks.Commands
 maybe_pieces false = []
 
 -- inputs and what follows them

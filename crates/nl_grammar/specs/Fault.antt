@@ -5,7 +5,8 @@ use Rattle.nl_tree.specs.Term.{Term}
 use Rattle.nl_tree.specs.Vocabulary.{among}
 use Rattle.nl_tree.specs.Tokens.{Unknown, Tok, word, Token, marked}
 use Rattle.nl_tree.specs.Grammar.{top, span_of_first}
-use Rattle.nl_tree.specs.BodyFault.{TextFault, UnknownName, Unexpected}
+use Rattle.nl_tree.specs.declared.faults.BodyKind.{BodyKind}
+use Rattle.nl_tree.specs.declared.faults.BodyKind.TheVariants.{UnknownName, Unexpected}
 use Rattle.nl_grammar.specs.Machine.{InLet, Have, State, st, Step, Got, got, settle, run, start}
 
 -- the step to which the first `k` of the tokens lead
@@ -22,11 +23,11 @@ abbrev pub known : State → List (List ℕ)
 known (st (Have x t) e K) = known_got e (settle top x t K)
 known (st m e K) = e
 
-abbrev pub unknown_kind : Bool → TextFault
+abbrev pub unknown_kind : Bool → BodyKind
 unknown_kind true = Unexpected
 unknown_kind false = UnknownName
 
 -- why a token can't follow
-abbrev pub kind_at : State → Tok → TextFault
+abbrev pub kind_at : State → Tok → BodyKind
 kind_at s (word w Unknown r) = unknown_kind (among w (known s))
 kind_at s tok = Unexpected

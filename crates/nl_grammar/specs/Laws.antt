@@ -9,7 +9,9 @@ use Rattle.nl_tree.specs.Tree.{Node, depth}
 use Rattle.nl_tree.specs.Term.{Term}
 use Rattle.nl_tree.specs.Vocabulary.{terms}
 use Rattle.nl_tree.specs.Tokens.{Token, IsToken, mark}
-use Rattle.nl_tree.specs.BodyFault.{IsReadable, IsGood, BeginsReadable, BeginsGood, TextFault, IsTextFault, TooDeep, deepest, ends_at}
+use Rattle.nl_tree.specs.BodyFault.{IsReadable, IsGood, BeginsReadable, BeginsGood, IsTextFault, deepest, ends_at}
+use Rattle.nl_tree.specs.declared.faults.BodyKind.{BodyKind}
+use Rattle.nl_tree.specs.declared.faults.BodyKind.TheVariants.{TooDeep}
 use Rattle.nl_grammar.specs.Machine.{State, st, Over, go, stop, feed}
 use Rattle.nl_grammar.specs.Depth.{least_depth}
 use Rattle.nl_grammar.specs.Completion.{HasWords, reading, completion}
@@ -56,16 +58,16 @@ FaultsAreTold =
 abbrev pub TextsAreGoodOrFaulty : Type 0
 TextsAreGoodOrFaulty =
     (form : Form) (names : List (List ℕ)) (table : List Term) (ts : List Token) (s : Span) → HasWords table →
-    ((t : Node) × IsGood form names table (ts ++ ends_at s ∷ []) t) ⊎ ((k : ℕ) × (kind : TextFault) × IsTextFault form names table (ts ++ ends_at s ∷ []) k kind)
+    ((t : Node) × IsGood form names table (ts ++ ends_at s ∷ []) t) ⊎ ((k : ℕ) × (kind : BodyKind) × IsTextFault form names table (ts ++ ends_at s ∷ []) k kind)
 
 -- but not both
 abbrev pub GoodHasNoFault : Type 0
 GoodHasNoFault =
-    (form : Form) (names : List (List ℕ)) (table : List Term) (ts : List Token) (t : Node) (k : ℕ) (kind : TextFault) → All IsToken ts →
+    (form : Form) (names : List (List ℕ)) (table : List Term) (ts : List Token) (t : Node) (k : ℕ) (kind : BodyKind) → All IsToken ts →
     IsGood form names table ts t → IsTextFault form names table ts k kind → ⊥
 
 -- and there is one first fault
 abbrev pub FaultsAreUnique : Type 0
 FaultsAreUnique =
-    (form : Form) (names : List (List ℕ)) (table : List Term) (ts : List Token) (j k : ℕ) (x y : TextFault) →
+    (form : Form) (names : List (List ℕ)) (table : List Term) (ts : List Token) (j k : ℕ) (x y : BodyKind) →
     IsTextFault form names table ts j x → IsTextFault form names table ts k y → (j ≡ k) × (x ≡ y)

@@ -10,14 +10,18 @@ use Rattle.nl_tree.specs.declared.declared.Form.{Form}
 use Rattle.nl_tree.specs.declared.declared.Form.TheVariants as form
 use Rattle.nl_tree.specs.Tree.{Node, node, Nodes, none, more}
 use Rattle.nl_tree.specs.Vocabulary.{among}
-use Rattle.nl_tree.specs.Tokens.{Block, CommandsBlock, ReporterBlock, Need, Item, Whole, Within, Maybe, Variable, Unknown, Constant, Plain, Named, Prefix, Many, Closing, Command, Let, With, Near, Of, Binary, Tok, number, text, word, open_bracket, close_bracket, open_paren, close_paren, end}
-use Rattle.nl_tree.specs.Grammar.{one, two, leaf, and_last, top, Ending, AtBracket, AtEnd}
-
--- what follows the inputs of a call: an item, a block, or nothing more of a command
-pub data Last : Type 0 where
-  ThenItem : Last
-  ThenBlock : Block → Last
-  ThenNothing : Last
+use Rattle.nl_grammar.specs.declared.pending.Last.{Last}
+use Rattle.nl_grammar.specs.declared.pending.Last.TheVariants as lasts
+use Rattle.nl_grammar.specs.declared.pending.Shape.{Shape}
+use Rattle.nl_grammar.specs.declared.pending.Shape.TheVariants.{Literal, Growing, Fixed}
+use Rattle.nl_tree.specs.Tokens.{Unknown, Constant, Plain, Named, Prefix, Many, Closing, Command, Let, With, Near, Of, Binary, Tok, number, text, word, open_bracket, close_bracket, open_paren, close_paren, end}
+use Rattle.nl_tree.specs.declared.needs.Block.{Block}
+use Rattle.nl_tree.specs.declared.needs.Block.TheVariants as blocks
+use Rattle.nl_tree.specs.declared.needs.Need.{Need}
+use Rattle.nl_tree.specs.declared.needs.Need.TheVariants.{Item, Whole, Within, Maybe, Variable}
+use Rattle.nl_tree.specs.Grammar.{one, two, leaf, and_last, top}
+use Rattle.nl_tree.specs.declared.needs.Ending.{Ending}
+use Rattle.nl_tree.specs.declared.needs.Ending.TheVariants.{AtBracket, AtEnd}
 
 -- Something that is open, with what is read of it. A word comes with its place.
 pub data Frame : Type 0 where
@@ -38,12 +42,6 @@ pub data Frame : Type 0 where
   InLet : (word : List ℕ) (place : Span) (name : List ℕ) (there : Span) → Frame
   InStatementParen : (bracket : Span) → Frame
   InStatements : (bracket : Span) (ending : Ending) (before : List (List ℕ)) (statements : Nodes) → Frame  -- with the names that are known outside
-
--- What a tree at hand may also be: an item of a literal list, or a call that more items may follow in parentheses.
-pub data Shape : Type 0 where
-  Literal : Shape
-  Growing : Shape
-  Fixed : Shape
 
 -- what may come next
 pub data Mode : Type 0 where
@@ -92,9 +90,9 @@ end_statement t e [] = st Dead e []
 -- nothing: a call goes on with its next input, or with what follows the inputs
 abbrev pub next : List ℕ → Span → Nodes → List Need → Last → List (List ℕ) → List Frame → State
 next w s ts (i ∷ is) last e K = st (begin_mode i) e (InCall w s ts i is last ∷ K)
-next w s ts [] ThenItem e K = st Begin e (InLastItem w s ts ∷ K)
-next w s ts [] (ThenBlock b) e K = st (Opening b) e (InLastBlock w s ts b ∷ K)
-next w s ts [] ThenNothing e K = end_statement (node (label.Named w) s ts) e K
+next w s ts [] lasts.Item e K = st Begin e (InLastItem w s ts ∷ K)
+next w s ts [] (lasts.Block b) e K = st (Opening b) e (InLastBlock w s ts b ∷ K)
+next w s ts [] lasts.Nothing e K = end_statement (node (label.Named w) s ts) e K
 
 -- a closed
 abbrev pub closed : Shape → Node → List (List ℕ) → List Frame → State
@@ -173,7 +171,7 @@ feed_local false w s e K = stop
 -- of several right sides only the last may be a call with inputs
 abbrev pub begin_call : List ℕ → Span → List Need → List (List ℕ) → List Frame → Step
 begin_call w s is e (InNear v r ts (suc n) ∷ K) = stop
-begin_call w s is e K = go (next w s none is ThenItem e K)
+begin_call w s is e K = go (next w s none is lasts.Item e K)
 
 abbrev pub begin_many : List ℕ → Span → ℕ → List (List ℕ) → List Frame → Step
 begin_many w s n e (InNear v r ts (suc m) ∷ K) = stop
@@ -209,7 +207,7 @@ feed_begin e K (word w Plain s) = go (closed Fixed (leaf (label.Named w) s) e K)
 feed_begin e K (word w Named s) = go (closed Fixed (leaf (label.Named w) s) e K)
 feed_begin e K (word w (Prefix is) s) = begin_call w s is e K
 feed_begin e K (word w (Many n) s) = begin_many w s n e K
-feed_begin e K (word w (Closing is b) s) = go (next w s none is (ThenBlock b) e K)
+feed_begin e K (word w (Closing is b) s) = go (next w s none is (lasts.Block b) e K)
 feed_begin e K (word w (Binary l m) s) = begin_minus m s e K
 feed_begin e K (open_bracket s) = begin_bracket s e K
 feed_begin e K (close_bracket s) = end_bracket e K
@@ -220,8 +218,8 @@ feed_begin e K tok = stop
 -- Steps in the other modes.
 
 abbrev pub feed_opening : Block → List (List ℕ) → List Frame → Tok → Step
-feed_opening CommandsBlock e K (open_bracket s) = go (st Stating e (InStatements s AtBracket e none ∷ K))
-feed_opening ReporterBlock e K (open_bracket s) = go (st Begin e (InReporter s ∷ K))
+feed_opening blocks.Commands e K (open_bracket s) = go (st Stating e (InStatements s AtBracket e none ∷ K))
+feed_opening blocks.Reporter e K (open_bracket s) = go (st Begin e (InReporter s ∷ K))
 feed_opening b e K tok = stop
 
 abbrev pub feed_variable : Bool → List ℕ → Span → List (List ℕ) → List Frame → Step
@@ -293,7 +291,7 @@ feed_ending k s ts before K tok = stop
 
 -- The token begins a statement, on what it is part of.
 abbrev pub feed_statement : List (List ℕ) → List Frame → Tok → Step
-feed_statement e K (word w (Command is) s) = go (next w s none is ThenNothing e K)
+feed_statement e K (word w (Command is) s) = go (next w s none is lasts.Nothing e K)
 feed_statement e K (word w Let s) = go (st (Naming w s) e K)
 feed_statement e K (open_paren s) = go (st Stating e (InStatementParen s ∷ K))
 feed_statement e K tok = stop
@@ -379,7 +377,7 @@ feed_of w s (node label.List r (more t none)) e K = go (st Begin e (InOf w s (no
 feed_of w s t e K = stop
 
 abbrev pub feed_have : Shape → Node → List (List ℕ) → List Frame → Tok → Step
-feed_have x t e K (word w With s) = go (st (Opening ReporterBlock) e (InWith w s t ∷ K))
+feed_have x t e K (word w With s) = go (st (Opening blocks.Reporter) e (InWith w s t ∷ K))
 feed_have x t e K (word w (Near n) s) = go (st Begin e (InNear w s (one t) n ∷ K))
 feed_have x t e K (word w Of s) = feed_of w s t e K
 feed_have x t e K (word w (Binary l m) s) = feed_binary (nat_lt l top) l w s e (settle (suc l) x t K)

@@ -3,4 +3,5 @@ pub mod Contents
 pub mod Cuts
 pub mod Forms
 pub mod Place
+pub mod Texts
 pub mod Tokens

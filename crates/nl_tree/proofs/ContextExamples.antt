@@ -14,7 +14,8 @@ use Rattle.nl_tree.specs.Tree.{Node, node, none}
 use Rattle.nl_tree.specs.Term.{Term}
 use Rattle.nl_tree.specs.Vocabulary.{terms, term_named}
 use Rattle.nl_tree.specs.Grammar.{one, two}
-use Rattle.nl_tree.specs.Context.{Kind, Observer, Turtle, Patch, Link, allows, given, Use, uses, Run, Set, Spread, words_at, Leads, at_word, by_call, Bars, IsWrongContext, IsRight, IsFaultAt, IsFirstFault, IsRightText, WrongContext, NotSettable, NoReport, is_not_settable, has_no_report, AreLeft}
+use Rattle.nl_tree.specs.Context.{Kind, Observer, Turtle, Patch, Link, allows, given, Use, uses, Run, Set, Spread, words_at, Leads, at_word, by_call, Bars, IsWrongContext, IsRight, IsFaultAt, IsFirstFault, IsRightText, is_not_settable, has_no_report, AreLeft}
+use Rattle.nl_tree.specs.declared.faults.CheckKind.TheVariants.{WrongContext, NotSettable, NoReport}
 use Rattle.nl_tree.proofs.GrammarExamples.{bare, at, num, named}
 
 -- A test: the words have no row, or one that the kind may run and that calls no procedure. Then none of them bars the kind.

@@ -3,6 +3,8 @@
 use Rattle.std.specs.Prelude.{◌≡◌, ℕ, ◌+◌, ◌<◌, ◌≤◌, IsTrue, List, [], ◌∷◌, ◌++◌, Some, None, length, take, slice_get, All}
 use Rattle.nl_fixed.specs.declared.span.Span.{Span}
 use Rattle.nl_tree.specs.declared.declared.Form.{Form}
+use Rattle.nl_tree.specs.declared.faults.BodyKind.{BodyKind}
+use Rattle.nl_tree.specs.declared.faults.BodyKind.TheVariants.{UnknownName, Unexpected, TooDeep}
 use Rattle.nl_tree.specs.Tree.{Node, depth}
 use Rattle.nl_tree.specs.Term.{Term}
 use Rattle.nl_tree.specs.Vocabulary.{term_named}
@@ -52,16 +54,11 @@ IsFaultPlace form names table ts k =
     × ((j : ℕ) → j < k → BeginsGood form names table (take (j + 1) ts))
     × (BeginsGood form names table (take (k + 1) ts) → ⊥)
 
-pub data TextFault : Type 0 where
-  UnknownName : TextFault
-  Unexpected : TextFault
-  TooDeep : TextFault
-
 -- too deep where they could still be read, else a name that is unknown, else anything else
-abbrev pub IsOfKind : Form → List (List ℕ) → List Term → List Token → ℕ → TextFault → Type 0
+abbrev pub IsOfKind : Form → List (List ℕ) → List Term → List Token → ℕ → BodyKind → Type 0
 IsOfKind form names table ts k TooDeep = BeginsReadable form names table (take (k + 1) ts)
 IsOfKind form names table ts k UnknownName = (BeginsReadable form names table (take (k + 1) ts) → ⊥) × IsUnknown form names table ts k
 IsOfKind form names table ts k Unexpected = (BeginsReadable form names table (take (k + 1) ts) → ⊥) × (IsUnknown form names table ts k → ⊥)
 
-abbrev pub IsTextFault : Form → List (List ℕ) → List Term → List Token → ℕ → TextFault → Type 0
+abbrev pub IsTextFault : Form → List (List ℕ) → List Term → List Token → ℕ → BodyKind → Type 0
 IsTextFault form names table ts k kind = IsFaultPlace form names table ts k × IsOfKind form names table ts k kind

@@ -21,7 +21,8 @@ use Rattle.nl_tree.specs.Names.{IsDeclared}
 use Rattle.nl_tree.specs.Term.{Term}
 use Rattle.nl_tree.specs.Vocabulary.{terms, whats, global_names, owned_names}
 use Rattle.nl_tree.specs.BodyFault.{Fits}
-use Rattle.nl_tree.specs.Context.{ContextFault, uses, IsFirstFault, IsRightBody, AreLeft}
+use Rattle.nl_tree.specs.Context.{uses, IsFirstFault, IsRightBody, AreLeft}
+use Rattle.nl_tree.specs.declared.faults.CheckKind.{CheckKind}
 
 -- a program without where it lies in memory
 pub record Checked : Type 0 where
@@ -42,14 +43,14 @@ abbrev pub BodiesAreRight : Declared → List Node → Type 0
 BodiesAreRight d bodies = (i : ℕ) (p : Procedure) (t : Node) → slice_get d.procedures i ≡ Some p → slice_get bodies i ≡ Some t → IsRightBody (terms d) bodies p.reporter t
 
 -- the first fault of a model's bodies: the first body by the order of the text that has one, and its first
-abbrev pub IsModelFault : Declared → List Node → ℕ → ContextFault → Span → Type 0
+abbrev pub IsModelFault : Declared → List Node → ℕ → CheckKind → Span → Type 0
 IsModelFault d bodies i fault place =
     (p : Procedure) × (t : Node)
     × ((slice_get d.procedures i ≡ Some p) × (slice_get bodies i ≡ Some t) × IsFirstFault (terms d) bodies p.reporter (uses (terms d) everyone t) fault place
     × ((j : ℕ) (q : Procedure) (u : Node) → j < i → slice_get d.procedures j ≡ Some q → slice_get bodies j ≡ Some u → IsRightBody (terms d) bodies q.reporter u))
 
 -- the first fault of a lone text that the observer runs
-abbrev pub IsLoneFault : Declared → List Node → Node → ContextFault → Span → Type 0
+abbrev pub IsLoneFault : Declared → List Node → Node → CheckKind → Span → Type 0
 IsLoneFault d bodies t fault place = IsFirstFault (terms d) bodies false (uses (terms d) observers t) fault place
 
 -- each entry has the kinds that are left at the last word of its body

@@ -16,6 +16,8 @@ use Rattle.nl_tree.specs.declared.tree.Label.{Label}
 use Rattle.nl_tree.specs.declared.tree.Label.TheVariants as label
 use Rattle.nl_tree.specs.declared.declared.What.{What}
 use Rattle.nl_tree.specs.declared.declared.What.TheVariants as what
+use Rattle.nl_tree.specs.declared.faults.CheckKind.{CheckKind}
+use Rattle.nl_tree.specs.declared.faults.CheckKind.TheVariants.{WrongContext, NotSettable, NoReport}
 use Rattle.nl_tree.specs.Tree.{Node, node, Nodes, none, more}
 use Rattle.nl_tree.specs.Term.{Term}
 use Rattle.nl_tree.specs.Vocabulary.{among, term_named}
@@ -333,23 +335,18 @@ is_not_settable table Spread w = is_fixed w || not (is_on_patches (term_named ta
 abbrev pub has_no_report : Bool → Bool → List ℕ → Bool
 has_no_report reporter in_block w = bytes_eq w (codes "report") && (not reporter || in_block) || bytes_eq w (codes "stop") && reporter && not in_block
 
-pub data ContextFault : Type 0 where
-  WrongContext : ContextFault
-  NotSettable : ContextFault
-  NoReport : ContextFault
-
 -- the fault at one word; the text stands in a reporter procedure or not
-abbrev pub IsFaultAt : List Term → List Node → Bool → Use → ContextFault → Type 0
+abbrev pub IsFaultAt : List Term → List Node → Bool → Use → CheckKind → Type 0
 IsFaultAt table bodies reporter u WrongContext = IsWrongContext table bodies u
 IsFaultAt table bodies reporter u NotSettable = (IsWrongContext table bodies u → ⊥) × IsTrue (is_not_settable table u.manner u.name)
 IsFaultAt table bodies reporter u NoReport =
     (IsWrongContext table bodies u → ⊥) × IsTrue (not (is_not_settable table u.manner u.name)) × IsTrue (has_no_report reporter u.in_block u.name)
 
 abbrev pub IsRight : List Term → List Node → Bool → Use → Type 0
-IsRight table bodies reporter u = (fault : ContextFault) → IsFaultAt table bodies reporter u fault → ⊥
+IsRight table bodies reporter u = (fault : CheckKind) → IsFaultAt table bodies reporter u fault → ⊥
 
 -- the first fault of a text by the order of the text, and where it stands
-abbrev pub IsFirstFault : List Term → List Node → Bool → List Use → ContextFault → Span → Type 0
+abbrev pub IsFirstFault : List Term → List Node → Bool → List Use → CheckKind → Span → Type 0
 IsFirstFault table bodies reporter us fault place =
     (front : List Use) × (u : Use) × (rest : List Use) × ((us ≡ front ++ u ∷ rest) × All (IsRight table bodies reporter) front × IsFaultAt table bodies reporter u fault × (u.span ≡ place))
 

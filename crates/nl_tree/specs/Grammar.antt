@@ -9,7 +9,13 @@ use Rattle.nl_tree.specs.declared.declared.Form.{Form}
 use Rattle.nl_tree.specs.declared.declared.Form.TheVariants as form
 use Rattle.nl_tree.specs.Tree.{Node, node, Nodes, none, more}
 use Rattle.nl_tree.specs.Vocabulary.{among}
-use Rattle.nl_tree.specs.Tokens.{Block, CommandsBlock, ReporterBlock, Need, Item, Whole, Within, Maybe, Variable, Unknown, Constant, Plain, Named, Prefix, Many, Closing, Command, Let, With, Near, Of, Binary, Tok, number, text, word, open_bracket, close_bracket, open_paren, close_paren, end, span_of}
+use Rattle.nl_tree.specs.Tokens.{Unknown, Constant, Plain, Named, Prefix, Many, Closing, Command, Let, With, Near, Of, Binary, Tok, number, text, word, open_bracket, close_bracket, open_paren, close_paren, end, span_of}
+use Rattle.nl_tree.specs.declared.needs.Block.{Block}
+use Rattle.nl_tree.specs.declared.needs.Block.TheVariants as blocks
+use Rattle.nl_tree.specs.declared.needs.Need.{Need}
+use Rattle.nl_tree.specs.declared.needs.Ending.{Ending}
+use Rattle.nl_tree.specs.declared.needs.Ending.TheVariants.{AtBracket, AtEnd}
+use Rattle.nl_tree.specs.declared.needs.Need.TheVariants.{Item, Whole, Within, Maybe, Variable}
 
 abbrev pub one : Node → Nodes
 one t = more t none
@@ -36,11 +42,6 @@ opens c = false
 -- how many levels of operators stand over items: 4 to 9
 abbrev pub top : ℕ
 top = 6
-
--- what ends statements: the bracket of their block, or the end of the text
-pub data Ending : Type 0 where
-  AtBracket : Ending
-  AtEnd : Ending
 
 -- What a run of tokens may be. Names are the locals and inputs that are known.
 pub data Part : Type 0 where
@@ -75,7 +76,7 @@ pub data Reads : Part → List (List ℕ) → List Tok → List Tok → Nodes �
   paren_minus : {e : List (List ℕ)} {w : List ℕ} {l : ℕ} {s r q : Span} {b c : List Tok} {t : Node} → Reads (Level zero) e b (close_paren q ∷ c) (one t) → Reads Closed e (open_paren s ∷ word w (Binary l true) r ∷ b) c (one (node label.Paren s (one (node label.Negate r (one t)))))
   -- Chain: a closed, or a chain, an operator of level 1 and its right side.
   chain_closed : {e : List (List ℕ)} {a c : List Tok} {t : Node} → Reads Closed e a c (one t) → Reads Chain e a c (one t)
-  chain_with : {e : List (List ℕ)} {w : List ℕ} {s : Span} {a b c : List Tok} {t u : Node} → Reads Chain e a (word w With s ∷ b) (one t) → Reads (Arg (Within ReporterBlock)) e b c (one u) → Reads Chain e a c (one (node (label.Named w) s (two t u)))
+  chain_with : {e : List (List ℕ)} {w : List ℕ} {s : Span} {a b c : List Tok} {t u : Node} → Reads Chain e a (word w With s ∷ b) (one t) → Reads (Arg (Within blocks.Reporter)) e b c (one u) → Reads Chain e a c (one (node (label.Named w) s (two t u)))
   chain_near : {e : List (List ℕ)} {w : List ℕ} {n : ℕ} {s : Span} {a b c : List Tok} {t : Node} {us : Nodes} → Reads Chain e a (word w (Near n) s ∷ b) (one t) → Reads (Sides n) e b c us → Reads Chain e a c (one (node (label.Named w) s (more t us)))
   one_side : {e : List (List ℕ)} {a c : List Tok} {t : Node} → Reads Closed e a c (one t) → Reads (Sides zero) e a c (one t)
   more_sides : {e : List (List ℕ)} {n : ℕ} {a b c : List Tok} {t : Node} {us : Nodes} → Reads Closed e a b (one t) → Reads (Sides n) e b c us → Reads (Sides (suc n)) e a c (more t us)
@@ -92,7 +93,7 @@ pub data Reads : Part → List (List ℕ) → List Tok → List Tok → Nodes �
   item_chain : {e : List (List ℕ)} {a c : List Tok} {t : Node} → Reads Chain e a c (one t) → Reads (Level zero) e a c (one t)
   item_call : {e : List (List ℕ)} {a c : List Tok} {t : Node} → Reads Call e a c (one t) → Reads (Level zero) e a c (one t)
   item_near : {e : List (List ℕ)} {w : List ℕ} {n : ℕ} {s : Span} {a b c : List Tok} {t : Node} {us : Nodes} → Reads Chain e a (word w (Near n) s ∷ b) (one t) → Reads (LastCall n) e b c us → Reads (Level zero) e a c (one (node (label.Named w) s (more t us)))
-  item_of : {e : List (List ℕ)} {w : List ℕ} {s : Span} {a b c : List Tok} {t u : Node} → Reads (Arg (Within ReporterBlock)) e a (word w Of s ∷ b) (one t) → Reads (Level zero) e b c (one u) → Reads (Level zero) e a c (one (node (label.Named w) s (two t u)))
+  item_of : {e : List (List ℕ)} {w : List ℕ} {s : Span} {a b c : List Tok} {t u : Node} → Reads (Arg (Within blocks.Reporter)) e a (word w Of s ∷ b) (one t) → Reads (Level zero) e b c (one u) → Reads (Level zero) e a c (one (node (label.Named w) s (two t u)))
   -- Levels 4 to 9 stand over items, and are left associative.
   level_up : {e : List (List ℕ)} {l : ℕ} {a c : List Tok} {t : Node} → Reads (Level l) e a c (one t) → Reads (Level (suc l)) e a c (one t)
   level_binary : {e : List (List ℕ)} {w : List ℕ} {l : ℕ} {m : Bool} {s : Span} {a b c : List Tok} {t u : Node} → Reads (Level (suc l)) e a (word w (Binary l m) s ∷ b) (one t) → Reads (Level l) e b c (one u) → Reads (Level (suc l)) e a c (one (node (label.Named w) s (two t u)))
@@ -105,14 +106,14 @@ pub data Reads : Part → List (List ℕ) → List Tok → List Tok → Nodes �
   -- Inputs: an item, a whole expression, a block, the name of a variable.
   arg_item : {e : List (List ℕ)} {a c : List Tok} {t : Node} → Reads (Level zero) e a c (one t) → Reads (Arg Item) e a c (one t)
   arg_whole : {e : List (List ℕ)} {a c : List Tok} {t : Node} → Reads (Level top) e a c (one t) → Reads (Arg Whole) e a c (one t)
-  arg_commands : {e : List (List ℕ)} {s : Span} {b c : List Tok} {ts : Nodes} → Reads (Statements AtBracket) e b c ts → Reads (Arg (Within CommandsBlock)) e (open_bracket s ∷ b) c (one (node label.Commands s ts))
-  arg_reporter : {e : List (List ℕ)} {s r : Span} {b c : List Tok} {t : Node} → Reads (Level top) e b (close_bracket r ∷ c) (one t) → Reads (Arg (Within ReporterBlock)) e (open_bracket s ∷ b) c (one (node label.Reporter s (one t)))
+  arg_commands : {e : List (List ℕ)} {s : Span} {b c : List Tok} {ts : Nodes} → Reads (Statements AtBracket) e b c ts → Reads (Arg (Within blocks.Commands)) e (open_bracket s ∷ b) c (one (node label.Commands s ts))
+  arg_reporter : {e : List (List ℕ)} {s r : Span} {b c : List Tok} {t : Node} → Reads (Level top) e b (close_bracket r ∷ c) (one t) → Reads (Arg (Within blocks.Reporter)) e (open_bracket s ∷ b) c (one (node label.Reporter s (one t)))
   arg_variable : {e : List (List ℕ)} {w : List ℕ} {s : Span} {c : List Tok} → Reads (Arg Variable) e (word w Named s ∷ c) c (one (leaf (label.Named w) s))
   arg_local : {e : List (List ℕ)} {w : List ℕ} {s : Span} {c : List Tok} → IsTrue (among w e) → Reads (Arg Variable) e (word w Unknown s ∷ c) c (one (leaf (label.Named w) s))
   no_arg : {e : List (List ℕ)} {c : List Tok} → Reads (Args []) e c c none
   arg : {e : List (List ℕ)} {i : Need} {is : List Need} {a b c : List Tok} {t : Node} {ts : Nodes} → Reads (Arg i) e a b (one t) → Reads (Args is) e b c ts → Reads (Args (i ∷ is)) e a c (more t ts)
   -- A block that may be missing is there exactly where a bracket opens next.
-  maybe_there : {e : List (List ℕ)} {is : List Need} {a b c : List Tok} {t : Node} {ts : Nodes} → Reads (Arg (Within CommandsBlock)) e a b (one t) → Reads (Args is) e b c ts → Reads (Args (Maybe ∷ is)) e a c (more t ts)
+  maybe_there : {e : List (List ℕ)} {is : List Need} {a b c : List Tok} {t : Node} {ts : Nodes} → Reads (Arg (Within blocks.Commands)) e a b (one t) → Reads (Args is) e b c ts → Reads (Args (Maybe ∷ is)) e a c (more t ts)
   maybe_missing : {e : List (List ℕ)} {is : List Need} {a c : List Tok} {ts : Nodes} → IsTrue (not (opens a)) → Reads (Args is) e a c ts → Reads (Args (Maybe ∷ is)) e a c ts
   -- Statement: a command and its inputs, or a statement in parentheses. A name made by `let` has no row and isn't known.
   command : {e : List (List ℕ)} {w : List ℕ} {is : List Need} {s : Span} {b c : List Tok} {ts : Nodes} → Reads (Args is) e b c ts → Reads (Statement e) e (word w (Command is) s ∷ b) c (one (node (label.Named w) s ts))

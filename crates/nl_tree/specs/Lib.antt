@@ -1,6 +1,7 @@
 pub mod BodyFault
 pub mod Checked
 pub mod Context
+pub mod FaultText
 pub mod Grammar
 pub mod Index
 pub mod Names

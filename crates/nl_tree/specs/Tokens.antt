@@ -8,6 +8,10 @@ use Rattle.nl_words.specs.declared.entry.Role.TheVariants as role
 use Rattle.nl_words.specs.declared.entry.Input.{Input}
 use Rattle.nl_words.specs.declared.entry.Input.TheVariants as input
 use Rattle.nl_fixed.specs.declared.span.Span.{Span}
+use Rattle.nl_tree.specs.declared.needs.Block.{Block}
+use Rattle.nl_tree.specs.declared.needs.Block.TheVariants as blocks
+use Rattle.nl_tree.specs.declared.needs.Need.{Need}
+use Rattle.nl_tree.specs.declared.needs.Need.TheVariants.{Item, Whole, Within, Maybe, Variable}
 use Rattle.nl_tree.specs.Term.{Term}
 use Rattle.nl_tree.specs.Vocabulary.{term_named}
 
@@ -41,19 +45,6 @@ IsLexeme End = Unit {0}
 abbrev pub IsToken : Token → Type 0
 IsToken t = IsLexeme t.lexeme
 
--- a block of commands, or of one expression
-pub data Block : Type 0 where
-  CommandsBlock : Block
-  ReporterBlock : Block
-
--- what a word reads at one place: an item, a whole expression, a block, a block of commands that may be missing, the name of a variable
-pub data Need : Type 0 where
-  Item : Need
-  Whole : Need
-  Within : Block → Need
-  Maybe : Need
-  Variable : Need
-
 -- What a word is to the grammar. A reporter's last input is told apart from those before it: with an item last it is a call that goes on as
 -- far as the item does, and with a block last it ends with the block.
 pub data Class : Type 0 where
@@ -81,9 +72,9 @@ is_new i = false
 abbrev pub need_of_command : Input → Need
 need_of_command input.Value = Whole
 need_of_command input.Expression = Whole
-need_of_command input.Commands = Within CommandsBlock
+need_of_command input.Commands = Within blocks.Commands
 need_of_command input.MaybeCommands = Maybe
-need_of_command input.Reporter = Within ReporterBlock
+need_of_command input.Reporter = Within blocks.Reporter
 need_of_command input.Variable = Variable
 need_of_command input.Fresh = Whole
 
@@ -91,9 +82,9 @@ need_of_command input.Fresh = Whole
 abbrev pub need_of_reporter : Input → Need
 need_of_reporter input.Value = Item
 need_of_reporter input.Expression = Whole
-need_of_reporter input.Commands = Within CommandsBlock
+need_of_reporter input.Commands = Within blocks.Commands
 need_of_reporter input.MaybeCommands = Maybe
-need_of_reporter input.Reporter = Within ReporterBlock
+need_of_reporter input.Reporter = Within blocks.Reporter
 need_of_reporter input.Variable = Variable
 need_of_reporter input.Fresh = Whole
 
