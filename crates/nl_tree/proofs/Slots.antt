@@ -18,10 +18,6 @@ use Rattle.nl_tree.specs.declared.declared.Form.TheVariants as form
 use Rattle.nl_tree.specs.Tree.{Node, node, Nodes, none, more}
 use Rattle.nl_tree.specs.Term.{Term}
 use Rattle.nl_tree.specs.Tokens.{Lexeme, Token, Class, Unknown, Constant, Plain, Named, Prefix, Many, Closing, Command, Let, With, Near, Of, Binary, Nowhere, class_of, class_of_term, Tok, number, text, word, open_bracket, close_bracket, open_paren, close_paren, end, marked_as, mark, marked}
-use Rattle.nl_tree.specs.declared.needs.Block.{Block}
-use Rattle.nl_tree.specs.declared.needs.Block.TheVariants as blocks
-use Rattle.nl_tree.specs.declared.needs.Need.{Need}
-use Rattle.nl_tree.specs.declared.needs.Need.TheVariants.{Item, Whole, Within, Maybe, Variable}
 use Rattle.nl_tree.specs.Tokens as lexeme
 use Rattle.nl_tree.specs.Grammar as grammar
 use Rattle.nl_tree.specs.Grammar.{one, two, leaf, join, and_last, Part, Closed, Chain, Sides, Call, LastCall, Items, AnyItems, Level, Literals, Arg, Args, Statement, Statements, Reads, IsText}

@@ -16,7 +16,8 @@ use Rattle.nl_tree.specs.declared.declared.What.TheVariants as what
 use Rattle.nl_tree.specs.declared.declared.Form.TheVariants as form
 use Rattle.nl_tree.specs.Tree.{Node}
 use Rattle.nl_tree.specs.TreeCode.{node_code}
-use Rattle.nl_tree.specs.TermCode.{kinds_code, term_code}
+use Rattle.nl_words.specs.RowCode.{kinds_code}
+use Rattle.nl_tree.specs.TermCode.{term_code}
 use Rattle.nl_tree.specs.Names.{IsDeclared}
 use Rattle.nl_tree.specs.Term.{Term}
 use Rattle.nl_tree.specs.Vocabulary.{terms, whats, global_names, owned_names}
