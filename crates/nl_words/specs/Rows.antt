@@ -1,7 +1,7 @@
 -- The built-in words, in the order of their bytes.
 -- Names, inputs and who may run a word are those of the NetLogo Dictionary, as far as this profile has them.
 -- The levels of operators and what a row tells of the agents in an answer are this project's own choice.
-use Rattle.std.specs.Prelude.{ℕ, ◌+◌, Bool, true, false, List, [], ◌∷◌, codes}
+use Rattle.std.specs.Prelude.{ℕ, ◌+◌, true, false, List, [], ◌∷◌, codes}
 use Prim.Native.String.{String}
 use Rattle.nl_words.specs.Kinds.{none, everyone, observers, turtles, patches, links, turtles_and_patches, turtles_and_links, agents, not_links}
 use Rattle.nl_words.specs.Row.{Row}
