@@ -1,5 +1,6 @@
 -- What completes the tokens that begin a text: for each thing that is open, what it still misses, in its least form.
 use Rattle.std.specs.Prelude.{◌≡◌, ℕ, zero, suc, ◌+◌, Bool, true, false, List, [], ◌∷◌, ◌++◌, map, length, codes}
+use Rattle.nl_fixed.specs.Nouns.{Name, Names}
 use Rattle.nl_fixed.specs.declared.span.Span.{Span}
 use Rattle.nl_tree.specs.declared.declared.Form.{Form}
 use Rattle.nl_tree.specs.Term.{Term}
@@ -22,7 +23,7 @@ pub data Piece : Type 0 where
   AVariable : Piece  -- `color`
   AStatement : Piece  -- `stop`
   AnOf : Piece  -- `of`
-  AName : List (List ℕ) → Piece  -- a new name, where these are known
+  AName : Names → Piece  -- a new name, where these are known
   ABracket : Piece
   ItsBracket : Piece  -- the bracket that closes
   ItsParen : Piece
@@ -134,15 +135,15 @@ pieces (st (Over t) e K) = []
 pieces (st Dead e K) = []
 
 -- A name that is longer than all of these, and than all that have a row: so many times the letter `a`.
-abbrev pub lengths : List (List ℕ) → ℕ
+abbrev pub lengths : Names → ℕ
 lengths [] = 0
 lengths (name ∷ names) = length name + lengths names
 
-abbrev pub letters : ℕ → List ℕ
+abbrev pub letters : ℕ → Name
 letters zero = []
 letters (suc n) = 97 ∷ letters n
 
-abbrev pub unused : List Term → List (List ℕ) → List ℕ
+abbrev pub unused : List Term → Names → Name
 unused table names = letters (suc (lengths names + lengths (map (λ (t : Term). t.name) table)))
 
 abbrev pub lexeme_of : List Term → Piece → Lexeme
@@ -164,7 +165,7 @@ abbrev pub token_of : List Term → Piece → Token
 token_of table p = record { lexeme = lexeme_of table p; span = nowhere }
 
 -- the step to which these tokens lead
-abbrev pub reading : Form → List (List ℕ) → List Term → List Token → Step
+abbrev pub reading : Form → Names → List Term → List Token → Step
 reading form names table ts = run (start form names (span_of_first (marked table ts))) (marked table ts)
 
 abbrev pub completion_of : List Term → Step → List Token
@@ -172,7 +173,7 @@ completion_of table (go s) = map (token_of table) (pieces s)
 completion_of table stop = []
 
 -- what completes these tokens, by what they leave open
-abbrev pub completion : Form → List (List ℕ) → List Term → List Token → List Token
+abbrev pub completion : Form → Names → List Term → List Token → List Token
 completion form names table ts = completion_of table (reading form names table ts)
 
 -- the table has the words of which completions are made

@@ -3,7 +3,7 @@ use Rattle.std.specs.Prelude.{◌≡◌, List, refl}
 use Rattle.std.proofs.Common.{ap}
 use Rattle.std.specs.Coded.{Coded, code_by, coded_list}
 use Rattle.nl_tree.specs.Tree.{Node, Nodes, none, more, nodes, listed}
-use Rattle.nl_tree.specs.TreeCode.{node_code}
+use Rattle.nl_tree.specs.inner.TreeCode.{node_code}
 
 pub again : (ts : Nodes) → nodes (listed ts) ≡ ts
 again none = refl

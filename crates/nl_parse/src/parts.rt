@@ -24,7 +24,7 @@ pub struct Grown {
 impl Model for Grown {
     ghost use Rattle.std.specs.Prelude.{◌≡◌};
     ghost use Rattle.nl_tree.specs.Tree.{Node, nodes, depths};
-    ghost use Rattle.nl_tree.specs.TreeCode.{node_code};
+    ghost use Rattle.nl_tree.specs.inner.TreeCode.{node_code};
     ghost use Rattle.nl_tree.specs.Views.{plain};
     ghost use Rattle.nl_parse.specs.Limit.{capped};
 

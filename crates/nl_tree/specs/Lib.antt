@@ -5,13 +5,10 @@ pub mod FaultText
 pub mod Grammar
 pub mod Index
 pub mod Names
-pub mod Samples
 pub mod Slots
 pub mod Term
-pub mod TermCode
 pub mod Tokens
 pub mod Tree
-pub mod TreeCode
-pub mod TreeFalls
 pub mod Views
 pub mod Vocabulary
+pub mod inner

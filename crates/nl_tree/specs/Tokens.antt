@@ -2,6 +2,7 @@
 use Rattle.std.specs.Prelude.{ℕ, zero, suc, ◌+◌, ◌-◌, ◌==◌, Bool, true, false, ◌&&◌, if◌then◌else◌, nat_le, ℤ, IsTrue, List, [], ◌∷◌, ◌++◌, Option, Some, None, map, bytes_eq, codes}
 use Rattle.std.specs.List.{list_any}
 use Rattle.std.specs.Str.{IsUtf8}
+use Rattle.nl_fixed.specs.Nouns.{Bytes, Name}
 use Rattle.nl_words.specs.Table.{is_name}
 use Rattle.nl_words.specs.declared.entry.Role.{Role}
 use Rattle.nl_words.specs.declared.entry.Role.TheVariants as role
@@ -19,8 +20,8 @@ use Rattle.nl_tree.specs.Vocabulary.{term_named}
 -- of a lone text.
 pub data Lexeme : Type 0 where
   Number : (value : ℤ) → Lexeme
-  Text : (bytes : List ℕ) → Lexeme
-  Word : (name : List ℕ) → Lexeme
+  Text : (bytes : Bytes) → Lexeme
+  Word : (name : Name) → Lexeme
   Open : Lexeme
   Close : Lexeme
   OpenParen : Lexeme
@@ -164,8 +165,8 @@ class_of (Some t) = class_of_term t
 -- A token with what its row makes of it.
 pub data Tok : Type 0 where
   number : ℤ → Span → Tok
-  text : List ℕ → Span → Tok
-  word : List ℕ → Class → Span → Tok
+  text : Bytes → Span → Tok
+  word : Name → Class → Span → Tok
   open_bracket : Span → Tok
   close_bracket : Span → Tok
   open_paren : Span → Tok

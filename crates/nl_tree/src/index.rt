@@ -41,7 +41,7 @@ impl Model for NamedWords {
     ghost use Rattle.std.specs.Prelude.{List};
     ghost use Rattle.std.specs.Coded.{coded_list};
     ghost use Rattle.nl_tree.specs.Term.{Term};
-    ghost use Rattle.nl_tree.specs.TermCode.{term_code};
+    ghost use Rattle.nl_tree.specs.inner.TermCode.{term_code};
 
     ghost Value = { List Term };
 

@@ -53,7 +53,7 @@ impl Model for Trees {
     ghost use Rattle.std.specs.Prelude.{List};
     ghost use Rattle.std.specs.Coded.{coded_list};
     ghost use Rattle.nl_tree.specs.Tree.{Node, list_size};
-    ghost use Rattle.nl_tree.specs.TreeCode.{node_code};
+    ghost use Rattle.nl_tree.specs.inner.TreeCode.{node_code};
 
     ghost Value = { List Node };
 
@@ -67,7 +67,7 @@ impl Model for Trees {
     ghost size = { list_size };
 
     ghost use Rattle.std.proofs.Common.{arith};
-    ghost use Rattle.nl_tree.specs.TreeFalls.{falls};
+    ghost use Rattle.nl_tree.specs.inner.TreeFalls.{falls};
 
     ghost size_decreases = { λ trees h. omega (arith, falls trees.list.items) };
 }
