@@ -1,5 +1,5 @@
 -- What the table says of a word, as plain data, and the look-ups in a list of such rows.
-use Rattle.std.specs.Prelude.{ℕ, Bool, List, Option, find, slice_get, bytes_eq, option_map}
+use Rattle.std.specs.Prelude.{◌≡◌, ℕ, Bool, List, Option, Some, find, slice_get, bytes_eq, option_map}
 use Rattle.std.specs.Borrow.{Bor}
 use Rattle.std.specs.Option.{option_copied}
 use Rattle.nl_fixed.specs.Nouns.{Name}
@@ -56,3 +56,7 @@ row_named rows name = find (λ row. bytes_eq row.name name) rows
 -- the row at the place that a code names
 abbrev pub row_at : List Row → Code → Option Row
 row_at rows code = slice_get rows code
+
+-- the entry's row stands at the place that is its code
+abbrev pub IsInPlace : List Row → Entry → Type 0
+IsInPlace rows entry = row_at rows entry.code ≡ Some (row_of entry)

@@ -1,6 +1,6 @@
 //! A table of words, and the look-ups in it.
 ghost use Rattle.std.specs.Prelude.{◌≡◌, ◌<◌, ◌↔◌, Some, IfSome, IsSome, All, IsTrue, map};
-ghost use Rattle.nl_words.specs.Row.{row_of, row_in, row_named, row_at};
+ghost use Rattle.nl_words.specs.Row.{row_of, row_in, row_named, row_at, IsInPlace};
 ghost use Rattle.nl_words.specs.Table.{ascends};
 
 use crate::entry::Entry;
@@ -30,7 +30,7 @@ impl<const N: usize> Words<N> {
         ensures row { row_in result ≡ row_named self.now name.now }
         ensures only { All (λ row. row.name ≡ name.now → row_in result ≡ Some row) self.now }
         ensures name { IfSome result (λ entry. entry.now.name.now ≡ name.now) }
-        ensures place { IfSome result (λ entry. row_at self.now entry.now.code ≡ Some (row_of entry.now)) }
+        ensures place { IfSome result (λ entry. IsInPlace self.now entry.now) }
     {
         search(self.rows, name)
     }
