@@ -1,7 +1,7 @@
 -- The slots of global variables: each is that of one name, in range, and there exactly for the names that are global variables.
-use Rattle.std.proofs.Common.{◌≡◌, ℕ, zero, suc, ◌+◌, ◌<◌, ◌⊎◌, inl, inr, Bool, true, false, if◌then◌else◌, List, [], ◌∷◌, ◌++◌, map, length, find, Option, Some, None, IsSome, IfSome, IsTrue, bytes_eq, codes, slice_get, refl, sym, ap, subst, ◌∙◌, arith, ◌||◌, get_or}
+use Rattle.std.proofs.Common.{◌≡◌, ℕ, zero, suc, ◌+◌, ◌<◌, Bool, true, false, if◌then◌else◌, List, [], ◌∷◌, ◌++◌, map, length, find, Option, Some, None, IsSome, IfSome, bytes_eq, slice_get, refl, sym, ap, subst, ◌∙◌, arith, ◌||◌, get_or}
 use Rattle.std.specs.List.{Contains}
-use Rattle.std.proofs.lemmas.Option.{slice_get_within, get_or_from_slice_get, slice_get-get_or}
+use Rattle.std.proofs.lemmas.Option.{slice_get_within}
 use Rattle.std.proofs.lemmas.List.Elements.{Contains-append_left, Contains-append_right}
 use Rattle.std.proofs.lemmas.List.Sorted.{IsPermutation-refl}
 use Rattle.std.proofs.lemmas.List.{get_or-map, length-map}
@@ -84,12 +84,12 @@ module _ (d : Declared) where
       let gs = global_names d in
       named-append gs _ _ (named_base gs rows)
       (named-append gs _ _
-        (named-append gs _ _
-          (named-append gs _ _
-            (named_globals gs 0 gs (λ i x at. subst (λ j. slice_get gs j ≡ Some x) (omega arith) at))
-            (named_others gs (owned_term d) (λ n x k is. cc) 0 (owned_names d)))
-          (named_breeds gs 1 d.breeds))
-        (named_others gs procedure_term (λ n x k is. cc) 0 d.procedures))
+      (named-append gs _ _
+      (named-append gs _ _
+      (named_globals gs 0 gs (λ i x at. subst (λ j. slice_get gs j ≡ Some x) (omega arith) at))
+      (named_others gs (owned_term d) (λ n x k is. cc) 0 (owned_names d)))
+      (named_breeds gs 1 d.breeds))
+      (named_others gs procedure_term (λ n x k is. cc) 0 d.procedures))
 
   -- a word that is a global variable has the name of its slot
   pub name_of_slot : (name : Name) (n : ℕ) → what_named d name ≡ Some (what.Global n) → slice_get (global_names d) n ≡ Some name

@@ -1,5 +1,5 @@
 -- The words of a text come in the order of the text: by induction over the reading of its tokens.
-use Rattle.std.proofs.Common.{◌≡◌, ℕ, zero, suc, ◌+◌, Bool, true, false, not, ◌||◌, ◌&&◌, List, [], ◌∷◌, ◌++◌, map, Option, Some, None, ◌⊎◌, inl, inr, refl, sym, ap, subst, ◌∙◌, cond, find, bytes_eq, append_assoc}
+use Rattle.std.proofs.Common.{◌≡◌, ℕ, zero, suc, ◌+◌, Bool, true, false, not, ◌||◌, ◌&&◌, List, [], ◌∷◌, ◌++◌, map, Option, Some, None, refl, sym, ap, subst, ◌∙◌, cond, bytes_eq, append_assoc, length, ◌≤◌, arith}
 use Rattle.std.proofs.lemmas.List.{map-append}
 use Rattle.std.specs.Prelude.{if◌then◌else◌, ◌==◌, nat_le, ◌-◌, codes}
 use Rattle.std.specs.List.{list_any, list_all}
@@ -15,7 +15,6 @@ use Rattle.nl_words.specs.declared.entry.Input.{Input}
 use Rattle.nl_words.specs.declared.entry.Input.TheVariants as input
 use Rattle.nl_words.specs.declared.entry.Manner.TheVariants as manner
 use Rattle.nl_tree.specs.declared.needs.Block.{Block}
-use Rattle.nl_tree.specs.declared.needs.Block.TheVariants as blocks
 use Rattle.nl_tree.specs.declared.needs.Need.{Need}
 use Rattle.nl_tree.specs.declared.needs.Need.TheVariants.{Item, Whole, Within, Maybe, Variable}
 use Rattle.nl_tree.specs.declared.tree.Label.{Label}
@@ -26,10 +25,20 @@ use Rattle.nl_tree.specs.Tokens.{Class, Unknown, Constant, Plain, Named, Prefix,
 use Rattle.nl_tree.specs.Grammar as grammar
 use Rattle.nl_tree.specs.Grammar.{one, two, leaf, join, and_last, Part, Arg, Args, Reads}
 use Rattle.nl_tree.specs.Vocabulary.{term_named}
-use Rattle.nl_tree.specs.Context.{Piece, Pieces, use_of, block_of, no_piece, a_piece, packed, Sub, text_of, inner_pieces, part_pieces, parts_pieces, all_pieces, after_first, is_operator, is_block, runs_itself, word_pieces, flat, node_pieces, label_at, span_at, pieces, subs, given, Use, with_piece, uses_in, uses_among, uses, block_kinds, kinds_of_subs, manner_by, row_of_what}
-use Rattle.nl_tree.specs.Slots.{is_let}
-use Rattle.nl_tree.specs.Order.{Spot, spot, spot_of, Behind, a_let, a_paren, another, behind_word, is_no_use, words_from, used_words, UsesAreWords}
+use Rattle.nl_tree.specs.Context.{Piece, Pieces, use_of, block_of, no_piece, a_piece, packed, Sub, text_of, inner_pieces, parts_pieces, all_pieces, after_first, is_operator, is_block, runs_itself, word_pieces, flat, label_at, span_at, pieces, subs, given, Use, with_piece, uses_in, uses_among, uses, block_kinds, kinds_of_subs, manner_by, row_of_what}
+use Rattle.nl_tree.specs.Order.{Spot, spot, spot_of, Behind, a_paren, another, behind_word, is_no_use, words_from, used_words, UsesAreWords}
+use Rattle.nl_tree.specs.Order.{AscendFrom, UsesAscend}
+use Rattle.nl_tree.specs.declared.declared.Breed.{Breed}
+use Rattle.nl_tree.specs.declared.declared.Declared.{Declared}
+use Rattle.nl_tree.specs.declared.declared.Form.{Form}
+use Rattle.nl_tree.specs.declared.declared.Form.TheVariants as form
+use Rattle.nl_tree.specs.declared.declared.Procedure.{Procedure}
+use Rattle.nl_tree.specs.Grammar.{IsText}
+use Rattle.nl_tree.specs.Tokens as lexeme
+use Rattle.nl_tree.specs.Tokens.{Lexeme, Token, marked_as, marked}
+use Rattle.nl_tree.specs.Vocabulary.{Pattern, base_term, counted, global_names, global_term, owned_names, owned_term, made_as, made_name, made_terms, patterns, breed_terms, procedure_term, terms}
 use Rattle.nl_tree.proofs.Marked.{AreMarked, all_marked}
+use Rattle.nl_tree.proofs.Range.{found_passes}
 
 -- ---- the spots of pieces
 
@@ -419,28 +428,28 @@ module _ (table : List Term) (orderly : (w : Name) (t : Term) → term_named tab
 
   command_spots : (w : Name) (ns : List Need) (s : Span) (ts : Nodes) → Command ns ≡ class_of (term_named table w) → NeedsFit ns ts → N (node (label.Named w) s ts) ≡ spot w s ∷ NS ts
   command_spots w ns s ts same fit =
-      let (t, row, said) = row_says (term_named table w) (Command ns) same (λ e. cc) in
+      let (t, (row, said)) = row_says (term_named table w) (Command ns) same (λ e. cc) in
       head_spots w s ts t row said.0 (needs_are_inputs true (inputs_of t) ts said.2 (calm_of w t row) (subst (λ x. NeedsFit x ts) (sym said.1) fit))
 
   prefix_spots : (w : Name) (ns : List Need) (s : Span) (ts : Nodes) (u : Node) → Prefix ns ≡ class_of (term_named table w) → NeedsFit ns ts → N (node (label.Named w) s (and_last ts u)) ≡ spot w s ∷ NS (and_last ts u)
   prefix_spots w ns s ts u same fit =
-      let (t, row, said) = row_says (term_named table w) (Prefix ns) same (λ e. cc) in
+      let (t, (row, said)) = row_says (term_named table w) (Prefix ns) same (λ e. cc) in
       head_spots w s (and_last ts u) t row said.0 (needs_are_inputs false (inputs_of t) (and_last ts u) said.2 (calm_of w t row) (subst (λ x. NeedsFit x (and_last ts u)) (sym said.1) (item_last ns ts u fit)))
 
   closing_spots : (w : Name) (ns : List Need) (b : Block) (s : Span) (ts : Nodes) (u : Node) → Closing ns b ≡ class_of (term_named table w) → NeedsFit ns ts → N (node (label.Named w) s (and_last ts u)) ≡ spot w s ∷ NS (and_last ts u)
   closing_spots w ns b s ts u same fit =
-      let (t, row, said) = row_says (term_named table w) (Closing ns b) same (λ e. cc) in
+      let (t, (row, said)) = row_says (term_named table w) (Closing ns b) same (λ e. cc) in
       head_spots w s (and_last ts u) t row said.0 (needs_are_inputs false (inputs_of t) (and_last ts u) said.2 (calm_of w t row) (subst (λ x. NeedsFit x (and_last ts u)) (sym said.1) (block_last b ns ts u fit)))
 
   many_spots : (w : Name) (n : ℕ) (s : Span) (ts : Nodes) → Many n ≡ class_of (term_named table w) → N (node (label.Named w) s ts) ≡ spot w s ∷ NS ts
   many_spots w n s ts same =
-      let (t, row, said) = row_says (term_named table w) (Many n) same (λ e. cc) in
+      let (t, (row, said)) = row_says (term_named table w) (Many n) same (λ e. cc) in
       head_spots w s ts t row said.0 (no_names_fit (inputs_of t) ts (values_have_no_names (inputs_of t) said.1))
 
   operator_spots : (w : Name) (s : Span) (l : Node) (us : Nodes) (c : Class) → c ≡ class_of (term_named table w) → (c ≡ Unknown → ⊥) → ((t : Term) → Says c t.role (inputs_of t) → is_operator t.role ≡ true)
       → N (node (label.Named w) s (more l us)) ≡ N l ++ (spot w s ∷ NS us)
   operator_spots w s l us c same known operator =
-      let (t, row, said) = row_says (term_named table w) c same known in
+      let (t, (row, said)) = row_says (term_named table w) c same known in
       word_after table (term_named table w) t w s l us row (operator t said) (operator_of w t row (operator t said))
 
   -- `let`: the new name is no use
@@ -452,7 +461,7 @@ module _ (table : List Term) (orderly : (w : Name) (t : Term) → term_named tab
 
   let_spots : (w : Name) (s : Span) (n : Name) (r : Span) (u : Node) → Let ≡ class_of (term_named table w) → N (node (label.Named w) s (two (leaf (label.Named n) r) u)) ≡ spot w s ∷ NS (one u)
   let_spots w s n r u same =
-      let (t, row, said) = row_says (term_named table w) Let same (λ e. cc) in
+      let (t, (row, said)) = row_says (term_named table w) Let same (λ e. cc) in
       let here = use_of w s manner.Run in
       let ps = subs table (two (leaf (label.Named n) r) u) in
       let first = block_kinds t (kinds_of_subs ps) in
@@ -498,7 +507,7 @@ module _ (table : List Term) (orderly : (w : Name) (t : Term) → term_named tab
       (parts_then w s ts t a b c (closing_spots w is k s ts t m.0 x.2) x.0 y.0, y.1, refl)
   read (grammar.paren {s = s} {b = b} {c = c} {t = t} r) m =
       let x = read r m.1 in
-      (x.2 ∙ bracketed label.Paren s (one t) b c (flat_spots table (one t)) x.0, x.1.1, x.2)
+      (x.2 ∙ bracketed label.Paren s (one t) b c (flat_spots table (one t)) x.0, x.1.1, refl)
   read (grammar.paren_many {w = w} {n = n} {s = s} {r = r} {b = b} {c = c} {ts = ts} d) m =
       let x = read d m.1.1 in
       let head = many_spots w n r ts m.1.0 in
@@ -601,10 +610,126 @@ module _ (table : List Term) (orderly : (w : Name) (t : Term) → term_named tab
       (lead (N (node (label.Named w) s (two (leaf (label.Named n) r) t))) (NS (one t)) (W b) (W c) (spot w s) (let_spots w s n r t m.0) x.0, x.1, refl)
   read (grammar.statement_paren {s = s} {b = b} {c = c} {t = t} r) m =
       let x = read r m.1 in
-      (x.2 ∙ bracketed label.Paren s (one t) b c (flat_spots table (one t)) x.0, x.1.1, x.2)
+      (x.2 ∙ bracketed label.Paren s (one t) b c (flat_spots table (one t)) x.0, x.1.1, refl)
   read (grammar.at_bracket) m = (refl, m.1, tt)
   read (grammar.at_end) m = (refl, m.1, tt)
   read (grammar.statements {a = a} {b = b} {c = c} {t = t} {ts = ts} r q) m =
       let x = read r m in
       let y = read q x.1 in
       (both (N t) (NS ts) (W a) (W b) (W c) (single (N t) (W a) (W b) x.0) y.0, y.1, tt)
+
+-- ---- a model's own rows are in order
+
+all_orderly : list_all (λ r. is_orderly (base_term r)) rows ≡ true
+unfolding rows
+all_orderly = refl
+
+abbrev AreOrderly : List Term → Type 0
+AreOrderly [] = Unit {0}
+AreOrderly (t ∷ ts) = (is_orderly t ≡ true) × AreOrderly ts
+
+orderly-append : (ts us : List Term) → AreOrderly ts → AreOrderly us → AreOrderly (ts ++ us)
+orderly-append [] us h k = k
+orderly-append (t ∷ ts) us h k = (h.0, orderly-append ts us h.1 k)
+
+orderly_base : (rs : List Row) → list_all (λ r. is_orderly (base_term r)) rs ≡ true → AreOrderly (map base_term rs)
+orderly_base [] h = tt
+orderly_base (r ∷ rs) h =
+    (first_so (is_orderly (base_term r)) (list_all (λ (x : Row). is_orderly (base_term x)) rs) h, orderly_base rs (second_so (is_orderly (base_term r)) (list_all (λ (x : Row). is_orderly (base_term x)) rs) h))
+
+orderly_counted : {A : Type 0} (f : ℕ → A → Term) → ((n : ℕ) (x : A) → is_orderly (f n x) ≡ true) → (n : ℕ) (xs : List A) → AreOrderly (counted f n xs)
+orderly_counted f each n [] = tt
+orderly_counted f each n (x ∷ xs) = (each n x, orderly_counted f each (n + 1) xs)
+
+orderly_made_as : (n : ℕ) (name : Name) (o : Option Row) → ((r : Row) → o ≡ Some r → is_orderly (base_term r) ≡ true) → AreOrderly (made_as n name o)
+orderly_made_as n name None each = tt
+orderly_made_as n name (Some r) each = (each r refl, tt)
+
+orderly_made : (n : ℕ) (b : Breed) (ps : List Pattern) → AreOrderly (made_terms n b ps)
+orderly_made n b [] = tt
+orderly_made n b (p ∷ ps) =
+    orderly-append (made_as n (made_name b p) (row_named rows p.base)) (made_terms n b ps)
+    (orderly_made_as n (made_name b p) (row_named rows p.base) (λ r here. found_passes (λ x. bytes_eq x.name p.base) (λ x. is_orderly (base_term x)) rows r all_orderly here))
+    (orderly_made n b ps)
+
+orderly_breeds : (n : ℕ) (bs : List Breed) → AreOrderly (breed_terms n bs)
+orderly_breeds n [] = tt
+orderly_breeds n (b ∷ bs) = orderly-append (made_terms n b (patterns b)) (breed_terms (n + 1) bs) (orderly_made n b (patterns b)) (orderly_breeds (n + 1) bs)
+
+calm_values : (n : ℕ) → is_calm (repeated n) ≡ true
+calm_values zero = refl
+calm_values (suc n) = calm_values n
+
+orderly_procedure : (n : ℕ) (p : Procedure) → is_orderly (procedure_term n p) ≡ true
+orderly_procedure n p = by p.reporter (calm_values (length p.inputs))
+  where
+    by : (r : Bool) → is_calm (repeated (length p.inputs)) ≡ true → (is_calm (repeated (length p.inputs)) && (not (is_operator (if r then role.Reporter else role.Command)) || not (list_any is_named_input (repeated (length p.inputs))))) ≡ true
+    by true h = rw h refl
+    by false h = rw h refl
+
+orderly_terms : (d : Declared) → AreOrderly (terms d)
+orderly_terms d =
+    orderly-append _ _ (orderly_base rows all_orderly)
+    (orderly-append _ _
+    (orderly-append _ _
+    (orderly-append _ _
+    (orderly_counted global_term (λ n x. refl) 0 (global_names d))
+    (orderly_counted (owned_term d) (λ n x. refl) 0 (owned_names d)))
+    (orderly_breeds 1 d.breeds))
+    (orderly_counted procedure_term orderly_procedure 0 d.procedures))
+
+named_orderly : (name : Name) (t : Term) (ts : List Term) → AreOrderly ts → term_named ts name ≡ Some t → is_orderly t ≡ true
+named_orderly name t [] all here = cc
+named_orderly name t (u ∷ us) all here = by (bytes_eq u.name name) here (named_orderly name t us all.1)
+  where
+    by : (same : Bool) → cond same (Some u) (term_named us name) ≡ Some t → (term_named us name ≡ Some t → is_orderly t ≡ true) → is_orderly t ≡ true
+    by true found later = let it : u ≡ t = cc in subst (λ (x : Term). is_orderly x ≡ true) it all.0
+    by false found later = later found
+
+-- ---- the laws
+
+text_words : (table : List Term) → ((w : Name) (t : Term) → term_named table w ≡ Some t → is_orderly t ≡ true) → (f : Form) (e : Names) (ts : List Token) (t : Node) → IsText f e (marked table ts) t
+    → spots (pieces table t) ≡ used_words (marked table ts)
+text_words table orderly form.Commands e ts t (parts, is, r) =
+    let x = read table orderly r (all_marked table ts) in
+    subst (λ u. spots (pieces table u) ≡ used_words (marked table ts)) (sym is) (flat_spots table parts ∙ sym (append-nil (spots_of_nodes table parts)) ∙ sym x.0)
+text_words table orderly form.Reporter e ts t (s, r) =
+    let x = read table orderly r (all_marked table ts) in
+    sym (append-nil (spots (pieces table t))) ∙ sym (append-nil (spots (pieces table t) ++ [])) ∙ sym x.0
+
+pub uses_are_words : UsesAreWords
+uses_are_words d fit f e ts t first r = uses_spots (terms d) first t ∙ text_words (terms d) (λ w u here. named_orderly w u (terms d) (orderly_terms d) here) f e ts t r
+
+ascend_lower : (m n : ℕ) (xs : List ℕ) → m ≤ n → AscendFrom n xs → AscendFrom m xs
+ascend_lower m n [] h k = tt
+ascend_lower m n (x ∷ xs) h k = (omega (arith, h, k.0), k.1)
+
+abbrev starts : List Spot → List ℕ
+starts xs = map (λ (x : Spot). x.span.start) xs
+
+module _ (table : List Term) where
+  words_ascend : (b : Behind) (n : ℕ) (ts : List Token) → AscendFrom n (map (λ (k : Token). k.span.start) ts) → AscendFrom n (starts (words_from b (marked table ts)))
+  words_ascend b n [] h = tt
+  words_ascend b n (t ∷ ts) h = by t.lexeme (λ c. words_ascend c (t.span.start + 1) ts h.1)
+    where
+      lower : (xs : List ℕ) → AscendFrom (t.span.start + 1) xs → AscendFrom n xs
+      lower xs k = ascend_lower n (t.span.start + 1) xs (omega (arith, h.0)) k
+
+      use_by : (none : Bool) (name : Name) (c : Class) → ((c : Behind) → AscendFrom (t.span.start + 1) (starts (words_from c (marked table ts))))
+          → AscendFrom n (starts (if none then words_from another (marked table ts) else spot name t.span ∷ words_from (behind_word c) (marked table ts)))
+      use_by true name c rest = lower (starts (words_from another (marked table ts))) (rest another)
+      use_by false name c rest = (h.0, rest (behind_word c))
+
+      by : (l : Lexeme) → ((c : Behind) → AscendFrom (t.span.start + 1) (starts (words_from c (marked table ts)))) → AscendFrom n (starts (words_from b (marked_as table t.span l ∷ marked table ts)))
+      by (lexeme.Word name) rest = use_by (is_no_use b (class_of (term_named table name))) name (class_of (term_named table name)) rest
+      by lexeme.OpenParen rest = lower (starts (words_from a_paren (marked table ts))) (rest a_paren)
+      by l rest = lower (starts (words_from another (marked table ts))) (rest another)
+
+starts_of_uses : (us : List Use) → starts (map spot_of us) ≡ map (λ (u : Use). u.span.start) us
+starts_of_uses [] = refl
+starts_of_uses (u ∷ us) = ap (λ x. u.span.start ∷ x) (starts_of_uses us)
+
+pub uses_ascend : UsesAscend
+uses_ascend d fit f e ts t first r tokens =
+    let is = ap starts (uses_are_words d fit f e ts t first r) in
+    subst (AscendFrom 0) (starts_of_uses (uses (terms d) first t)) (subst (AscendFrom 0) (sym is) (words_ascend (terms d) another 0 ts tokens))

@@ -5,6 +5,7 @@ pub mod FaultText
 pub mod Grammar
 pub mod Index
 pub mod Names
+pub mod Order
 pub mod Slots
 pub mod Term
 pub mod Tokens

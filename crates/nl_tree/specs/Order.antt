@@ -1,5 +1,5 @@
 -- The words of a text come in the order of the text.
-use Rattle.std.specs.Prelude.{◌≡◌, Bool, true, false, List, [], ◌∷◌, map, if◌then◌else◌}
+use Rattle.std.specs.Prelude.{◌≡◌, ℕ, ◌+◌, ◌≤◌, Bool, true, false, List, [], ◌∷◌, map, if◌then◌else◌}
 use Rattle.nl_fixed.specs.Nouns.{Name, Names}
 use Rattle.nl_fixed.specs.declared.span.Span.{Span}
 use Rattle.nl_words.specs.declared.entry.Kinds.{Kinds}
@@ -62,3 +62,16 @@ UsesAreWords =
     (d : Declared) → IsDeclared d → (form : Form) (names : Names) (ts : List Token) (t : Node) (first : Kinds)
     → IsText form names (marked (terms d) ts) t
     → map spot_of (uses (terms d) first t) ≡ used_words (marked (terms d) ts)
+
+-- numbers from one on, each greater than the one before
+abbrev pub AscendFrom : ℕ → List ℕ → Type 0
+AscendFrom n [] = Unit {0}
+AscendFrom n (x ∷ xs) = (n ≤ x) × AscendFrom (x + 1) xs
+
+-- So where tokens stand one behind another, so do the uses.
+abbrev pub UsesAscend : Type 0
+UsesAscend =
+    (d : Declared) → IsDeclared d → (form : Form) (names : Names) (ts : List Token) (t : Node) (first : Kinds)
+    → IsText form names (marked (terms d) ts) t
+    → AscendFrom 0 (map (λ (k : Token). k.span.start) ts)
+    → AscendFrom 0 (map (λ (u : Use). u.span.start) (uses (terms d) first t))

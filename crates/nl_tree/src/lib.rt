@@ -4,6 +4,7 @@
 pub mod declared;
 pub mod faults;
 pub mod index;
+pub mod laws;
 pub mod needs;
 pub mod program;
 pub mod tree;

@@ -1,5 +1,5 @@
-use Rattle.std.proofs.Common.{◌≡◌, ◌<◌, ℕ, Option, Some, None, IsSome, IfSome, IsTrue, sym, subst}
-use Rattle.nl_tree.specs.Slots.{OwnsSlot, global_slot, globals_count, names_global}
+use Rattle.std.proofs.Common.{◌<◌, IsSome, sym, subst}
+use Rattle.nl_tree.specs.Slots.{OwnsSlot, globals_count}
 use Rattle.nl_tree.proofs.Globals.{slot_in_range, slots_are_apart, has_slot, slot_there, if_some}
 use Rattle.nl_tree.proofs.program.Program.global.Goals as goal
 
