@@ -1,3 +1,4 @@
+pub mod Headings
 pub mod Nouns
 pub mod NumberLaws
 pub mod Numbers

@@ -4,6 +4,7 @@
 pub mod arithmetic;
 #[cfg(test)]
 mod arithmetic_tests;
+pub mod headings;
 pub mod lists;
 pub mod memory;
 pub mod number;
@@ -18,6 +19,7 @@ pub mod spelling_laws;
 mod spelling_tests;
 pub mod text;
 
+pub use arithmetic::rounded_quotient;
 pub use lists::{Cells, Names};
 pub use memory::NoMemory;
 pub use number::{Num, NumFault};

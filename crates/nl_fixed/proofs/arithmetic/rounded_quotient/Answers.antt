@@ -2,7 +2,7 @@ use Rattle.std.proofs.Common.{◌*◌, ◌≡◌, pos, ◌+ℤ◌, ◌*ℤ◌, t
 use Rattle.std.specs.Int.{w128}
 use Rattle.std.proofs.lemmas.Int.{ints, to_z-of_z}
 use Rattle.nl_fixed.proofs.Wide.{rounded_is}
-use Rattle.nl_fixed.proofs.arithmetic.rounded.Goals as goal
+use Rattle.nl_fixed.proofs.arithmetic.rounded_quotient.Goals as goal
 
 pub returns : goal.returns
 returns c =
