@@ -1,4 +1,5 @@
 pub mod Angles
+pub mod CharacterLemmas
 pub mod Digits
 pub mod Directions
 pub mod Forms

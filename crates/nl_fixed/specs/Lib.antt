@@ -1,3 +1,4 @@
+pub mod Characters
 pub mod Headings
 pub mod Nouns
 pub mod NumberLaws
@@ -6,3 +7,4 @@ pub mod Quoted
 pub mod Sines
 pub mod Spelling
 pub mod SpellingLaws
+pub mod inner

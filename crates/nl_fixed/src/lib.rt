@@ -4,6 +4,7 @@
 pub mod arithmetic;
 #[cfg(test)]
 mod arithmetic_tests;
+pub mod characters;
 pub mod headings;
 pub mod lists;
 pub mod memory;

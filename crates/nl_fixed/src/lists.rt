@@ -13,9 +13,9 @@ pub struct Names {
 }
 
 impl Model for Names {
-    ghost use Rattle.std.specs.Prelude.{ℕ, List};
+    ghost use Rattle.nl_fixed.specs.Nouns.{Names as NameList};
 
-    ghost Value = { List (List ℕ) };
+    ghost Value = { NameList };
 
     ghost view = { λ names. names.list.items };
 }
@@ -54,9 +54,9 @@ pub struct Cells {
 }
 
 impl Model for Cells {
-    ghost use Rattle.std.specs.Prelude.{ℕ, List};
+    ghost use Rattle.nl_fixed.specs.Nouns.{Texts};
 
-    ghost Value = { List (List ℕ) };
+    ghost Value = { Texts };
 
     ghost view = { λ cells. cells.list.items };
 }
