@@ -1,4 +1,4 @@
-use Rattle.std.proofs.Common.{◌≡◌, ◌<◌, ◌≤◌, ◌+◌, true, false, Some, length, get_or, ◌∙◌, sym, ap, arith}
+use Rattle.std.proofs.Common.{◌≡◌, ◌+◌, true, false, Some, length, get_or, ◌∙◌, sym, ap, arith}
 use Rattle.nl_fixed.specs.Characters.{begins}
 use Rattle.nl_fixed.proofs.CharacterLemmas.{found_from, search_begun, search_past, search_counted, search_here, search_ended, search_missed}
 use Rattle.nl_fixed.proofs.characters.beginning_place.Goals as goal

@@ -1,4 +1,4 @@
-use Rattle.std.proofs.Common.{◌≡◌, ◌≤◌, ◌+◌, length, drop}
+use Rattle.std.proofs.Common.{◌≡◌, ◌+◌, drop}
 use Rattle.std.specs.Option.{option_map}
 use Rattle.nl_fixed.specs.inner.Beginnings.{beginning_place}
 use Rattle.nl_fixed.proofs.characters.beginning_place.Given as goal
