@@ -19,6 +19,8 @@ pub mod spelling_laws;
 #[cfg(test)]
 mod spelling_tests;
 pub mod text;
+#[cfg(test)]
+mod text_tests;
 
 pub use arithmetic::rounded_quotient;
 pub use lists::{Cells, Names};

@@ -62,7 +62,7 @@ impl Num {
         ensures { result ≡ int_of self }
     {
         Num {
-            count: self.count / ONE * ONE,
+            count: self.whole_part() * ONE,
         }
     }
 
