@@ -13,7 +13,7 @@ use Rattle.nl_scan.specs.declared.token.ScanKind.{ScanKind}
 use Rattle.nl_scan.specs.declared.pieces.Form.{Form}
 use Rattle.nl_scan.specs.declared.pieces.Piece.{Piece}
 use Rattle.nl_scan.specs.Forms.{Flaw, is_space, is_in_line, is_word_byte, is_none_left, is_closed, is_some_bracket, bracket_of, semicolon, quote, backslash, has_form, first_bad_escape, meaning_of, meaning_behind, word_meaning, quoted_meaning}
-use Rattle.nl_scan.specs.Tokens.{form_at, closed_length, piece_at, piece_by, word_piece, quoted_piece, escaped_piece, bracket_piece}
+use Rattle.nl_scan.specs.inner.Pieces.{form_at, closed_length, piece_at, piece_by, word_piece, quoted_piece, escaped_piece, bracket_piece}
 use Rattle.nl_scan.specs.Cuts.{Stretch, IsFirst, IsUnformed, kind_of_first}
 use Rattle.nl_scan.proofs.Runs.{begins, begins-form_at, form_at-begins, closed_length-within}
 

@@ -5,7 +5,10 @@ use Rattle.std.proofs.lemmas.Option.{slice_get_within, get_or_from_slice_get}
 use Rattle.nl_scan.specs.declared.token.Lexeme.{Lexeme}
 use Rattle.nl_scan.specs.declared.token.Token.{Token}
 use Rattle.nl_scan.specs.declared.pieces.Piece.{Piece}
-use Rattle.nl_scan.specs.Tokens.{ScanFault, text_limit, cut_from, tokens_of, IsTokenOf, after_piece, token_first, piece_at, least_length, AreInOrder, IsPieceWithin}
+use Rattle.nl_scan.specs.Faults.{ScanFault, text_limit}
+use Rattle.nl_scan.specs.Forms.{least_length}
+use Rattle.nl_scan.specs.Tokens.{tokens_of, IsTokenOf, AreInOrder}
+use Rattle.nl_scan.specs.inner.Pieces.{cut_from, after_piece, token_first, piece_at, IsPieceWithin}
 use Rattle.nl_scan.proofs.Cutting.{least_length-some, piece_at-within}
 
 -- tokens in order from a place on are so from an earlier one on

@@ -1,6 +1,9 @@
 pub mod CodePart
 pub mod Contents
 pub mod Cuts
+pub mod Faults
 pub mod Forms
 pub mod Place
+pub mod Texts
 pub mod Tokens
+pub mod inner

@@ -1,6 +1,8 @@
 //! A text cut into tokens.
 ghost use Rattle.std.specs.Prelude.{◌≡◌, ◌≤◌, length, IfOk};
-ghost use Rattle.nl_scan.specs.Tokens.{AreInOrder, Scans, cut_from, text_limit, tokens_of};
+ghost use Rattle.nl_scan.specs.Faults.{text_limit};
+ghost use Rattle.nl_scan.specs.Tokens.{AreInOrder, Scans, tokens_of};
+ghost use Rattle.nl_scan.specs.inner.Pieces.{cut_from};
 
 use crate::TEXT_LIMIT;
 use crate::pieces::{Piece, first_piece};

@@ -1,7 +1,7 @@
 use Rattle.std.proofs.Common.{ℕ, Err, sym, ap, ◌∙◌, Result, List}
 use Rattle.nl_scan.specs.declared.token.Token.{Token}
 use Rattle.nl_scan.specs.declared.token.ScanKind.{ScanKind}
-use Rattle.nl_scan.specs.Tokens.{ScanFault}
+use Rattle.nl_scan.specs.Faults.{ScanFault}
 use Rattle.nl_scan.proofs.Cutting.{tokens_of-long, tokens_of-no_text, tokens_of-text}
 use Rattle.nl_scan.proofs.scanner.scan.Goals as goal
 
