@@ -168,7 +168,7 @@ longest_is byte rest form m at is other (suc n) le h =
     let most = subst P same (reach-most other rest n parts.1 (omega arith)) in
     let bound = rw is at most in omega (arith, bound)
 
-first_is : (byte : ℕ) (rest : List ℕ) (form : Form) (m : ℕ) → form_at byte ≡ Some form → reach form rest ≡ Some m → IsFirst (byte ∷ rest) (record { form = form; bytes = byte ∷ take m rest })
+pub first_is : (byte : ℕ) (rest : List ℕ) (form : Form) (m : ℕ) → form_at byte ≡ Some form → reach form rest ≡ Some m → IsFirst (byte ∷ rest) (record { form = form; bytes = byte ∷ take m rest })
 first_is byte rest form m at is =
     let held = reach-is form rest m is in
     let len : length (take m rest) ≡ m = length-take-le m rest held.1 in
@@ -207,7 +207,7 @@ bracket_piece-is : (bracket : Option Lexeme) → is_some_bracket bracket ≡ tru
 bracket_piece-is None h = cc
 bracket_piece-is (Some lexeme) h = refl
 
-piece-is : (byte : ℕ) (rest : List ℕ) (form : Form) (m : ℕ) → form_at byte ≡ Some form → reach form rest ≡ Some m
+pub piece-is : (byte : ℕ) (rest : List ℕ) (form : Form) (m : ℕ) → form_at byte ≡ Some form → reach form rest ≡ Some m
     → piece_by (Some form) byte rest ≡ piece_of (suc m) (meaning_behind form byte (take m rest))
 piece-is byte rest Form.Space m at is = let e : m ≡ 0 = cc in rw e refl
 piece-is byte rest Form.Comment m at is = let e : prefix_len is_in_line rest ≡ m = cc in ap (λ n. Piece.Gap (suc n)) e

@@ -4,6 +4,7 @@ use Rattle.std.specs.Char.{is_ascii_alphanumeric}
 use Rattle.std.specs.List.{list_all}
 use Rattle.std.specs.Option.{option_map}
 use Rattle.nl_fixed.specs.Nouns.{Bytes}
+pub use Rattle.nl_fixed.specs.Quoted.{quote, backslash, line_feed}
 use Rattle.nl_fixed.specs.declared.number.NumFault.{NumFault}
 use Rattle.nl_fixed.specs.Spelling.{read_of}
 use Rattle.nl_scan.specs.declared.token.Lexeme.{Lexeme}
@@ -16,20 +17,11 @@ use Rattle.nl_scan.specs.declared.pieces.Form.{Form}
 abbrev pub is_space : ℕ → Bool
 is_space byte = byte == 32 || byte == 9 || byte == 13 || byte == 10
 
-abbrev pub line_feed : ℕ
-line_feed = 10
-
 abbrev pub is_in_line : ℕ → Bool
 is_in_line byte = not (byte == line_feed)
 
 abbrev pub semicolon : ℕ
 semicolon = 59
-
-abbrev pub quote : ℕ
-quote = 34
-
-abbrev pub backslash : ℕ
-backslash = 92
 
 -- one of `.?=*!<>:#+/%$_^'&-`
 abbrev pub is_mark : ℕ → Bool

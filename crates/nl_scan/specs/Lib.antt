@@ -6,4 +6,5 @@ pub mod Forms
 pub mod Place
 pub mod Texts
 pub mod Tokens
+pub mod Written
 pub mod inner

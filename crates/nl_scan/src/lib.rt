@@ -9,12 +9,14 @@ pub mod place;
 pub mod scanner;
 #[cfg(test)]
 mod tests;
+pub mod texts;
 pub mod token;
 
 pub use code::code_part;
 pub use content::text_of;
 pub use place::line_column;
 pub use scanner::scan;
+pub use texts::{bytes_of, word_of};
 pub use token::{Lexeme, ScanKind, ScanRefusal, Token, Tokens};
 
 /// A text of more bytes is refused.
