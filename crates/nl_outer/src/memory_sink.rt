@@ -88,6 +88,7 @@ impl Sink for MemSink {
     fn put(&mut self, bytes: &[u8]) -> Result<(), WriteFail>
         ensures whole { OnOk result (Appended (Some self.old.bytes) (Some self.new.bytes) bytes.now) }
         ensures part { OnErr result (PartAppended (Some self.old.bytes) (Some self.new.bytes) bytes.now) }
+        ensures ok { OnOk result (self.new.faults ≡ self.old.faults) }
         ensures cause { OnErr result (Rose self.old.faults self.new.faults) }
         ensures later { self.old.faults ≤ self.new.faults }
 
