@@ -1,5 +1,6 @@
 -- The tokens of a text, computed, and what holds of all of them.
-use Rattle.std.specs.Prelude.{◌≡◌, ℕ, ◌+◌, ◌≤◌, List, [], ◌∷◌, length, nat_lt, if◌then◌else◌, Some, Result, Ok, Err, slice_get}
+use Rattle.std.specs.Prelude.{◌≡◌, ℕ, ◌+◌, ◌≤◌, List, [], ◌∷◌, length, nat_lt, if◌then◌else◌, Some, unwrap_or, Result, Ok, Err, slice_get}
+use Rattle.std.specs.Option.{option_map}
 use Rattle.std.specs.Str.{IsUtf8, is_utf8}
 use Rattle.std.specs.Str.Lossy.{utf8_valid_len}
 use Rattle.nl_fixed.specs.Nouns.{Bytes}
@@ -36,3 +37,7 @@ Scans defined (Err ScanRefusal.NoMemory) = Unit {0}
 -- a token is one of those of a text
 abbrev pub IsTokenOf : Bytes → Token → Type 0
 IsTokenOf text token = (tokens : List Token) × (k : ℕ) × (tokens_of text ≡ Ok tokens) × (slice_get tokens k ≡ Some token)
+
+-- the place at which the token of an index begins, or the text's end where there is none
+abbrev pub start_of : Bytes → List Token → ℕ → ℕ
+start_of text tokens index = unwrap_or (option_map (λ token. token.span.start) (slice_get tokens index)) (length text)

@@ -1,7 +1,7 @@
 //! Texts with their tokens and faults, by rows that were worked out apart from the program.
 
 use crate::{
-    Lexeme, ScanKind, ScanRefusal, bytes_of, code_part, line_column, scan, text_of, word_of,
+    Lexeme, ScanKind, ScanRefusal, Source, bytes_of, code_part, line_column, scan, text_of, word_of,
 };
 use nl_fixed::Str;
 use std::alloc::Global;
@@ -262,6 +262,23 @@ fn a_word_is_its_bytes_in_lower_case(rt: HostRuntime) -> Result<(), Fail> {
     Ok(())
 }
 
+#[test]
+fn tokens_begin_at_these_places_and_the_text_ends_behind_them(rt: HostRuntime) -> Result<(), Fail> {
+    let text = b" ab [ \"c\" ] ".as_slice();
+    match scan(rt.alloc(), text) {
+        Ok(tokens) => {
+            let source = Source::new(text, tokens.as_slice());
+            assert_eq!(rt; source.tokens().len(), 4);
+            assert!(rt; source.text() == text);
+            for (index, place) in [(0, 1), (1, 4), (2, 6), (3, 10), (4, 12), (99, 12)] {
+                assert_eq!(rt; source.start_of(index), place);
+            }
+        }
+        Err(_) => assert!(rt; false, "tokens"),
+    }
+    Ok(())
+}
+
 // Words of one letter, with a space behind each.
 fn words(alloc: Global, count: usize) -> Result<Vec<u8>, Fail> {
     let mut text = Vec::new(alloc);
@@ -276,11 +293,10 @@ fn a_text_may_have_very_many_tokens(rt: HostRuntime) -> Result<(), Fail> {
     let text = words(rt.alloc(), 100_000)?;
     let tokens = scan(rt.alloc(), text.as_slice()).expect(&rt, "no fault");
     assert_eq!(rt; tokens.as_slice().len(), 100_000);
-    let last = tokens.as_slice().get(99_999).copied();
-    assert_eq!(rt;
-        last.map_or((0, 0), |token| (token.span.start, token.span.len)),
-        (199_998, 1)
-    );
+    match tokens.as_slice() {
+        [.., token] => assert_eq!(rt; (token.span.start, token.span.len), (199_998, 1)),
+        [] => assert!(rt; false, "tokens"),
+    }
     Ok(())
 }
 
