@@ -13,9 +13,10 @@ pub struct Args {
 }
 
 impl Model for Args {
-    ghost use Rattle.std.specs.Prelude.{ℕ, List, map, string_bytes};
+    ghost use Rattle.nl_outer.specs.Nouns.{Words};
+    ghost use Rattle.std.specs.Prelude.{map, string_bytes};
 
-    ghost Value = { List (List ℕ) };
+    ghost Value = { Words };
 
     ghost view = { λ args. map string_bytes args.words.items };
 }

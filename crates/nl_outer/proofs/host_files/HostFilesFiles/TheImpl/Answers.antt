@@ -13,6 +13,7 @@ read_file-tells g c = record {
   bound = c.ensures.bound;
   cause = c.ensures.cause;
   place = c.ensures.place;
+  want = c.ensures.want;
   later = c.ensures.later;
   same_folder = refl;
   same_paths = refl;
