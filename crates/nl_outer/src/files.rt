@@ -1,6 +1,6 @@
 //! Files that are read whole.
 ghost use Rattle.nl_outer.specs.declared.files.ReadFail.TheVariants as ReadFail;
-ghost use Rattle.std.specs.Prelude.{◌≡◌, ℕ, ◌+◌, ◌≤◌, Bool, true, length, Option, Some, IfOk, IfSome, IsErrOf};
+ghost use Rattle.std.specs.Prelude.{◌≡◌, ℕ, ◌+◌, ◌≤◌, Bool, true, length, Option, Some, IfOk, IfSome, IsErrOf, OnOk};
 ghost use Rattle.nl_outer.specs.Faults.{Rose};
 
 use nl_fixed::{NoMemory, Str};
@@ -53,7 +53,7 @@ pub trait Files {
     ghost folder: { Self → Option Folder };
 
     /// All bytes of a file, or its first `most + 1` where it is longer. A file that isn't there is a
-    /// fault; want of memory is none.
+    /// fault; a read that is done and want of memory are none.
     fn read_file(&mut self, alloc: Global, path: &str, most: u64) -> Result<Vec<u8>, ReadFail>
         requires { serves self.old path.now ≡ true }
         ensures bytes { IfOk result (λ bytes. IfSome (folder self.old) (λ files.
@@ -61,6 +61,7 @@ pub trait Files {
         ensures bound { IfOk result (λ bytes. length bytes.items ≤ most + 1) }
         ensures cause { IsErrOf result ReadFail.Failed → Rose (faults self.old) (faults self.new) }
         ensures place { IsErrOf result ReadFail.Failed → last_fault self.new ≡ path.now }
+        ensures ok { OnOk result (faults self.new ≡ faults self.old) }
         ensures want { IsErrOf result ReadFail.NoMemory → faults self.new ≡ faults self.old }
         ensures later { faults self.old ≤ faults self.new }
         ensures same_folder { folder self.new ≡ folder self.old }

@@ -89,6 +89,7 @@ impl Files for MemFiles {
         ensures bound { IfOk result (λ bytes. length bytes.items ≤ most + 1) }
         ensures cause { IsErrOf result ReadFail.Failed → Rose self.old.faults self.new.faults }
         ensures place { IsErrOf result ReadFail.Failed → self.new.last_fault ≡ path.now }
+        ensures ok { OnOk result (self.new.faults ≡ self.old.faults) }
         ensures want { IsErrOf result ReadFail.NoMemory → self.new.faults ≡ self.old.faults }
         ensures later { self.old.faults ≤ self.new.faults }
 

@@ -13,6 +13,7 @@ read_file-tells g c = record {
   bound = c.ensures.bound;
   cause = c.ensures.cause;
   place = c.ensures.place;
+  ok = c.ensures.ok;
   want = c.ensures.want;
   later = c.ensures.later;
   same_folder = refl;
