@@ -48,11 +48,11 @@ impl Args {
         self.words.len()
     }
 
-    /// The word at a place, counted from 0.
-    pub fn word(&self, at: usize) -> Option<&str>
-        ensures { option_map (λ word. word.now) result ≡ slice_get self.now at }
+    /// The word of an index, counted from 0.
+    pub fn word(&self, index: usize) -> Option<&str>
+        ensures { option_map (λ word. word.now) result ≡ slice_get self.now index }
     {
-        match self.words.get(at) {
+        match self.words.get(index) {
             Some(word) => Some(word.as_str()),
             None => None,
         }
