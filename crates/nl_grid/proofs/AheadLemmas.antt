@@ -14,7 +14,7 @@ use Rattle.nl_grid.proofs.AxisLemmas.{by_bool, wrapped_within, wrapped_moved}
 use Rattle.nl_grid.proofs.CoverLemmas.{offset_is_way, offset_flat}
 use Rattle.nl_grid.proofs.ShapeLemmas.{offset_within}
 use Rattle.nl_grid.proofs.StepLemmas.{moved_up, moved_down}
-use Rattle.nl_grid.specs.Geometry.{Plane, IsAxis, IsWithinLimits, IsInside, IsPointOf, wrapped, wrapped_point, point_of_sums, point_beside, share_of, point_ahead, axis_offset, x_offset, y_offset}
+use Rattle.nl_grid.specs.Geometry.{Plane, IsAxis, IsWithinLimits, IsInside, IsPointOf, wrapped, wrapped_point, point_beside, share_of, point_ahead, axis_offset, x_offset, y_offset}
 
 -- ---- a product with a sine
 

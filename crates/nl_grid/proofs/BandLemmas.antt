@@ -55,15 +55,15 @@ inside_bands columns rows r c below column row = rw (row_of r c columns.side bel
 
 -- the first one from a patch on lies in its row
 pub first_in_row : (columns rows : Band) (patch c : ℕ) → AreBands columns rows → in_band rows (patch / columns.side) ≡ true → IsFirstIndex columns (patch % columns.side) c → IsFirstFrom columns rows patch (patch / columns.side * columns.side + c)
-first_in_row columns rows patch c bands line place = record {
-  from = omega (arith, div-add-mod' patch columns.side, place.start);
-  passes = inside_bands columns rows (patch / columns.side) c place.below place.passes line;
+first_in_row columns rows patch c bands at_row at_column = record {
+  from = omega (arith, div-add-mod' patch columns.side, at_column.start);
+  passes = inside_bands columns rows (patch / columns.side) c at_column.below at_column.passes at_row;
   first = λ other after before.
       let row_low = rows_ascend patch other columns.side bands.columns_are.some after in
       let row_high = rows_ascend other (patch / columns.side * columns.side + c) columns.side bands.columns_are.some (omega (arith, before)) in
-      let same : patch / columns.side ≡ other / columns.side = omega (arith, row_low, row_high, row_of (patch / columns.side) c columns.side place.below) in
+      let same : patch / columns.side ≡ other / columns.side = omega (arith, row_low, row_high, row_of (patch / columns.side) c columns.side at_column.below) in
       let product = ap (λ r. r * columns.side) same in
-      outside_by_column columns rows other (place.first (other % columns.side) (columns_ascend patch other columns.side same after) (omega (arith, div-add-mod' other columns.side, product, before)));
+      outside_by_column columns rows other (at_column.first (other % columns.side) (columns_ascend patch other columns.side same after) (omega (arith, div-add-mod' other columns.side, product, before)));
 }
 
 -- no patch of the row from this one on is in the bands
@@ -81,18 +81,18 @@ done_by_columns columns rows patch none other after same = outside_by_column col
 -- the first one from a patch on lies in a later row
 pub first_in_later_row : (columns rows : Band) (patch r c : ℕ) → AreBands columns rows → RowIsDone columns rows patch → IsFirstIndex rows (patch / columns.side + 1) r → IsFirstIndex columns 0 c → IsFirstFrom columns rows patch (r * columns.side + c)
 unfolding RowIsDone
-first_in_later_row columns rows patch r c bands done line place = record {
-  from = later_row patch r c columns.side bands.columns_are.some (omega (arith, line.start));
-  passes = inside_bands columns rows r c place.below place.passes line.passes;
+first_in_later_row columns rows patch r c bands done at_row at_column = record {
+  from = later_row patch r c columns.side bands.columns_are.some (omega (arith, at_row.start));
+  passes = inside_bands columns rows r c at_column.below at_column.passes at_row.passes;
   first = λ other after before.
       let row_low = rows_ascend patch other columns.side bands.columns_are.some after in
       let row_high = rows_ascend other (r * columns.side + c) columns.side bands.columns_are.some (omega (arith, before)) in
-      let last = row_of r c columns.side place.below in
+      let last = row_of r c columns.side at_column.below in
       elim (cases_eq (patch / columns.side) (other / columns.side)) [
         | inl same ↦ done other after same
         | inr apart ↦ elim (cases_eq (other / columns.side) r) [
-          | inl here ↦ outside_by_column columns rows other (place.first (other % columns.side) (omega arith) (let product = ap (λ x. x * columns.side) here in omega (arith, div-add-mod' other columns.side, product, before)))
-          | inr between ↦ outside_by_row columns rows other (line.first (other / columns.side) (omega (arith, row_low, apart)) (omega (arith, row_high, last, between)))
+          | inl here ↦ outside_by_column columns rows other (at_column.first (other % columns.side) (omega arith) (let product = ap (λ x. x * columns.side) here in omega (arith, div-add-mod' other columns.side, product, before)))
+          | inr between ↦ outside_by_row columns rows other (at_row.first (other / columns.side) (omega (arith, row_low, apart)) (omega (arith, row_high, last, between)))
         ]
       ];
 }

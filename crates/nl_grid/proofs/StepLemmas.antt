@@ -254,26 +254,26 @@ neighbor4_is_step plane patch other limits below held =
     let y = step_up plane patch other limits below known.0 known.1 in
     by_test (column plane other == column plane patch)
     (λ line.
-    let place = eqb-true (column plane other) (column plane patch) line in
-    let turned_to : pycor_of plane patch ≡ pycor_of plane other → ⊥ = λ level. differ (same_patch other patch (side plane.x) place (omega (arith, ints, level))) in
+    let same_column = eqb-true (column plane other) (column plane patch) line in
+    let turned_to : pycor_of plane patch ≡ pycor_of plane other → ⊥ = λ same_row. differ (same_patch other patch (side plane.x) same_column (omega (arith, ints, same_row))) in
     let single = step_is_one plane.y (pycor_of plane patch) (pycor_of plane other) y limits.y (inside_y plane patch limits below) turned_to in
     record {
       across = pos 0;
       up = y.by;
       single = omega (arith, single);
       leads = coordinates_lead plane patch other (pxcor_of plane patch +ℤ pos 0) (pycor_of plane patch +ℤ y.by) limits known.0
-          (stay plane.x (pxcor_of plane patch) (pxcor_of plane other) limits.x (inside_x plane patch limits) (omega (arith, ints, place))) y.leads;
+          (stay plane.x (pxcor_of plane patch) (pxcor_of plane other) limits.x (inside_x plane patch limits) (omega (arith, ints, same_column))) y.leads;
     })
     (λ turned_away.
-    let level = eqb-true (row plane other) (row plane patch) (or_second (column plane other == column plane patch) (row plane other == row plane patch) turned_away both.1) in
-    let turned_to : pxcor_of plane patch ≡ pxcor_of plane other → ⊥ = λ place. differ (same_patch other patch (side plane.x) (omega (arith, ints, place)) level) in
+    let same_row = eqb-true (row plane other) (row plane patch) (or_second (column plane other == column plane patch) (row plane other == row plane patch) turned_away both.1) in
+    let turned_to : pxcor_of plane patch ≡ pxcor_of plane other → ⊥ = λ same_column. differ (same_patch other patch (side plane.x) (omega (arith, ints, same_column)) same_row) in
     let single = step_is_one plane.x (pxcor_of plane patch) (pxcor_of plane other) x limits.x (inside_x plane patch limits) turned_to in
     record {
       across = x.by;
       up = pos 0;
       single = omega (arith, single);
       leads = coordinates_lead plane patch other (pxcor_of plane patch +ℤ x.by) (pycor_of plane patch +ℤ pos 0) limits known.0 x.leads
-          (stay plane.y (pycor_of plane patch) (pycor_of plane other) limits.y (inside_y plane patch limits below) (omega (arith, ints, level)));
+          (stay plane.y (pycor_of plane patch) (pycor_of plane other) limits.y (inside_y plane patch limits below) (omega (arith, ints, same_row)));
     })
 
 straight_in_line : (plane : Plane) (patch other : ℕ) → IsWithinLimits plane → patch < patches_of plane → IsStraightStep plane patch other → is_in_line plane patch other ≡ true
@@ -281,17 +281,17 @@ straight_in_line plane patch other limits below step =
     let found = decoded plane (pxcor_of plane patch +ℤ step.across) (pycor_of plane patch +ℤ step.up) other step.leads in
     let at : Point = record { x = found.x; y = found.y } in
     let point : IsPointOf plane at = record { x = wrapped_lies_inside plane.x ((pxcor_of plane patch +ℤ step.across) *ℤ pos one) found.x limits.x found.is_x; y = wrapped_lies_inside plane.y ((pycor_of plane patch +ℤ step.up) *ℤ pos one) found.y limits.y found.is_y } in
-    let place_x = subst (λ p. pos (column plane p) ≡ patch_coordinate found.x -ℤ plane.x.least) found.is (column_at plane at limits point) in
-    let place_y = subst (λ p. pos (row plane p) ≡ plane.y.greatest -ℤ patch_coordinate found.y) found.is (row_at plane at limits point) in
+    let index_x = subst (λ p. pos (column plane p) ≡ patch_coordinate found.x -ℤ plane.x.least) found.is (column_at plane at limits point) in
+    let index_y = subst (λ p. pos (row plane p) ≡ plane.y.greatest -ℤ patch_coordinate found.y) found.is (row_at plane at limits point) in
     elim (cases_lt 0 (unsigned_abs step.across)) [
       | inl moves ↦
           let stays = step_stays plane.y (pycor_of plane patch) step.up found.y limits.y (inside_y plane patch limits below) (omega (arith, ints, moves, step.single)) found.is_y in
           let rounded = ap patch_coordinate stays ∙ rounded_whole (pycor_of plane patch) in
-          or_right (column plane other == column plane patch) (row plane other == row plane patch) (eq-eqb (row plane other) (row plane patch) (omega (arith, ints, place_y, rounded)))
+          or_right (column plane other == column plane patch) (row plane other == row plane patch) (eq-eqb (row plane other) (row plane patch) (omega (arith, ints, index_y, rounded)))
       | inr still ↦
           let stays = step_stays plane.x (pxcor_of plane patch) step.across found.x limits.x (inside_x plane patch limits) (omega (arith, ints, still)) found.is_x in
           let rounded = ap patch_coordinate stays ∙ rounded_whole (pxcor_of plane patch) in
-          let line = eq-eqb (column plane other) (column plane patch) (omega (arith, ints, place_x, rounded)) in
+          let line = eq-eqb (column plane other) (column plane patch) (omega (arith, ints, index_x, rounded)) in
           rw line refl
     ]
 

@@ -22,7 +22,7 @@ impl Band {
         ensures side { result.side ≡ side }
         ensures band { IsBand result }
         ensures few { size_of result ≤ 2 * steps + 1 }
-        ensures indices { HasIndices result side (λ other. nat_le (apart index other) steps) }
+        ensures indices { HasIndices result side (λ j. nat_le (apart index j) steps) }
     {
         let to = (index + steps + 1).min(side);
         Band {
@@ -41,7 +41,7 @@ impl Band {
         ensures side { result.side ≡ side }
         ensures band { IsBand result }
         ensures few { size_of result ≤ 2 * steps + 1 }
-        ensures indices { HasIndices result side (λ other. nat_le (apart_round side index other) steps) }
+        ensures indices { HasIndices result side (λ j. nat_le (apart_round side index j) steps) }
     {
         let end = index + steps + 1;
         if side <= 2 * steps {
