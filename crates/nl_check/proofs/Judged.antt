@@ -19,8 +19,8 @@ use Rattle.nl_tree.proofs.Range.{named_in_range}
 use Rattle.nl_check.specs.declared.refusal.CheckRefusal.{CheckRefusal}
 use Rattle.nl_check.specs.declared.refusal.CheckRefusal.TheVariants as refusal
 use Rattle.nl_check.specs.declared.faults.Wrong.{Wrong}
-use Rattle.nl_check.specs.Steps.{steps_of}
-use Rattle.nl_check.specs.Faults.{first_wrong}
+use Rattle.nl_check.specs.inner.Steps.{steps_of}
+use Rattle.nl_check.specs.inner.Faults.{first_wrong}
 use Rattle.nl_check.specs.Answers.{IsModelRefusal, IsTextRefusal, IsBodyFault, answered}
 use Rattle.nl_check.proofs.Graph.{called_left}
 use Rattle.nl_check.proofs.Verdicts.{none_found, some_found}

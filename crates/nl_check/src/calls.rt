@@ -1,6 +1,6 @@
 //! Which kinds the words of a body's own text allow, and which procedures they call.
 ghost use Rattle.std.specs.Prelude.{◌≡◌, ◌∷◌, [], ◌++◌, ◌<◌, ℕ, All, IfOk, OnOk, OnErr, length};
-ghost use Rattle.nl_check.specs.Calls.{runs_at, runs_in, callee_at, call_to, calls_in, with_caller, reversed, nobody};
+ghost use Rattle.nl_check.specs.inner.Calls.{runs_at, runs_in, callee_at, call_to, calls_in, with_caller, reversed, nobody};
 
 use crate::kinds::{kinds, meet};
 use crate::step::Step;

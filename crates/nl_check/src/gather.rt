@@ -3,7 +3,7 @@ ghost use Rattle.std.specs.Prelude.{◌≡◌, ◌∷◌, [], ◌++◌, IfOk, On
 ghost use Rattle.nl_tree.specs.Names.{IsDeclared};
 ghost use Rattle.nl_tree.specs.Views.{plain};
 ghost use Rattle.nl_tree.specs.Vocabulary.{terms};
-ghost use Rattle.nl_check.specs.Calls.{own_of, calls_from, runs_in, calls_in, body_steps};
+ghost use Rattle.nl_check.specs.inner.Calls.{own_of, calls_from, runs_in, calls_in, body_steps};
 
 use crate::body::steps_of;
 use crate::calls::{Call, put_calls, runs_in};

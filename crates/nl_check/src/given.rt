@@ -9,27 +9,24 @@ ghost use Rattle.nl_tree.specs.Vocabulary.{terms};
 ghost use Rattle.nl_tree.specs.Context.{given, givens, told, agents_of, block_kinds, last_value};
 ghost use Rattle.nl_words.specs.Kinds.{agents};
 ghost use Rattle.nl_tree.specs.Tokens.{inputs_of};
-ghost use Rattle.nl_decl.specs.Words.{named};
-ghost use Rattle.nl_check.specs.Given.{given_by, is_value};
+ghost use Rattle.nl_tree.specs.Index.{named};
+ghost use Rattle.nl_check.specs.inner.Given.{given_by, is_value};
 
 use crate::kinds::kinds;
-use crate::words::{input_at, is_nearest, makes_links, makes_turtles};
-use nl_decl::{Word, word};
-use nl_tree::{Declared, Label, Tree};
-use nl_words::{Input, Kinds};
+use crate::words::{input_at, is_nearest, runner};
+use nl_tree::{Declared, Label, Tree, Word, word};
+use nl_words::{Input, Kinds, Runner};
 
 /// The kinds of agents that run a word's block first: new turtles, new links, or what the word's input of agents may give.
 pub(crate) fn block_kinds(declared: &Declared, word: &Word, tree: &Tree) -> Kinds
     requires { IsDeclared declared.now }
     ensures { result ≡ block_kinds (named [] word.now) (givens (terms declared.now) (nodes (parts (plain tree.now)))) }
 {
-    if makes_turtles(word) {
-        return kinds(false, true, false, false);
+    match runner(word.what) {
+        Runner::Turtles => kinds(false, true, false, false),
+        Runner::Links => kinds(false, false, false, true),
+        Runner::Given | Runner::Same | Runner::NoBlock => agents_of(declared, word, tree),
     }
-    if makes_links(word) {
-        return kinds(false, false, false, true);
-    }
-    agents_of(declared, word, tree)
 }
 
 // What the word's input of agents may give, among the parts of its node.

@@ -1,7 +1,7 @@
 //! Sets of kinds of agents.
 ghost use Rattle.std.specs.Prelude.{◌≡◌};
 ghost use Rattle.nl_words.specs.Kinds.{everyone, observers, turtles, links, agents};
-ghost use Rattle.nl_check.specs.Kinds.{meet, is_none, count};
+ghost use Rattle.nl_check.specs.inner.Kinds.{meet, is_none, count};
 
 use nl_words::Kinds;
 

@@ -1,8 +1,8 @@
 //! Which kinds may run each procedure: a fixed point over who calls whom.
 ghost use Rattle.std.specs.Prelude.{◌≡◌, ◌∷◌, [], ◌++◌, ◌<◌, ℕ, All, IfOk, OnOk, length, if◌then◌else◌};
 ghost use Rattle.std.specs.List.{slice_index_or};
-ghost use Rattle.nl_check.specs.Kinds.{count};
-ghost use Rattle.nl_check.specs.Reach.{ArePlaces, AreSettled, passed_kinds, passed_work};
+ghost use Rattle.nl_check.specs.inner.Kinds.{count};
+ghost use Rattle.nl_check.specs.inner.Reach.{ArePlaces, AreSettled, passed_kinds, passed_work};
 
 use crate::calls::Places;
 use crate::kinds::{count, meet};

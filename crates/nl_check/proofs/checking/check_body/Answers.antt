@@ -7,7 +7,7 @@ use Rattle.nl_tree.specs.Tree.{Node}
 use Rattle.nl_tree.specs.Views.{plain}
 use Rattle.nl_tree.specs.Vocabulary.{terms}
 use Rattle.nl_tree.specs.Context.{IsRightBody}
-use Rattle.nl_check.specs.Faults.{first_wrong}
+use Rattle.nl_check.specs.inner.Faults.{first_wrong}
 use Rattle.nl_check.specs.Answers.{IsBodyFault}
 use Rattle.nl_check.proofs.Judged.{body_right, body_refused}
 use Rattle.nl_check.proofs.checking.check_body.Goals as goal

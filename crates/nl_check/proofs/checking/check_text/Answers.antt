@@ -4,9 +4,9 @@ use Rattle.nl_words.specs.Kinds.{observers}
 use Rattle.nl_tree.specs.Views.{plain}
 use Rattle.nl_tree.specs.Vocabulary.{terms}
 use Rattle.nl_tree.specs.Context.{IsRightText}
-use Rattle.nl_check.specs.Steps.{steps_of}
+use Rattle.nl_check.specs.inner.Steps.{steps_of}
 use Rattle.nl_tree.specs.Context.{pieces}
-use Rattle.nl_check.specs.Faults.{first_wrong}
+use Rattle.nl_check.specs.inner.Faults.{first_wrong}
 use Rattle.nl_check.specs.Answers.{IsTextRefusal}
 use Rattle.nl_check.proofs.Judged.{text_right, text_refused}
 use Rattle.nl_check.proofs.checking.check_text.Goals as goal

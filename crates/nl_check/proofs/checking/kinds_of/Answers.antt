@@ -1,6 +1,6 @@
 use Rattle.std.proofs.Common.{sym, ap, subst, ◌∙◌, length}
 use Rattle.nl_tree.specs.Vocabulary.{terms}
-use Rattle.nl_check.specs.Reach.{AreSettled}
+use Rattle.nl_check.specs.inner.Reach.{AreSettled}
 use Rattle.nl_check.proofs.Graph.{own_length, list_inside, callers_many, callers_placed, left_there}
 use Rattle.nl_check.proofs.Judged.{callee_there, if_ok}
 use Rattle.nl_check.proofs.checking.kinds_of.Goals as goal

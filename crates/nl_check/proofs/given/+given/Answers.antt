@@ -7,7 +7,7 @@ use Rattle.nl_tree.specs.Views.{plain}
 use Rattle.nl_tree.specs.Vocabulary.{terms, term_named}
 use Rattle.nl_tree.specs.Context.{given, givens, given_as, first_kinds, told, told_by}
 use Rattle.nl_tree.proofs.Parts.{listed_nodes}
-use Rattle.nl_decl.specs.Words.{named}
+use Rattle.nl_tree.specs.Index.{named}
 use Rattle.nl_check.proofs.given.+given.Goals as goal
 
 first_there : (table : List Term) (parts : List Node) (t : Node) → Some t ≡ slice_get (listed (nodes parts)) 0 → given table t ≡ first_kinds (givens table (nodes parts))

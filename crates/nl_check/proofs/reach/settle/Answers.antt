@@ -1,6 +1,6 @@
 use Rattle.std.proofs.Common.{ℕ, ◌<◌, length, All, arith, subst}
 use Rattle.std.specs.List.{Contains}
-use Rattle.nl_check.specs.Reach.{Settling}
+use Rattle.nl_check.specs.inner.Reach.{Settling}
 use Rattle.nl_check.proofs.Chains.{begun, settled, all_reached, is_place, callers_inside, next_settling, next_less, no_work}
 use Rattle.nl_check.proofs.reach.settle.Goals as goal
 

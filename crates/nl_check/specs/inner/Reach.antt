@@ -5,7 +5,7 @@ use Rattle.std.specs.List.{Contains, slice_index_or, sum_by}
 use Rattle.nl_words.specs.declared.entry.Kinds.{Kinds}
 use Rattle.nl_words.specs.Kinds.{everyone}
 use Rattle.nl_tree.specs.Context.{Kind, allows}
-use Rattle.nl_check.specs.Kinds.{meet, count}
+use Rattle.nl_check.specs.inner.Kinds.{meet, count}
 
 abbrev pub kinds_at : List Kinds → ℕ → Kinds
 kinds_at ks i = slice_index_or ks i everyone

@@ -8,9 +8,9 @@ use Rattle.nl_tree.specs.Context.{pieces}
 use Rattle.nl_check.specs.declared.calls.Call.{Call}
 use Rattle.nl_check.specs.declared.step.Step.{Step}
 use Rattle.nl_check.specs.declared.step.Step.TheVariants as step
-use Rattle.nl_check.specs.Kinds.{meet}
-use Rattle.nl_check.specs.Steps.{steps_of}
-use Rattle.nl_check.specs.Reach.{places_at}
+use Rattle.nl_check.specs.inner.Kinds.{meet}
+use Rattle.nl_check.specs.inner.Steps.{steps_of}
+use Rattle.nl_check.specs.inner.Reach.{places_at}
 
 abbrev pub runs_at : Step → Kinds
 runs_at (step.Word u) = if u.inner then everyone else u.runs
