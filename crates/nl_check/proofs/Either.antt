@@ -23,7 +23,7 @@ use Rattle.nl_check.specs.inner.Reach.{kinds_at, places_at, ArePlaces, AreSettle
 use Rattle.nl_check.specs.inner.Steps.{steps_of}
 use Rattle.nl_check.proofs.Chains.{stepped, begun, settled, all_reached, passed_weighs, within_all}
 use Rattle.nl_check.proofs.Graph.{own_length, callers_many, callers_placed, left_there}
-use Rattle.nl_check.proofs.Judged.{callee_there, body_right, body_refused, text_right, text_refused, RightBelow, right_more, all_right, first_refused}
+use Rattle.nl_check.proofs.Judged.{callee_there, body_judged, text_right, text_refused, RightBelow, right_more, all_right, first_refused}
 
 -- ---- the work is done in so many rounds
 
@@ -96,9 +96,9 @@ module _ (d : Declared) (bodies : List Node) (called : List Kinds) (many : lengt
 
   judged : (n : ℕ) (p : Procedure) (t : Node) → RightBelow d bodies n → slice_get d.procedures n ≡ Some p → slice_get bodies n ≡ Some t
       → (found : Option Wrong) → found ≡ first_wrong called p.reporter [] everyone (steps_of (terms d) false (pieces (terms d) t)) → RightBelow d bodies (n + 1) ⊎ Faulty
-  judged n p t before is_p is_t None is = inl (right_more d bodies n before (body_right d bodies called many left n p t is_p is_t None is))
+  judged n p t before is_p is_t None is = inl (right_more d bodies n before (body_judged d bodies called many left n p t is_p is_t None is))
   judged n p t before is_p is_t (Some w) is =
-      let (i, (number, fault)) = first_refused d bodies n (refusal.Fault w.kind (n + 1) w.span) before (body_refused d bodies called many left n p t is_p is_t (Some w) is) in
+      let (i, (number, fault)) = first_refused d bodies n (refusal.Fault w.kind (n + 1) w.span) before (body_judged d bodies called many left n p t is_p is_t (Some w) is) in
       inr (i, w.kind, w.span, fault)
 
   one_more : (n : ℕ) → RightBelow d bodies n → (p : Option Procedure) (t : Option Node) → slice_get d.procedures n ≡ p → slice_get bodies n ≡ t → RightBelow d bodies (n + 1) ⊎ Faulty

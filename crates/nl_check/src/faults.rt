@@ -3,7 +3,7 @@ ghost use Rattle.std.specs.Prelude.{◌≡◌, [], ◌∷◌, ◌++◌, IfOk, On
 ghost use Rattle.nl_tree.specs.Context.{is_misplaced};
 ghost use Rattle.nl_check.specs.inner.Faults.{called_kinds, allowed, kind_at, placed, wrong_by, left_after, around_after, first_wrong, last_or, front};
 
-use crate::kinds::{is_none, kinds, meet};
+use crate::kinds::{everyone, is_none, meet};
 use crate::step::{Step, Use};
 use nl_fixed::{NoMemory, Span};
 use nl_tree::CheckKind;
@@ -46,9 +46,15 @@ fn take_step(
     left: &mut Kinds,
     around: &mut Vec<Kinds>,
 ) -> Result<Option<Wrong>, NoMemory>
-    ensures found { IfOk result (λ found. found ≡ wrong_by called.now reporter left.old step.now) }
-    ensures left { OnOk result (left.new ≡ left_after called.now around.old.items left.old step.now) }
-    ensures around { OnOk result (around.new.items ≡ around_after around.old.items left.old step.now) }
+    ensures found {
+        IfOk result (λ found. found ≡ wrong_by called.now reporter left.old step.now)
+    }
+    ensures left {
+        OnOk result (left.new ≡ left_after called.now around.old.items left.old step.now)
+    }
+    ensures around {
+        OnOk result (around.new.items ≡ around_after around.old.items left.old step.now)
+    }
 {
     match step {
         Step::Word(word) => {
@@ -99,11 +105,11 @@ fn called_kinds(called: &[Kinds], place: Option<u32>) -> Kinds
     ensures { result ≡ called_kinds called.now place }
 {
     let Some(place) = place else {
-        return kinds(true, true, true, true);
+        return everyone();
     };
     match called.get(place as usize) {
         Some(kinds) => *kinds,
-        None => kinds(true, true, true, true),
+        None => everyone(),
     }
 }
 

@@ -6,7 +6,7 @@ ghost use Rattle.nl_tree.specs.Context.{is_on_patches, row_of_term, fixed_by, le
 ghost use Rattle.nl_tree.specs.Index.{named};
 ghost use Rattle.nl_check.specs.inner.Steps.{runs_of, calls_of, unsettable_by, used_as};
 
-use crate::kinds::kinds;
+use crate::kinds::everyone;
 use crate::words::{is_fixed, leaving};
 use nl_fixed::Span;
 use nl_tree::{What, Word};
@@ -38,7 +38,7 @@ pub(crate) enum Step {
 
 /// The use of a word of this row, whatever its name.
 pub(crate) fn use_of(word: Option<Word>, span: Span, manner: Manner, inner: bool) -> Use
-    ensures { (name : Name) → result ≡ used_as (option_map (named name) word) inner span manner }
+    ensures { (n : Name) → result ≡ used_as (option_map (named n) word) inner span manner }
 {
     let counted = match manner {
         Manner::Run | Manner::Set => word,
@@ -59,7 +59,7 @@ fn runs_of(word: Option<Word>) -> Kinds
 {
     match word {
         Some(word) => word.runs,
-        None => kinds(true, true, true, true),
+        None => everyone(),
     }
 }
 

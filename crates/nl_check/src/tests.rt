@@ -9,7 +9,7 @@ ghost use Rattle.nl_check.specs.inner.Samples.{procedure_named, sample_procedure
 
 use crate::calls::{put_call, reversed};
 use crate::checking::{check, check_bodies, check_text, kinds_of};
-use crate::kinds::kinds;
+use crate::kinds::{everyone, kinds};
 use crate::reach::settle;
 use crate::refusal::{CheckKind, CheckRefusal};
 use nl_fixed::{Names, NoMemory, Span, Str};
@@ -38,7 +38,9 @@ fn procedure_row(
     reporter: bool,
     place: u32,
 ) -> Result<NamedWord, NoMemory>
-    ensures { IfOk result (λ w. term_of w ≡ procedure_term place (procedure_named name.now reporter)) }
+    ensures {
+        IfOk result (λ w. term_of w ≡ procedure_term place (procedure_named name.now reporter))
+    }
 {
     let name = Str::of(alloc, name)?;
     let role = if reporter {
@@ -46,7 +48,7 @@ fn procedure_row(
     } else {
         Role::Command
     };
-    let runs = kinds(true, true, true, true);
+    let runs = everyone();
     let gives = kinds(false, false, false, false);
     let word = Word {
         role,
@@ -73,7 +75,9 @@ fn procedures(alloc: Global) -> Result<Procedures, NoMemory>
 }
 
 fn index(alloc: Global) -> Result<NamedWords, NoMemory>
-    ensures { IfOk result (λ list. IsPermutation (counted procedure_term 0 sample_procedures) list) }
+    ensures {
+        IfOk result (λ list. IsPermutation (counted procedure_term 0 sample_procedures) list)
+    }
 {
     let mut rows = Vec::new(alloc);
     rows.push(procedure_row(alloc, b"a", false, 0)?)?;

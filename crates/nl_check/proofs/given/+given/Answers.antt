@@ -38,4 +38,4 @@ given-returns-in-None-part t c =
     let table = terms c.args.declared.now in
     let tree = c.args.tree.now in
     let at = sym c.label.ensures ∙ c.in-Paren.is in
-    c.kinds-in-None-part.ensures ∙ first_missing table tree.parts c.in-None-part.ensures.value ∙ sym (ap (λ l. given_as table l (givens table (nodes tree.parts))) at)
+    c.agents-in-None-part.ensures ∙ first_missing table tree.parts c.in-None-part.ensures.value ∙ sym (ap (λ l. given_as table l (givens table (nodes tree.parts))) at)
