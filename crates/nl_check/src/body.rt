@@ -22,9 +22,8 @@ pub(crate) fn steps_of(
     tree: &Tree,
 ) -> Result<Vec<Step>, NoMemory>
     requires { IsDeclared declared.now }
-    ensures {
-        IfOk result (λ steps. steps.items ≡ body_steps (terms declared.now) (plain tree.now))
-    }
+    ensures { IfOk result
+        (λ steps. steps.items ≡ body_steps (terms declared.now) (plain tree.now)) }
 {
     let mut steps = Vec::new(alloc);
     let text = Site {
@@ -56,10 +55,8 @@ impl<'a> Site<'a> {
     #[cycle(put)]
     fn put(&self, tree: &Tree, steps: &mut Vec<Step>) -> Result<(), NoMemory>
         requires { IsDeclared self.now.declared.now }
-        ensures {
-            OnOk result
-                (PutsSteps self.now steps.old.items steps.new.items (node_at self.now tree.now))
-        }
+        ensures { OnOk result
+            (PutsSteps self.now steps.old.items steps.new.items (node_at self.now tree.now)) }
     {
         match tree.label() {
             Label::Named(name) => match word(self.declared, name.as_bytes()) {
@@ -71,10 +68,7 @@ impl<'a> Site<'a> {
                     };
                     self.put_word(&node, steps)
                 }
-                None => put_use(
-                    use_of(None, tree.span(), Manner::Run, self.inner),
-                    steps,
-                ),
+                None => put_use(use_of(None, tree.span(), Manner::Run, self.inner), steps),
             },
             _ => self.put_plain(tree, steps),
         }
@@ -84,10 +78,8 @@ impl<'a> Site<'a> {
     #[cycle(put)]
     fn put_plain(&self, tree: &Tree, steps: &mut Vec<Step>) -> Result<(), NoMemory>
         requires { IsDeclared self.now.declared.now }
-        ensures {
-            OnOk result
-                (PutsSteps self.now steps.old.items steps.new.items (flat_at self.now tree.now))
-        }
+        ensures { OnOk result
+            (PutsSteps self.now steps.old.items steps.new.items (flat_at self.now tree.now)) }
     {
         for at in 0..tree.len() {
             let Some(part) = tree.part(at) else {
@@ -103,10 +95,8 @@ impl<'a> Site<'a> {
     fn put_word(&self, node: &WordNode, steps: &mut Vec<Step>) -> Result<(), NoMemory>
         requires model { IsDeclared self.now.declared.now }
         requires row { HasRow self.now node.now }
-        ensures {
-            OnOk result
-                (PutsSteps self.now steps.old.items steps.new.items (word_at self.now node.now))
-        }
+        ensures { OnOk result
+            (PutsSteps self.now steps.old.items steps.new.items (word_at self.now node.now)) }
     {
         if !is_operator(node.word.role) {
             self.put_name(node, steps)?;
@@ -122,17 +112,11 @@ impl<'a> Site<'a> {
 
     // Appends the use of the word itself.
     fn put_name(&self, node: &WordNode, steps: &mut Vec<Step>) -> Result<(), NoMemory>
-        ensures {
-            OnOk result (steps.new.items ≡ steps.old.items ++ own_step self.now node.now ∷ [])
-        }
+        ensures { OnOk result
+            (steps.new.items ≡ steps.old.items ++ own_step self.now node.now ∷ []) }
     {
         put_use(
-            use_of(
-                Some(node.word),
-                node.tree.span(),
-                Manner::Run,
-                self.inner,
-            ),
+            use_of(Some(node.word), node.tree.span(), Manner::Run, self.inner),
             steps,
         )
     }
@@ -141,10 +125,9 @@ impl<'a> Site<'a> {
     #[cycle(put)]
     fn put_parts(&self, node: &WordNode, from: usize, steps: &mut Vec<Step>) -> Result<(), NoMemory>
         requires { IsDeclared self.now.declared.now }
-        ensures {
-            OnOk result
-                (PutsSteps self.now steps.old.items steps.new.items (parts_at self.now node.now from))
-        }
+        ensures { OnOk result
+            (PutsSteps self.now steps.old.items steps.new.items
+            (parts_at self.now node.now from)) }
     {
         for at in from..node.tree.len() {
             let Some(part) = node.tree.part(at) else {
@@ -165,11 +148,9 @@ impl<'a> Site<'a> {
         steps: &mut Vec<Step>,
     ) -> Result<(), NoMemory>
         requires { IsDeclared self.now.declared.now }
-        ensures {
-            OnOk result
-                (PutsSteps self.now steps.old.items steps.new.items
-                    (part_at self.now node.now at part.now))
-        }
+        ensures { OnOk result
+            (PutsSteps self.now steps.old.items steps.new.items
+            (part_at self.now node.now at part.now)) }
     {
         match input_at(&node.word, at) {
             Some(Input::Variable) => self.put_variable(node, part, steps),
@@ -182,11 +163,9 @@ impl<'a> Site<'a> {
     #[cycle(put)]
     fn put_inner(&self, node: &WordNode, part: &Tree, steps: &mut Vec<Step>) -> Result<(), NoMemory>
         requires { IsDeclared self.now.declared.now }
-        ensures {
-            OnOk result
-                (PutsSteps self.now steps.old.items steps.new.items
-                    (inner_at self.now node.now part.now))
-        }
+        ensures { OnOk result
+            (PutsSteps self.now steps.old.items steps.new.items
+            (inner_at self.now node.now part.now)) }
     {
         if is_block(part.label()) && !runs_itself(node.word.what) {
             let first = block_kinds(self.declared, &node.word, node.tree);
@@ -210,11 +189,9 @@ impl<'a> Site<'a> {
         steps: &mut Vec<Step>,
     ) -> Result<(), NoMemory>
         requires { IsDeclared self.now.declared.now }
-        ensures {
-            OnOk result
-                (PutsSteps self.now steps.old.items steps.new.items
-                    (variable_at self.now node.now part.now))
-        }
+        ensures { OnOk result
+            (PutsSteps self.now steps.old.items steps.new.items
+            (variable_at self.now node.now part.now)) }
     {
         let variable = text_of(part.label());
         let row = word(self.declared, variable);

@@ -53,13 +53,11 @@ pub fn check_text(
     form: Form,
 ) -> Result<(), CheckRefusal>
     requires { Fits form [] (terms program.now.declared) (plain tree.now) }
-    ensures right {
-        OnOk result (IsRightText (terms program.now.declared) program.now.bodies (plain tree.now))
-    }
+    ensures right { OnOk result
+        (IsRightText (terms program.now.declared) program.now.bodies (plain tree.now)) }
     ensures slots { OnOk result (NamesHaveSlots program.now.declared [] (plain tree.now)) }
-    ensures refused {
-        IfErr result (IsTextRefusal program.now.declared program.now.bodies (plain tree.now))
-    }
+    ensures refused { IfErr result
+        (IsTextRefusal program.now.declared program.now.bodies (plain tree.now)) }
 {
     let called = kinds_in(alloc, program)?;
     let steps = steps_of(alloc, program.declared(), tree)?;
@@ -128,13 +126,7 @@ fn check_body(
     };
     let steps = steps_of(alloc, declared, body)?;
     let first = everyone();
-    let found = first_wrong(
-        alloc,
-        steps.as_slice(),
-        first,
-        called,
-        procedure.reporter,
-    )?;
+    let found = first_wrong(alloc, steps.as_slice(), first, called, procedure.reporter)?;
     accept(found, at + 1)
 }
 

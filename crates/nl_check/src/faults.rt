@@ -46,15 +46,11 @@ fn take_step(
     left: &mut Kinds,
     around: &mut Vec<Kinds>,
 ) -> Result<Option<Wrong>, NoMemory>
-    ensures found {
-        IfOk result (λ found. found ≡ wrong_by called.now reporter left.old step.now)
-    }
-    ensures left {
-        OnOk result (left.new ≡ left_after called.now around.old.items left.old step.now)
-    }
-    ensures around {
-        OnOk result (around.new.items ≡ around_after around.old.items left.old step.now)
-    }
+    ensures found { IfOk result (λ found. found ≡ wrong_by called.now reporter left.old step.now) }
+    ensures left { OnOk result
+        (left.new ≡ left_after called.now around.old.items left.old step.now) }
+    ensures around { OnOk result
+        (around.new.items ≡ around_after around.old.items left.old step.now) }
 {
     match step {
         Step::Word(word) => {

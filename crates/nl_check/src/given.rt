@@ -109,9 +109,8 @@ fn is_value(input: Option<Input>) -> bool
 // The part where it is chosen, else what was found before.
 fn chosen<'a>(here: bool, part: &'a Tree, found: Option<&'a Tree>) -> Option<&'a Tree>
     ensures is { part_of result ≡ (if here then Some (plain part.now) else part_of found.entry) }
-    ensures smaller {
-        (n : ℕ) → size (plain part.now) < n → IsBelow n found.entry → IsBelow n result
-    }
+    ensures smaller { (n : ℕ) → size (plain part.now) < n
+        → IsBelow n found.entry → IsBelow n result }
 {
     if here { Some(part) } else { found }
 }

@@ -45,10 +45,8 @@ fn all_places(alloc: Global, count: usize) -> Result<Vec<usize>, NoMemory>
 
 // Appends a place where it has changed.
 fn put_if(changed: bool, place: usize, work: &mut Vec<usize>) -> Result<(), NoMemory>
-    ensures {
-        OnOk result
-            (work.new.items ≡ (if changed then work.old.items ++ place ∷ [] else work.old.items))
-    }
+    ensures { OnOk result
+        (work.new.items ≡ (if changed then work.old.items ++ place ∷ [] else work.old.items)) }
 {
     if changed {
         work.push(place)?;
@@ -64,13 +62,10 @@ fn pass_on(
     work: &mut Vec<usize>,
 ) -> Result<(), NoMemory>
     requires { All (λ i. i < length kinds.old.items) callers.now }
-    ensures kinds {
-        OnOk result (kinds.new.items ≡ passed_kinds given callers.now kinds.old.items)
-    }
-    ensures work {
-        OnOk result
-            (work.new.items ≡ passed_work given callers.now kinds.old.items work.old.items)
-    }
+    ensures kinds { OnOk result
+        (kinds.new.items ≡ passed_kinds given callers.now kinds.old.items) }
+    ensures work { OnOk result
+        (work.new.items ≡ passed_work given callers.now kinds.old.items work.old.items) }
 {
     for caller in callers {
         let old = kinds[*caller];

@@ -11,11 +11,11 @@ use crate::calls::{put_call, reversed};
 use crate::checking::{check, check_bodies, check_text, kinds_of};
 use crate::kinds::{everyone, kinds};
 use crate::reach::settle;
-use crate::refusal::{CheckKind, CheckRefusal};
+use crate::refusal::CheckRefusal;
 use nl_fixed::{Names, NoMemory, Span, Str};
 use nl_tree::{
-    Breeds, Declared, Form, Label, NamedWord, NamedWords, Procedure, Procedures, Tree, Trees, What,
-    Word,
+    Breeds, CheckKind, Declared, Form, Label, NamedWord, NamedWords, Procedure, Procedures, Tree,
+    Trees, What, Word,
 };
 use nl_words::{Kinds, Role};
 use std::alloc::Global;
@@ -38,9 +38,8 @@ fn procedure_row(
     reporter: bool,
     place: u32,
 ) -> Result<NamedWord, NoMemory>
-    ensures {
-        IfOk result (λ w. term_of w ≡ procedure_term place (procedure_named name.now reporter))
-    }
+    ensures { IfOk result
+        (λ w. term_of w ≡ procedure_term place (procedure_named name.now reporter)) }
 {
     let name = Str::of(alloc, name)?;
     let role = if reporter {
@@ -75,9 +74,8 @@ fn procedures(alloc: Global) -> Result<Procedures, NoMemory>
 }
 
 fn index(alloc: Global) -> Result<NamedWords, NoMemory>
-    ensures {
-        IfOk result (λ list. IsPermutation (counted procedure_term 0 sample_procedures) list)
-    }
+    ensures { IfOk result
+        (λ list. IsPermutation (counted procedure_term 0 sample_procedures) list) }
 {
     let mut rows = Vec::new(alloc);
     rows.push(procedure_row(alloc, b"a", false, 0)?)?;
