@@ -1,7 +1,7 @@
 use Rattle.std.proofs.Common.{sym}
 use Rattle.nl_words.specs.Row.{row_of}
 use Rattle.nl_words.specs.Rows.{rows}
-use Rattle.nl_check.specs.Tables.{base_whats}
+use Rattle.nl_check.specs.inner.Tables.{base_whats}
 use Rattle.nl_check.proofs.NamedRows.{row_step}
 use Rattle.nl_check.proofs.rows.base_rows.Goals as goal
 

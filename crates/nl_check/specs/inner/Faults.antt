@@ -1,24 +1,16 @@
 -- The first fault of a text, from its steps.
-use Rattle.std.specs.Prelude.{ℕ, Bool, false, not, ◌&&◌, ◌||◌, if◌then◌else◌, List, [], ◌∷◌, ◌++◌, Option, Some, None, slice_get}
+use Rattle.std.specs.Prelude.{ℕ, Bool, if◌then◌else◌, List, [], ◌∷◌, ◌++◌, Option, Some, None, slice_get}
 use Rattle.nl_words.specs.declared.entry.Kinds.{Kinds}
 use Rattle.nl_words.specs.Kinds.{everyone}
 use Rattle.nl_fixed.specs.declared.span.Span.{Span}
-use Rattle.nl_tree.specs.Context.{ContextFault, WrongContext, NotSettable, NoReport}
-use Rattle.nl_check.specs.declared.refusal.CheckKind.{CheckKind}
-use Rattle.nl_check.specs.declared.refusal.CheckKind.TheVariants as kind
+use Rattle.nl_tree.specs.declared.faults.CheckKind.{CheckKind}
+use Rattle.nl_tree.specs.declared.faults.CheckKind.TheVariants.{WrongContext, NotSettable, NoReport}
+use Rattle.nl_tree.specs.Context.{is_misplaced}
 use Rattle.nl_check.specs.declared.faults.Wrong.{Wrong}
-use Rattle.nl_check.specs.declared.step.Leaving.{Leaving}
-use Rattle.nl_check.specs.declared.step.Leaving.TheVariants as leaving
 use Rattle.nl_check.specs.declared.step.Use.{Use}
 use Rattle.nl_check.specs.declared.step.Step.{Step}
 use Rattle.nl_check.specs.declared.step.Step.TheVariants as step
-use Rattle.nl_check.specs.Kinds.{meet, is_none}
-
--- what a kind of fault is called in the meaning of a text
-abbrev pub fault_of : CheckKind → ContextFault
-fault_of kind.WrongContext = WrongContext
-fault_of kind.NotSettable = NotSettable
-fault_of kind.NoReport = NoReport
+use Rattle.nl_check.specs.inner.Kinds.{meet, is_none}
 
 abbrev pub or_everyone : Option Kinds → Kinds
 or_everyone None = everyone
@@ -32,17 +24,12 @@ called_kinds ks (Some j) = or_everyone (slice_get ks j)
 abbrev pub allowed : List Kinds → Use → Kinds
 allowed ks u = meet u.runs (called_kinds ks u.calls)
 
-abbrev pub misplaced : Bool → Bool → Leaving → Bool
-misplaced reporter inner leaving.No = false
-misplaced reporter inner leaving.Report = not reporter || inner
-misplaced reporter inner leaving.Stop = reporter && not inner
-
 -- the fault at a word at which these kinds are left
 abbrev pub kind_at : Bool → Kinds → Use → Option CheckKind
 kind_at reporter left u =
-    if is_none left then Some kind.WrongContext
-    else (if not u.settable then Some kind.NotSettable
-    else (if misplaced reporter u.inner u.leaving then Some kind.NoReport
+    if is_none left then Some WrongContext
+    else (if u.unsettable then Some NotSettable
+    else (if is_misplaced reporter u.inner u.leaving then Some NoReport
     else None))
 
 abbrev pub placed : Span → Option CheckKind → Option Wrong

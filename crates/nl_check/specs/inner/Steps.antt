@@ -1,28 +1,18 @@
 -- A text as a row of steps.
-use Rattle.std.specs.Prelude.{ℕ, Bool, true, not, ◌&&◌, if◌then◌else◌, List, [], ◌∷◌, ◌++◌, Option, Some, None, bytes_eq, codes}
+use Rattle.std.specs.Prelude.{ℕ, Bool, true, false, not, ◌||◌, List, [], ◌∷◌, ◌++◌, Option, Some, None}
 use Rattle.nl_fixed.specs.declared.span.Span.{Span}
 use Rattle.nl_words.specs.declared.entry.Kinds.{Kinds}
+use Rattle.nl_words.specs.declared.entry.Manner.{Manner}
+use Rattle.nl_words.specs.declared.entry.Manner.TheVariants as manner
 use Rattle.nl_words.specs.Kinds.{everyone}
 use Rattle.nl_tree.specs.declared.declared.What.{What}
 use Rattle.nl_tree.specs.declared.declared.What.TheVariants as what
 use Rattle.nl_tree.specs.Term.{Term}
 use Rattle.nl_tree.specs.Vocabulary.{term_named}
-use Rattle.nl_tree.specs.Context.{Manner, Run, Set, Spread, Piece, Pieces, use_of, block_of, no_piece, a_piece, packed, is_fixed, is_on_patches}
-use Rattle.nl_check.specs.declared.step.Leaving.{Leaving}
-use Rattle.nl_check.specs.declared.step.Leaving.TheVariants as leaving
-use Rattle.nl_check.specs.declared.step.Manner.{Manner as CodeManner}
-use Rattle.nl_check.specs.declared.step.Manner.TheVariants as code
+use Rattle.nl_tree.specs.Context.{Piece, Pieces, use_of, block_of, no_piece, a_piece, packed, row_of_term, fixed_by, leaving_by, is_on_patches}
 use Rattle.nl_check.specs.declared.step.Use.{Use}
 use Rattle.nl_check.specs.declared.step.Step.{Step}
 use Rattle.nl_check.specs.declared.step.Step.TheVariants as step
-
-abbrev pub manner_of : CodeManner → Manner
-manner_of code.Run = Run
-manner_of code.Set = Set
-manner_of code.Spread = Spread
-
-abbrev pub leaving_of : List ℕ → Leaving
-leaving_of w = if bytes_eq w (codes "report") then leaving.Report else (if bytes_eq w (codes "stop") then leaving.Stop else leaving.No)
 
 abbrev pub runs_of : Option Term → Kinds
 runs_of None = everyone
@@ -41,22 +31,31 @@ calls_of (Some t) = call_of t.what
 
 -- the row that counts for who may run the text
 abbrev pub counted : Manner → Option Term → Option Term
-counted Run o = o
-counted Set o = o
-counted Spread o = None
+counted manner.Run o = o
+counted manner.Set o = o
+counted manner.Spread o = None
 
-abbrev pub settable_by : Manner → Option Term → List ℕ → Bool
-settable_by Run o w = true
-settable_by Set o w = not (is_fixed w)
-settable_by Spread o w = not (is_fixed w) && is_on_patches o
+-- the word is a variable that may not stand there
+abbrev pub unsettable_by : Manner → Option Term → Bool
+unsettable_by manner.Run o = false
+unsettable_by manner.Set o = fixed_by (row_of_term o)
+unsettable_by manner.Spread o = fixed_by (row_of_term o) || not (is_on_patches o)
 
 -- a word of this row in its place
-abbrev pub used_as : Option Term → Bool → List ℕ → Span → Manner → Use
-used_as o inner w s m = record { span = s; runs = runs_of (counted m o); calls = calls_of (counted m o); settable = settable_by m o w; leaving = leaving_of w; inner = inner }
+abbrev pub used_as : Option Term → Bool → Span → Manner → Use
+used_as o inner s m =
+    record {
+      span = s;
+      runs = runs_of (counted m o);
+      calls = calls_of (counted m o);
+      unsettable = unsettable_by m o;
+      leaving = leaving_by (row_of_term o);
+      inner = inner;
+    }
 
 abbrev mutual
   pub piece_steps : List Term → Bool → Piece → List Step
-  piece_steps table inner (use_of w s m) = step.Word (used_as (term_named table w) inner w s m) ∷ []
+  piece_steps table inner (use_of w s m) = step.Word (used_as (term_named table w) inner s m) ∷ []
   piece_steps table inner (block_of first ps) = step.Open first ∷ (pieces_steps table true ps ++ step.Close ∷ [])
 
   pub pieces_steps : List Term → Bool → Pieces → List Step

@@ -1,12 +1,13 @@
 -- A small model, for tests.
-use Rattle.std.specs.Prelude.{ℕ, Bool, true, false, List, [], ◌∷◌, codes}
+use Rattle.std.specs.Prelude.{Bool, true, false, List, [], ◌∷◌, codes}
+use Rattle.nl_fixed.specs.Nouns.{Name}
 use Rattle.nl_tree.specs.declared.tree.Label.TheVariants as label
 use Rattle.nl_tree.specs.declared.declared.Procedure.{Procedure}
 use Rattle.nl_tree.specs.declared.declared.Declared.{Declared}
 use Rattle.nl_tree.specs.Term.{Term}
 use Rattle.nl_tree.specs.Tree.{Node, node, none}
 
-abbrev pub procedure_named : List ℕ → Bool → Procedure
+abbrev pub procedure_named : Name → Bool → Procedure
 procedure_named name reporter = record { name = name; reporter = reporter; inputs = []; first = 0; after = 0 }
 
 -- the procedures a, b and c, and the reporter r

@@ -8,9 +8,9 @@ use Rattle.nl_tree.specs.Context.{pieces}
 use Rattle.nl_check.specs.declared.calls.Call.{Call}
 use Rattle.nl_check.specs.declared.step.Step.{Step}
 use Rattle.nl_check.specs.declared.step.Step.TheVariants as step
-use Rattle.nl_check.specs.Kinds.{meet}
-use Rattle.nl_check.specs.Steps.{steps_of}
-use Rattle.nl_check.specs.Reach.{places_at}
+use Rattle.nl_check.specs.inner.Kinds.{meet}
+use Rattle.nl_check.specs.inner.Steps.{steps_of}
+use Rattle.nl_check.specs.inner.Reach.{Callers, places_at}
 
 abbrev pub runs_at : Step → Kinds
 runs_at (step.Word u) = if u.inner then everyone else u.runs
@@ -48,14 +48,14 @@ calls_from table i [] = []
 calls_from table i (t ∷ ts) = calls_in i (body_steps table t) ++ calls_from table (i + 1) ts
 
 -- each caller put behind those of its callee
-abbrev pub with_caller : List (List ℕ) → Call → List (List ℕ)
+abbrev pub with_caller : Callers → Call → Callers
 with_caller callers c = slice_set callers c.callee (places_at callers c.callee ++ c.caller ∷ [])
 
-abbrev pub reversed : List (List ℕ) → List Call → List (List ℕ)
+abbrev pub reversed : Callers → List Call → Callers
 reversed callers [] = callers
 reversed callers (c ∷ cs) = reversed (with_caller callers c) cs
 
 -- so many procedures that nobody calls
-abbrev pub nobody : ℕ → List (List ℕ)
+abbrev pub nobody : ℕ → Callers
 nobody zero = []
 nobody (suc n) = [] ∷ nobody n
