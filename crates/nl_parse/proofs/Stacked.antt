@@ -3,10 +3,10 @@ use Rattle.std.proofs.Common.{◌≡◌, ℕ, suc, true, false, List, ◌∷◌,
 use Rattle.nl_fixed.specs.declared.span.Span.{Span}
 use Rattle.nl_tree.specs.Tree.{Node, Nodes, node, none, more}
 use Rattle.nl_tree.specs.declared.tree.Label.TheVariants as label
-use Rattle.nl_parse.specs.Limit.{is_one}
+use Rattle.nl_reading.specs.inner.Limit.{is_one}
 use Rattle.nl_tree.specs.Tokens.{Need}
 use Rattle.nl_grammar.specs.Machine.{Shape, Literal, Have, closed, end_list, Frame, InNear, InMany, InOf, InList, InBracket, ThenItem, Begin, Listing, st, go, stop, next, begin_call, begin_many, begin_bracket, feed_of}
-use Rattle.nl_parse.specs.Asked.{more_sides, is_at_side, is_in_list}
+use Rattle.nl_parse.specs.inner.Asked.{more_sides, is_at_side, is_in_list}
 
 pub no_call : (w : List ℕ) (s : Span) (is : List Need) (e : List (List ℕ)) (K : List Frame) → more_sides K ≡ true → begin_call w s is e K ≡ stop
 no_call w s is e (InNear v r ts (suc n) ∷ K) h = refl

@@ -1,14 +1,15 @@
 //! Tokens where an expression begins.
 ghost use Rattle.std.specs.Prelude.{◌≡◌, ◌∷◌, ℕ, List, OnOk};
+ghost use Rattle.nl_fixed.specs.Nouns.{Names};
 ghost use Rattle.std.specs.Result.{IsErrOf};
 ghost use Rattle.nl_tree.specs.Vocabulary.{among};
 ghost use Rattle.nl_grammar.specs.Machine.{go, stop, feed_begin, feed_local, begin_call, begin_many, begin_minus, begin_bracket, end_bracket, end_many, closed, InMany};
 ghost use Rattle.nl_grammar.specs.Machine as M;
 ghost use Rattle.nl_parse.specs.declared.reader.Refusal.TheVariants.{Unexpected};
-ghost use Rattle.nl_parse.specs.View.{class_of, mark_of, needs_of};
-ghost use Rattle.nl_parse.specs.State.{stack_of, names_of, state_of};
-ghost use Rattle.nl_parse.specs.Reading.{frame_of, shape_of};
-ghost use Rattle.nl_parse.specs.Asked.{more_sides};
+ghost use Rattle.nl_reading.specs.inner.View.{class_of, mark_of, needs_of};
+ghost use Rattle.nl_parse.specs.inner.State.{stack_of, names_of, state_of};
+ghost use Rattle.nl_reading.specs.inner.Reading.{frame_of};
+ghost use Rattle.nl_parse.specs.inner.Asked.{more_sides};
 ghost use Rattle.nl_tree.specs.Tokens.{word};
 ghost use Rattle.nl_tree.specs.Grammar.{leaf};
 ghost use Rattle.nl_tree.specs.declared.tree.Label.TheVariants as label;
@@ -73,7 +74,7 @@ impl<'a> Reader<'a> {
 
     // A word that is an expression by itself.
     fn begin_leaf(&mut self, head: Head, shape: Shape) -> Result<(), Refusal>
-        ensures ok { OnOk result (go (closed (shape_of shape) (leaf (label.Named head.name) head.place) (names_of self.old) (stack_of self.old)) ≡ go (state_of self.new)) }
+        ensures ok { OnOk result (go (closed shape (leaf (label.Named head.name) head.place) (names_of self.old) (stack_of self.old)) ≡ go (state_of self.new)) }
         ensures fault { IsErrOf result Unexpected → ⊥ }
     {
         let tree = Grown::leaf(self.alloc, Label::Named(head.name), head.place);
@@ -213,7 +214,7 @@ impl<'a> Reader<'a> {
 
 // Whether the frame is that of a right side that others follow.
 fn is_more_sides(frame: &Frame) -> bool
-    ensures { (e : List (List ℕ)) (below : List M.Frame) → result ≡ more_sides (frame_of e frame.now ∷ below) }
+    ensures { (e : Names) (below : List M.Frame) → result ≡ more_sides (frame_of e frame.now ∷ below) }
 {
     match frame {
         Frame::Near(_, _, others) => *others > 0,

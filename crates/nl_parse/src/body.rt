@@ -1,7 +1,8 @@
 //! The reader of one text.
 ghost use Rattle.std.specs.Prelude.{◌≡◌, ℕ, List, [], ◌∷◌, ◌+◌, ◌++◌, ◌≤◌, OnOk, IfOk, IfErr, IfSome, IfNone, All, length};
+ghost use Rattle.nl_fixed.specs.Nouns.{Names};
 ghost use Rattle.nl_scan.specs.Tokens.{IsTokenOf};
-ghost use Rattle.nl_decl.specs.Texts.{plain_token, plain_tokens, word_at};
+ghost use Rattle.nl_text.specs.Texts.{plain_token, plain_tokens};
 ghost use Rattle.nl_tree.specs.Tree.{Node, depth};
 ghost use Rattle.nl_tree.specs.Tokens as T;
 ghost use Rattle.nl_grammar.specs.Machine as M;
@@ -13,10 +14,10 @@ ghost use Rattle.nl_tree.specs.BodyFault.{IsGood, ends_at, deepest};
 ghost use Rattle.nl_grammar.specs.Machine.{start, feed, go, st, Over, run_from};
 ghost use Rattle.nl_grammar.specs.Depth.{least_depth};
 ghost use Rattle.nl_tree.specs.declared.declared.Form.{Form};
-ghost use Rattle.nl_parse.specs.View.{mark_of};
+ghost use Rattle.nl_reading.specs.inner.View.{mark_of};
 ghost use Rattle.nl_parse.specs.Outcome.{Refuses, StopsAt, StopsIn, first_span};
-ghost use Rattle.nl_parse.specs.Reading.{mode_of};
-ghost use Rattle.nl_parse.specs.State.{state_of};
+ghost use Rattle.nl_reading.specs.inner.Reading.{mode_of};
+ghost use Rattle.nl_parse.specs.inner.State.{state_of};
 
 use crate::classes::class_of_word;
 use crate::frames::{Ending, Frame, Mode};
@@ -133,8 +134,8 @@ impl<'a> Reader<'a> {
         requires declared { IsDeclared declared.now }
         requires tokens { All (IsTokenOf text.now) tokens.now }
         requires allowed { least_depth (state_of self.old) ≤ deepest }
-        ensures ok { (form : Form) (names : List (List ℕ)) → state_of self.old ≡ start form names (first_span tokens.now end) → IfOk result (λ tree. IsGood form names (terms declared.now) (plain_tokens text.now tokens.now ++ ends_at end ∷ []) (plain tree)) }
-        ensures fault { (form : Form) (names : List (List ℕ)) → state_of self.old ≡ start form names (first_span tokens.now end) → IfErr result (Refuses form names (terms declared.now) (plain_tokens text.now tokens.now ++ ends_at end ∷ [])) }
+        ensures ok { (form : Form) (names : Names) → state_of self.old ≡ start form names (first_span tokens.now end) → IfOk result (λ tree. IsGood form names (terms declared.now) (plain_tokens text.now tokens.now ++ ends_at end ∷ []) (plain tree)) }
+        ensures fault { (form : Form) (names : Names) → state_of self.old ≡ start form names (first_span tokens.now end) → IfErr result (Refuses form names (terms declared.now) (plain_tokens text.now tokens.now ++ ends_at end ∷ [])) }
     {
         if let Err(refusal) = self.read_tokens(text, tokens, declared) {
             return Err(refusal);
@@ -186,7 +187,7 @@ impl<'a> Reader<'a> {
 
     // Goes over what ends the text, and gives the tree.
     fn finish(&mut self, end: Span, place: usize) -> Result<Tree, BodyRefusal>
-        ensures ok { IfOk result (λ tree. (e : List (List ℕ)) × (K : List M.Frame) × ((feed (state_of self.old) (T.end end) ≡ go (st (Over (plain tree)) e K)) × (depth (plain tree) ≤ deepest))) }
+        ensures ok { IfOk result (λ tree. (e : Names) × (K : List M.Frame) × ((feed (state_of self.old) (T.end end) ≡ go (st (Over (plain tree)) e K)) × (depth (plain tree) ≤ deepest))) }
         ensures fault { IfErr result (StopsAt (state_of self.old) (T.end end) place) }
     {
         if let Err(refusal) = self.step(place, Mark::End(end)) {

@@ -1,18 +1,19 @@
 //! Tokens behind what is at hand, and those of lists.
 ghost use Rattle.std.specs.Prelude.{◌≡◌, ℕ, List, [], ◌∷◌, OnOk};
+ghost use Rattle.nl_fixed.specs.Nouns.{Names};
 ghost use Rattle.nl_tree.specs.Grammar.{leaf, and_last};
 ghost use Rattle.nl_tree.specs.Tokens.{Tok, close_paren, word};
 ghost use Rattle.std.specs.Result.{IsErrOf};
 ghost use Rattle.nl_grammar.specs.Machine.{go, stop, feed_blocked, feed_items, feed_listing, feed_bracket, feed_paren, feed_minus, feed_reporter, feed_whole, feed_shut, feed_ended, st, Listing, InList};
 ghost use Rattle.nl_parse.specs.declared.reader.Refusal.TheVariants.{Unexpected};
-ghost use Rattle.nl_parse.specs.Asked.{feed_more};
-ghost use Rattle.nl_parse.specs.Around.{shut_in};
+ghost use Rattle.nl_parse.specs.inner.Asked.{feed_more};
+ghost use Rattle.nl_parse.specs.inner.Around.{shut_in};
 ghost use Rattle.nl_parse.specs.declared.closing.Around.TheVariants as Around;
 ghost use Rattle.nl_grammar.specs.Machine as M;
 ghost use Rattle.nl_tree.specs.Tree.{Node};
-ghost use Rattle.nl_parse.specs.View.{class_of, mark_of};
-ghost use Rattle.nl_parse.specs.Reading.{frame_of, names_with, shape_of, maybe_over};
-ghost use Rattle.nl_parse.specs.State.{stack_of, names_of, state_of};
+ghost use Rattle.nl_reading.specs.inner.View.{class_of, mark_of};
+ghost use Rattle.nl_reading.specs.inner.Reading.{frame_of, names_with, maybe_over};
+ghost use Rattle.nl_parse.specs.inner.State.{stack_of, names_of, state_of};
 
 use crate::frames::{Frame, Mode, Shape};
 use crate::marks::{Class, Head, Mark};
@@ -36,7 +37,7 @@ enum Around {
 
 // What a frame is around an expression.
 fn what_is(frame: &Frame) -> Around
-    ensures shut { (x : M.Shape) (t : Node) (tok : Tok) (e : List (List ℕ)) (below : List M.Frame) → feed_shut x t (names_with frame.now e) (frame_of e frame.now ∷ below) tok ≡ shut_in result x t e below tok }
+    ensures shut { (x : M.Shape) (t : Node) (tok : Tok) (e : Names) (below : List M.Frame) → feed_shut x t (names_with frame.now e) (frame_of e frame.now ∷ below) tok ≡ shut_in result x t e below tok }
     ensures something { result ≡ Around.Nothing → ⊥ }
 {
     match frame {
@@ -151,8 +152,8 @@ impl<'a> Reader<'a> {
 
     /// A token behind an expression, which closes it.
     pub fn feed_shut(&mut self, shape: Shape, tree: Grown, mark: Mark) -> Result<(), Refusal>
-        ensures ok { OnOk result (feed_shut (shape_of shape) tree (names_of self.old) (stack_of self.old) (mark_of mark) ≡ go (state_of self.new)) }
-        ensures fault { IsErrOf result Unexpected → feed_shut (shape_of shape) tree (names_of self.old) (stack_of self.old) (mark_of mark) ≡ stop }
+        ensures ok { OnOk result (feed_shut shape tree (names_of self.old) (stack_of self.old) (mark_of mark) ≡ go (state_of self.new)) }
+        ensures fault { IsErrOf result Unexpected → feed_shut shape tree (names_of self.old) (stack_of self.old) (mark_of mark) ≡ stop }
     {
         match self.take_around() {
             Around::Paren(bracket) => self.feed_paren(shape, tree, bracket, mark),
@@ -183,8 +184,8 @@ impl<'a> Reader<'a> {
         bracket: Span,
         mark: Mark,
     ) -> Result<(), Refusal>
-        ensures ok { OnOk result (feed_bracket (shape_of shape) tree bracket (names_of self.old) (stack_of self.old) (mark_of mark) ≡ go (state_of self.new)) }
-        ensures fault { IsErrOf result Unexpected → feed_bracket (shape_of shape) tree bracket (names_of self.old) (stack_of self.old) (mark_of mark) ≡ stop }
+        ensures ok { OnOk result (feed_bracket shape tree bracket (names_of self.old) (stack_of self.old) (mark_of mark) ≡ go (state_of self.new)) }
+        ensures fault { IsErrOf result Unexpected → feed_bracket shape tree bracket (names_of self.old) (stack_of self.old) (mark_of mark) ≡ stop }
     {
         if let Shape::Literal = shape {
             let items = Grouped::of(self.alloc, tree)?;
@@ -208,8 +209,8 @@ impl<'a> Reader<'a> {
         bracket: Span,
         mark: Mark,
     ) -> Result<(), Refusal>
-        ensures ok { OnOk result (feed_paren (shape_of shape) tree bracket (names_of self.old) (stack_of self.old) (mark_of mark) ≡ go (state_of self.new)) }
-        ensures fault { IsErrOf result Unexpected → feed_paren (shape_of shape) tree bracket (names_of self.old) (stack_of self.old) (mark_of mark) ≡ stop }
+        ensures ok { OnOk result (feed_paren shape tree bracket (names_of self.old) (stack_of self.old) (mark_of mark) ≡ go (state_of self.new)) }
+        ensures fault { IsErrOf result Unexpected → feed_paren shape tree bracket (names_of self.old) (stack_of self.old) (mark_of mark) ≡ stop }
     {
         match mark {
             Mark::CloseParen(_) => {
@@ -229,8 +230,8 @@ impl<'a> Reader<'a> {
         bracket: Span,
         mark: Mark,
     ) -> Result<(), Refusal>
-        ensures ok { OnOk result (feed_more (shape_of shape) tree bracket (names_of self.old) (stack_of self.old) (mark_of mark) ≡ go (state_of self.new)) }
-        ensures fault { IsErrOf result Unexpected → feed_more (shape_of shape) tree bracket (names_of self.old) (stack_of self.old) (mark_of mark) ≡ stop }
+        ensures ok { OnOk result (feed_more shape tree bracket (names_of self.old) (stack_of self.old) (mark_of mark) ≡ go (state_of self.new)) }
+        ensures fault { IsErrOf result Unexpected → feed_more shape tree bracket (names_of self.old) (stack_of self.old) (mark_of mark) ≡ stop }
     {
         if let Shape::Growing = shape {
             let (label, place, items) = tree.taken_apart();

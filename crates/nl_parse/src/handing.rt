@@ -1,9 +1,9 @@
 //! Trees handed to what waits for them.
 ghost use Rattle.std.specs.Prelude.{◌≡◌, ◌∷◌, OnOk, IfOk};
 ghost use Rattle.nl_grammar.specs.Machine.{end_statement, next, closed, supply, accept, end_list, settle, got, InMany, InNear};
-ghost use Rattle.nl_parse.specs.View.{needs_of};
-ghost use Rattle.nl_parse.specs.Reading.{last_of, shape_of, maybe_over};
-ghost use Rattle.nl_parse.specs.State.{stack_of, names_of, state_of};
+ghost use Rattle.nl_reading.specs.inner.View.{needs_of};
+ghost use Rattle.nl_reading.specs.inner.Reading.{maybe_over};
+ghost use Rattle.nl_parse.specs.inner.State.{stack_of, names_of, state_of};
 
 use crate::frames::{Frame, Last, Mode, Shape, begin_mode, build, closes};
 use crate::marks::{Head, Inputs};
@@ -49,7 +49,7 @@ impl<'a> Reader<'a> {
         rest: Inputs,
         last: Last,
     ) -> Result<(), NoMemory>
-        ensures { OnOk result (state_of self.new ≡ next head.name head.place inputs (needs_of rest) (last_of last) (names_of self.old) (stack_of self.old)) }
+        ensures { OnOk result (state_of self.new ≡ next head.name head.place inputs (needs_of rest) last (names_of self.old) (stack_of self.old)) }
     {
         match rest.split() {
             Some((need, rest)) => {
@@ -73,7 +73,7 @@ impl<'a> Reader<'a> {
     /// Hands what is closed to what waits for it.
     #[tactic(auto, using(crate::proofs::Stacked::at_hand))]
     pub fn closed(&mut self, shape: Shape, tree: Grown) -> Result<(), NoMemory>
-        ensures { OnOk result (state_of self.new ≡ closed (shape_of shape) tree (names_of self.old) (stack_of self.old)) }
+        ensures { OnOk result (state_of self.new ≡ closed shape tree (names_of self.old) (stack_of self.old)) }
     {
         if !self.is_at_side() {
             self.turn(Mode::Have(shape, tree));
@@ -97,7 +97,7 @@ impl<'a> Reader<'a> {
         shape: Shape,
         tree: Grown,
     ) -> Result<(), NoMemory>
-        ensures { OnOk result (state_of self.new ≡ closed (shape_of shape) tree (names_of self.old) (InNear head.name head.place sides others ∷ stack_of self.old)) }
+        ensures { OnOk result (state_of self.new ≡ closed shape tree (names_of self.old) (InNear head.name head.place sides others ∷ stack_of self.old)) }
     {
         let mut sides = sides;
         sides.add(self.alloc, tree)?;
@@ -147,7 +147,7 @@ impl<'a> Reader<'a> {
 
     /// Hands an expression, or an item, that no operator follows to what waits for it.
     pub fn accept(&mut self, shape: Shape, tree: Grown) -> Result<(), NoMemory>
-        ensures { OnOk result (state_of self.new ≡ accept (shape_of shape) tree (names_of self.old) (stack_of self.old)) }
+        ensures { OnOk result (state_of self.new ≡ accept shape tree (names_of self.old) (stack_of self.old)) }
     {
         match self.take() {
             Some(Frame::Call(head, inputs, _, rest, last)) => {
@@ -193,7 +193,7 @@ impl<'a> Reader<'a> {
         shape: Shape,
         tree: Grown,
     ) -> Result<(), NoMemory>
-        ensures { OnOk result (state_of self.new ≡ accept (shape_of shape) tree (names_of self.old) (InMany head.name head.place items others ∷ stack_of self.old)) }
+        ensures { OnOk result (state_of self.new ≡ accept shape tree (names_of self.old) (InMany head.name head.place items others ∷ stack_of self.old)) }
     {
         if others == 0 {
             return self.enter(Mode::Shut(shape, tree), Frame::Many(head, items, 0));
@@ -211,7 +211,7 @@ impl<'a> Reader<'a> {
         shape: Shape,
         tree: Grown,
     ) -> Result<(Shape, Grown), NoMemory>
-        ensures settled { IfOk result (λ held. settle level (shape_of shape) tree (stack_of self.old) ≡ got (shape_of held.0) held.1 (stack_of self.new)) }
+        ensures settled { IfOk result (λ held. settle level shape tree (stack_of self.old) ≡ got held.0 held.1 (stack_of self.new)) }
         ensures names { OnOk result (names_of self.new ≡ names_of self.old) }
     {
         let mut held = (shape, tree);

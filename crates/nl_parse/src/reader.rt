@@ -3,9 +3,9 @@ ghost use Rattle.std.specs.Prelude.{◌≡◌, ◌∷◌, [], ◌+◌, length, I
 ghost use Rattle.nl_parse.specs.declared.reader.Refusal.TheVariants as Refusal;
 ghost use Rattle.nl_tree.specs.Vocabulary.{among};
 ghost use Rattle.nl_grammar.specs.Machine.{st};
-ghost use Rattle.nl_parse.specs.Reading.{frame_of, mode_of, mode_names, names_with};
-ghost use Rattle.nl_parse.specs.State.{stack_of, names_of, state_of, outer_stack_of, outer_names_of};
-ghost use Rattle.nl_parse.specs.Asked.{is_at_side, is_in_list};
+ghost use Rattle.nl_reading.specs.inner.Reading.{frame_of, mode_of, mode_names, names_with};
+ghost use Rattle.nl_parse.specs.inner.State.{stack_of, names_of, state_of, outer_stack_of, outer_names_of};
+ghost use Rattle.nl_parse.specs.inner.Asked.{is_at_side, is_in_list};
 
 use crate::frames::{Frame, Mode, make_name};
 use crate::known_names::KnownNames;

@@ -6,10 +6,9 @@ ghost use Rattle.nl_tree.specs.Tree.{none};
 ghost use Rattle.nl_tree.specs.Grammar.{leaf, AtBracket};
 ghost use Rattle.nl_tree.specs.declared.tree.Label.TheVariants as label;
 ghost use Rattle.nl_parse.specs.declared.reader.Refusal.TheVariants.{Unexpected};
-ghost use Rattle.nl_parse.specs.View.{block_of, class_of, mark_of};
+ghost use Rattle.nl_reading.specs.inner.View.{class_of, mark_of};
 ghost use Rattle.nl_tree.specs.Tokens.{word};
-ghost use Rattle.nl_parse.specs.Reading.{ending_of};
-ghost use Rattle.nl_parse.specs.State.{stack_of, names_of, state_of};
+ghost use Rattle.nl_parse.specs.inner.State.{stack_of, names_of, state_of};
 
 use crate::frames::{Ending, Frame, Last, Mode};
 use crate::known_names::KnownNames;
@@ -22,8 +21,8 @@ use nl_tree::Label;
 impl<'a> Reader<'a> {
     /// A token where a block begins.
     pub fn feed_opening(&mut self, block: Block, mark: Mark) -> Result<(), Refusal>
-        ensures ok { OnOk result (feed_opening (block_of block) (names_of self.old) (stack_of self.old) (mark_of mark) ≡ go (state_of self.new)) }
-        ensures fault { IsErrOf result Unexpected → feed_opening (block_of block) (names_of self.old) (stack_of self.old) (mark_of mark) ≡ stop }
+        ensures ok { OnOk result (feed_opening block (names_of self.old) (stack_of self.old) (mark_of mark) ≡ go (state_of self.new)) }
+        ensures fault { IsErrOf result Unexpected → feed_opening block (names_of self.old) (stack_of self.old) (mark_of mark) ≡ stop }
     {
         let Mark::OpenBracket(place) = mark else {
             return Err(Refusal::Unexpected);
@@ -116,8 +115,8 @@ impl<'a> Reader<'a> {
         statements: Grouped,
         mark: Mark,
     ) -> Result<(), Refusal>
-        ensures ok { OnOk result (feed_ending (ending_of ending) bracket statements (names_of self.old) (stack_of self.old) (mark_of mark) ≡ go (state_of self.new)) }
-        ensures fault { IsErrOf result Unexpected → feed_ending (ending_of ending) bracket statements (names_of self.old) (stack_of self.old) (mark_of mark) ≡ stop }
+        ensures ok { OnOk result (feed_ending ending bracket statements (names_of self.old) (stack_of self.old) (mark_of mark) ≡ go (state_of self.new)) }
+        ensures fault { IsErrOf result Unexpected → feed_ending ending bracket statements (names_of self.old) (stack_of self.old) (mark_of mark) ≡ stop }
     {
         match (ending, &mark) {
             (Ending::AtBracket, Mark::CloseBracket(_)) => {

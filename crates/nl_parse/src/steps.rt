@@ -4,10 +4,10 @@ ghost use Rattle.std.specs.Result.{IsErrOf};
 ghost use Rattle.nl_tree.specs.Grammar.{top};
 ghost use Rattle.nl_grammar.specs.Machine.{InCall, next, without_maybes, st, go, stop, settle, takes_operator, feed_plain, feed_optional, feed_ready, feed_broken, feed_binary, feed_of, feed_have, feed};
 ghost use Rattle.nl_parse.specs.declared.reader.Refusal.TheVariants.{Unexpected};
-ghost use Rattle.nl_parse.specs.View.{class_of, mark_of, need_of, needs_of};
+ghost use Rattle.nl_reading.specs.inner.View.{class_of, mark_of, needs_of};
 ghost use Rattle.nl_tree.specs.Tokens.{word};
-ghost use Rattle.nl_parse.specs.Reading.{last_of, mode_of, mode_names, shape_of};
-ghost use Rattle.nl_parse.specs.State.{stack_of, names_of, state_of};
+ghost use Rattle.nl_reading.specs.inner.Reading.{mode_of, mode_names};
+ghost use Rattle.nl_parse.specs.inner.State.{stack_of, names_of, state_of};
 
 use crate::frames::{Frame, Last, Mode, Shape, TOP, takes_operator};
 use crate::marks::{Block, Class, Head, Inputs, Mark, Need};
@@ -72,8 +72,8 @@ impl<'a> Reader<'a> {
         last: Last,
         mark: Mark,
     ) -> Result<(), Refusal>
-        ensures ok { OnOk result (feed_optional (names_of self.old) (InCall head.name head.place inputs (need_of need) (needs_of rest) (last_of last) ∷ stack_of self.old) (mark_of mark) ≡ go (state_of self.new)) }
-        ensures fault { IsErrOf result Unexpected → feed_optional (names_of self.old) (InCall head.name head.place inputs (need_of need) (needs_of rest) (last_of last) ∷ stack_of self.old) (mark_of mark) ≡ stop }
+        ensures ok { OnOk result (feed_optional (names_of self.old) (InCall head.name head.place inputs need (needs_of rest) last ∷ stack_of self.old) (mark_of mark) ≡ go (state_of self.new)) }
+        ensures fault { IsErrOf result Unexpected → feed_optional (names_of self.old) (InCall head.name head.place inputs need (needs_of rest) last ∷ stack_of self.old) (mark_of mark) ≡ stop }
     {
         match mark {
             Mark::OpenBracket(place) => {
@@ -94,8 +94,8 @@ impl<'a> Reader<'a> {
         last: Last,
         mark: Mark,
     ) -> Result<(), Refusal>
-        ensures ok { OnOk result (feed_plain (next head.name head.place inputs (without_maybes (needs_of rest)) (last_of last) (names_of self.old) (stack_of self.old)) (mark_of mark) ≡ go (state_of self.new)) }
-        ensures fault { IsErrOf result Unexpected → feed_plain (next head.name head.place inputs (without_maybes (needs_of rest)) (last_of last) (names_of self.old) (stack_of self.old)) (mark_of mark) ≡ stop }
+        ensures ok { OnOk result (feed_plain (next head.name head.place inputs (without_maybes (needs_of rest)) last (names_of self.old) (stack_of self.old)) (mark_of mark) ≡ go (state_of self.new)) }
+        ensures fault { IsErrOf result Unexpected → feed_plain (next head.name head.place inputs (without_maybes (needs_of rest)) last (names_of self.old) (stack_of self.old)) (mark_of mark) ≡ stop }
     {
         self.next(head, inputs, rest.without_maybes(), last)?;
         let mode = self.take_mode();
@@ -123,8 +123,8 @@ impl<'a> Reader<'a> {
 
     // A token where a chain is at hand.
     fn feed_have(&mut self, shape: Shape, tree: Grown, mark: Mark) -> Result<(), Refusal>
-        ensures ok { OnOk result (feed_have (shape_of shape) tree (names_of self.old) (stack_of self.old) (mark_of mark) ≡ go (state_of self.new)) }
-        ensures fault { IsErrOf result Unexpected → feed_have (shape_of shape) tree (names_of self.old) (stack_of self.old) (mark_of mark) ≡ stop }
+        ensures ok { OnOk result (feed_have shape tree (names_of self.old) (stack_of self.old) (mark_of mark) ≡ go (state_of self.new)) }
+        ensures fault { IsErrOf result Unexpected → feed_have shape tree (names_of self.old) (stack_of self.old) (mark_of mark) ≡ stop }
     {
         match mark {
             Mark::Word(head, class) => self.have_word(shape, tree, head, class),
@@ -140,8 +140,8 @@ impl<'a> Reader<'a> {
         head: Head,
         class: Class,
     ) -> Result<(), Refusal>
-        ensures ok { OnOk result (feed_have (shape_of shape) tree (names_of self.old) (stack_of self.old) (word head.name (class_of class) head.place) ≡ go (state_of self.new)) }
-        ensures fault { IsErrOf result Unexpected → feed_have (shape_of shape) tree (names_of self.old) (stack_of self.old) (word head.name (class_of class) head.place) ≡ stop }
+        ensures ok { OnOk result (feed_have shape tree (names_of self.old) (stack_of self.old) (word head.name (class_of class) head.place) ≡ go (state_of self.new)) }
+        ensures fault { IsErrOf result Unexpected → feed_have shape tree (names_of self.old) (stack_of self.old) (word head.name (class_of class) head.place) ≡ stop }
     {
         match class {
             Class::With => {
@@ -161,8 +161,8 @@ impl<'a> Reader<'a> {
 
     // A token that ends the chain at hand, and all that is open with it.
     fn feed_broken(&mut self, shape: Shape, tree: Grown, mark: Mark) -> Result<(), Refusal>
-        ensures ok { OnOk result (feed_broken (names_of self.old) (settle top (shape_of shape) tree (stack_of self.old)) (mark_of mark) ≡ go (state_of self.new)) }
-        ensures fault { IsErrOf result Unexpected → feed_broken (names_of self.old) (settle top (shape_of shape) tree (stack_of self.old)) (mark_of mark) ≡ stop }
+        ensures ok { OnOk result (feed_broken (names_of self.old) (settle top shape tree (stack_of self.old)) (mark_of mark) ≡ go (state_of self.new)) }
+        ensures fault { IsErrOf result Unexpected → feed_broken (names_of self.old) (settle top shape tree (stack_of self.old)) (mark_of mark) ≡ stop }
     {
         let (shape, tree) = self.settle(TOP, shape, tree)?;
         self.accept(shape, tree)?;
@@ -178,8 +178,8 @@ impl<'a> Reader<'a> {
         shape: Shape,
         tree: Grown,
     ) -> Result<(), Refusal>
-        ensures ok { OnOk result (feed_binary (nat_lt level top) level head.name head.place (names_of self.old) (settle (suc level) (shape_of shape) tree (stack_of self.old)) ≡ go (state_of self.new)) }
-        ensures fault { IsErrOf result Unexpected → feed_binary (nat_lt level top) level head.name head.place (names_of self.old) (settle (suc level) (shape_of shape) tree (stack_of self.old)) ≡ stop }
+        ensures ok { OnOk result (feed_binary (nat_lt level top) level head.name head.place (names_of self.old) (settle (suc level) shape tree (stack_of self.old)) ≡ go (state_of self.new)) }
+        ensures fault { IsErrOf result Unexpected → feed_binary (nat_lt level top) level head.name head.place (names_of self.old) (settle (suc level) shape tree (stack_of self.old)) ≡ stop }
     {
         if level >= TOP {
             return Err(Refusal::Unexpected);
