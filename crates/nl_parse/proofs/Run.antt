@@ -17,7 +17,7 @@ use Rattle.nl_grammar.specs.Depth.{least_depth}
 use Rattle.nl_grammar.specs.Fault.{reading_to}
 use Rattle.nl_grammar.specs.Completion.{HasWords}
 use Rattle.nl_parse.specs.Outcome.{first_span, Stops, StopsAt, StopsIn, Refuses}
-use Rattle.nl_parse.specs.declared.body.BodyKind.{BodyKind}
+use Rattle.nl_tree.specs.declared.faults.BodyKind.{BodyKind}
 use Rattle.nl_parse.specs.declared.body.BodyRefusal.{BodyRefusal}
 use Rattle.nl_grammar.proofs.Taken.{taken_text}
 use Rattle.nl_grammar.proofs.Good.{run_append}

@@ -11,11 +11,11 @@ ghost use Rattle.nl_reading.specs.inner.View.{mark_of};
 ghost use Rattle.nl_reading.specs.inner.Reading.{frame_of, frames_onto, maybe_over, mode_names, names_within};
 ghost use Rattle.nl_parse.specs.inner.State.{state_of};
 
-use crate::body::BodyKind;
-use crate::frames::{Frame, Mode, TOP, closes, makes_name};
-use crate::marks::{Class, Mark};
 use crate::reader::Reader;
-use nl_fixed::Str;
+use nl_reading::frames::Mode;
+use nl_reading::known::{makes_next, mode_makes};
+use nl_reading::marks::{Class, Mark};
+use nl_tree::BodyKind;
 
 impl<'a> Reader<'a> {
     /// Why this token can't follow, if it can't.

@@ -4,7 +4,9 @@ use Rattle.nl_fixed.specs.Nouns.{Names}
 use Rattle.nl_fixed.specs.declared.span.Span.{Span}
 use Rattle.nl_tree.specs.Tree.{Node, node}
 use Rattle.nl_tree.specs.Tokens.{Tok}
-use Rattle.nl_grammar.specs.Machine.{Frame, InNear, InList, InItems, InParen, Shape, Growing, Step, stop, feed_begin}
+use Rattle.nl_grammar.specs.declared.pending.Shape.{Shape}
+use Rattle.nl_grammar.specs.declared.pending.Shape.TheVariants.{Growing}
+use Rattle.nl_grammar.specs.Machine.{Frame, InNear, InList, InItems, Step, stop, feed_begin}
 
 -- a right side is read that others follow
 abbrev pub more_sides : List Frame → Bool
@@ -20,11 +22,6 @@ is_at_side K = false
 abbrev pub is_in_list : List Frame → Bool
 is_in_list (InList s ts ∷ K) = true
 is_in_list K = false
-
--- parentheses are open
-abbrev pub is_in_paren : List Frame → Bool
-is_in_paren (InParen p ∷ K) = true
-is_in_paren K = false
 
 -- behind an expression in parentheses, where the token does not close them
 abbrev pub feed_more : Shape → Node → Span → Names → List Frame → Tok → Step

@@ -1,5 +1,5 @@
 -- The state of the machine that a reader has.
-use Rattle.std.specs.Prelude.{ℕ, ◌-◌, List, [], take, length}
+use Rattle.std.specs.Prelude.{◌-◌, List, [], take, length}
 use Rattle.nl_fixed.specs.Nouns.{Names}
 use Rattle.nl_grammar.specs.Machine as M
 use Rattle.nl_reading.specs.inner.Reading.{mode_of, mode_names, frames_onto, names_onto}
