@@ -3,16 +3,19 @@ use Rattle.std.proofs.Common.{◌≡◌, ℕ, suc, true, false, List, ◌∷◌,
 use Rattle.nl_fixed.specs.declared.span.Span.{Span}
 use Rattle.nl_tree.specs.Tree.{Node, Nodes, node, none, more}
 use Rattle.nl_tree.specs.declared.tree.Label.TheVariants as label
-use Rattle.nl_parse.specs.Limit.{is_one}
-use Rattle.nl_tree.specs.Tokens.{Need}
-use Rattle.nl_grammar.specs.Machine.{Shape, Literal, Have, closed, end_list, Frame, InNear, InMany, InOf, InList, InBracket, ThenItem, Begin, Listing, st, go, stop, next, begin_call, begin_many, begin_bracket, feed_of}
-use Rattle.nl_parse.specs.Asked.{more_sides, is_at_side, is_in_list}
+use Rattle.nl_reading.specs.inner.Limit.{is_one}
+use Rattle.nl_tree.specs.declared.needs.Need.{Need}
+use Rattle.nl_grammar.specs.declared.pending.Shape.{Shape}
+use Rattle.nl_grammar.specs.declared.pending.Shape.TheVariants.{Literal}
+use Rattle.nl_grammar.specs.declared.pending.Last.TheVariants as lasts
+use Rattle.nl_grammar.specs.Machine.{Have, closed, end_list, Frame, InNear, InMany, InOf, InList, InBracket, Begin, Listing, st, go, stop, next, begin_call, begin_many, begin_bracket, feed_of}
+use Rattle.nl_parse.specs.inner.Asked.{more_sides, is_at_side, is_in_list}
 
 pub no_call : (w : List ℕ) (s : Span) (is : List Need) (e : List (List ℕ)) (K : List Frame) → more_sides K ≡ true → begin_call w s is e K ≡ stop
 no_call w s is e (InNear v r ts (suc n) ∷ K) h = refl
 no_call w s is e K h = cc h
 
-pub a_call : (w : List ℕ) (s : Span) (is : List Need) (e : List (List ℕ)) (K : List Frame) → more_sides K ≡ false → begin_call w s is e K ≡ go (next w s none is ThenItem e K)
+pub a_call : (w : List ℕ) (s : Span) (is : List Need) (e : List (List ℕ)) (K : List Frame) → more_sides K ≡ false → begin_call w s is e K ≡ go (next w s none is lasts.Item e K)
 a_call w s is e (InNear v r ts (suc n) ∷ K) h = cc h
 a_call w s is e K h = refl
 

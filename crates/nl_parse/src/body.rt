@@ -1,7 +1,9 @@
 //! The reader of one text.
 ghost use Rattle.std.specs.Prelude.{◌≡◌, ℕ, List, [], ◌∷◌, ◌+◌, ◌++◌, ◌≤◌, OnOk, IfOk, IfErr, IfSome, IfNone, All, length};
+ghost use Rattle.nl_fixed.specs.Nouns.{Names};
 ghost use Rattle.nl_scan.specs.Tokens.{IsTokenOf};
-ghost use Rattle.nl_decl.specs.Texts.{plain_token, plain_tokens, word_at};
+ghost use Rattle.nl_scan.specs.Texts.{LiesIn, word_at};
+ghost use Rattle.nl_text.specs.Texts.{plain_token, plain_tokens};
 ghost use Rattle.nl_tree.specs.Tree.{Node, depth};
 ghost use Rattle.nl_tree.specs.Tokens as T;
 ghost use Rattle.nl_grammar.specs.Machine as M;
@@ -13,33 +15,21 @@ ghost use Rattle.nl_tree.specs.BodyFault.{IsGood, ends_at, deepest};
 ghost use Rattle.nl_grammar.specs.Machine.{start, feed, go, st, Over, run_from};
 ghost use Rattle.nl_grammar.specs.Depth.{least_depth};
 ghost use Rattle.nl_tree.specs.declared.declared.Form.{Form};
-ghost use Rattle.nl_parse.specs.View.{mark_of};
+ghost use Rattle.nl_reading.specs.inner.View.{mark_of};
 ghost use Rattle.nl_parse.specs.Outcome.{Refuses, StopsAt, StopsIn, first_span};
-ghost use Rattle.nl_parse.specs.Reading.{mode_of};
-ghost use Rattle.nl_parse.specs.State.{state_of};
+ghost use Rattle.nl_reading.specs.inner.Reading.{mode_of};
+ghost use Rattle.nl_parse.specs.inner.State.{state_of};
 
-use crate::classes::class_of_word;
-use crate::frames::{Ending, Frame, Mode};
-use crate::known_names::KnownNames;
-use crate::marks::{Head, Mark};
-use crate::parts::{Grouped, Grown, TOO_DEEP};
+use nl_reading::classes::class_of_word;
+use nl_reading::frames::{Frame, Mode};
+use nl_reading::known_names::KnownNames;
+use nl_reading::marks::{Head, Mark};
+use nl_reading::parts::{Grouped, Grown, TOO_DEEP};
 use crate::reader::{Reader, Refusal};
-use nl_decl::word;
 use nl_fixed::{Names, NoMemory, Span, Str};
 use nl_scan::{Lexeme, Token, text_of};
-use nl_tree::{Declared, Form, Tree};
+use nl_tree::{BodyKind, Declared, Ending, Form, Tree, word};
 use std::alloc::Global;
-
-/// What is wrong with a text.
-#[derive(Clone, Copy, Debug, PartialEq, Eq)]
-pub enum BodyKind {
-    /// A word that has no row and is no known local or input.
-    UnknownName,
-    /// A token that can't follow those before it.
-    Unexpected,
-    /// The tokens can still be read, but only as a tree of more than 200 levels.
-    TooDeep,
-}
 
 /// Why a text isn't read: its first fault with the place of the token with which it can no longer be good, or want of memory.
 ///
@@ -133,8 +123,8 @@ impl<'a> Reader<'a> {
         requires declared { IsDeclared declared.now }
         requires tokens { All (IsTokenOf text.now) tokens.now }
         requires allowed { least_depth (state_of self.old) ≤ deepest }
-        ensures ok { (form : Form) (names : List (List ℕ)) → state_of self.old ≡ start form names (first_span tokens.now end) → IfOk result (λ tree. IsGood form names (terms declared.now) (plain_tokens text.now tokens.now ++ ends_at end ∷ []) (plain tree)) }
-        ensures fault { (form : Form) (names : List (List ℕ)) → state_of self.old ≡ start form names (first_span tokens.now end) → IfErr result (Refuses form names (terms declared.now) (plain_tokens text.now tokens.now ++ ends_at end ∷ [])) }
+        ensures ok { (form : Form) (names : Names) → state_of self.old ≡ start form names (first_span tokens.now end) → IfOk result (λ tree. IsGood form names (terms declared.now) (plain_tokens text.now tokens.now ++ ends_at end ∷ []) (plain tree)) }
+        ensures fault { (form : Form) (names : Names) → state_of self.old ≡ start form names (first_span tokens.now end) → IfErr result (Refuses form names (terms declared.now) (plain_tokens text.now tokens.now ++ ends_at end ∷ [])) }
     {
         if let Err(refusal) = self.read_tokens(text, tokens, declared) {
             return Err(refusal);
@@ -186,7 +176,7 @@ impl<'a> Reader<'a> {
 
     // Goes over what ends the text, and gives the tree.
     fn finish(&mut self, end: Span, place: usize) -> Result<Tree, BodyRefusal>
-        ensures ok { IfOk result (λ tree. (e : List (List ℕ)) × (K : List M.Frame) × ((feed (state_of self.old) (T.end end) ≡ go (st (Over (plain tree)) e K)) × (depth (plain tree) ≤ deepest))) }
+        ensures ok { IfOk result (λ tree. (e : Names) × (K : List M.Frame) × ((feed (state_of self.old) (T.end end) ≡ go (st (Over (plain tree)) e K)) × (depth (plain tree) ≤ deepest))) }
         ensures fault { IfErr result (StopsAt (state_of self.old) (T.end end) place) }
     {
         if let Err(refusal) = self.step(place, Mark::End(end)) {
@@ -234,7 +224,7 @@ fn mark_at(alloc: Global, text: &[u8], token: &Token, declared: &Declared) -> Re
 
 // The word at a place, in lower case.
 fn name_at(alloc: Global, text: &[u8], place: Span) -> Result<Str, NoMemory>
-    requires { place.start + place.len ≤ length text.now }
+    requires { LiesIn text.now place }
     ensures { IfOk result (λ name. name ≡ word_at text.now place) }
 {
     let start = place.start as usize;
