@@ -10,19 +10,12 @@ use Rattle.nl_scan.specs.declared.token.Lexeme.{Lexeme as Scanned}
 use Rattle.nl_scan.specs.Tokens.{ScanFault, text_limit, cut_from, tokens_of, least_length, AreInOrder}
 use Rattle.nl_scan.proofs.Order.{tokens_of-in_order}
 use Rattle.nl_tree.specs.Tokens.{Lexeme, IsLexeme, IsToken}
-use Rattle.nl_decl.specs.declared.declaration.Declaration.{Declaration}
-use Rattle.nl_decl.specs.Declarations.{SpellAll, AreDeclarations, plural_of}
-use Rattle.nl_decl.specs.Claiming.{total_length}
-use Rattle.nl_decl.specs.Texts.{lexemes_of, plain_token, plain_tokens}
-use Rattle.nl_decl.proofs.BodyOrder.{size}
-use Rattle.nl_decl.proofs.Places.{lexemes-length}
-
-pub all_length : (breeds : List (List ℕ)) (ds : List Declaration) (ls : List Lexeme) → SpellAll breeds ds ls → length ls ≡ total_length ds
-all_length breeds [] ls is = ap length is
-all_length breeds (d ∷ ds) ls (front, rest, (is, spelled, more)) =
-    let one = size breeds d front spelled in
-    let others = all_length (breeds ++ plural_of d) ds rest more in
-    ap length is ∙ length-append front rest ∙ omega (arith, one, others)
+use Rattle.nl_outline.specs.declared.declaration.Declaration.{Declaration}
+use Rattle.nl_outline.specs.Declarations.{SpellAll, AreDeclarations, plural_of}
+use Rattle.nl_outline.specs.Lengths.{total_length}
+use Rattle.nl_text.specs.Texts.{lexemes_of, plain_token, plain_tokens}
+use Rattle.nl_outline.proofs.Lengths.{all_length}
+use Rattle.nl_outline.proofs.Places.{lexemes-length}
 
 least_one : (l : Scanned) → 1 ≤ least_length l
 least_one scanned.Word = omega arith
@@ -66,9 +59,3 @@ few_declared text ts ds e are =
     let few = few_tokens text ts e in
     let same = all_length [] ds (lexemes_of text ts) are in
     omega (arith, few, same)
-
--- the lexemes of a text are what a text can have
-pub lexemes_plain : (text : List ℕ) (ts : List Token) → All IsToken (plain_tokens text ts) → All IsLexeme (lexemes_of text ts)
-lexemes_plain text [] h k d within = absurd (omega (arith, within))
-lexemes_plain text (t ∷ ts) h zero d within = h zero (plain_token text t) (omega arith)
-lexemes_plain text (t ∷ ts) h (suc k) d within = lexemes_plain text ts (λ j e inside. h (suc j) e (omega (arith, inside))) k d (omega (arith, within))

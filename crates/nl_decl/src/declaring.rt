@@ -1,27 +1,26 @@
 //! What a model declares, from its tokens.
-ghost use Rattle.std.specs.Prelude.{◌≡◌, ◌<◌, ◌^◌, map, IfOk, IfErr, Ok};
+ghost use Rattle.std.specs.Prelude.{◌≡◌, ◌<◌, ◌^◌, IfOk, IfErr, Ok};
 ghost use Rattle.std.specs.List.Sorted.{IsPermutation};
 ghost use Rattle.nl_scan.specs.Tokens.{tokens_of};
 ghost use Rattle.nl_tree.specs.Names.{AreWidgets, IsDeclared};
 ghost use Rattle.nl_tree.specs.Vocabulary.{own_terms};
 ghost use Rattle.nl_decl.specs.declared.refusal.DeclKind.TheVariants as DeclKind;
 ghost use Rattle.nl_decl.specs.declared.refusal.DeclRefusal.TheVariants as DeclRefusal;
-ghost use Rattle.nl_decl.specs.Bodies.{place_of, LieFrom};
-ghost use Rattle.nl_decl.specs.Claiming.{total_length};
+ghost use Rattle.nl_decl.specs.Bodies.{BodiesLieIn};
+ghost use Rattle.nl_outline.specs.Lengths.{total_length};
 ghost use Rattle.nl_decl.specs.Gathered.{Gathers};
-ghost use Rattle.nl_decl.specs.Outcome.{AreFew, Declares, IsRefusedFor};
-ghost use Rattle.nl_decl.specs.Texts.{lexemes_of};
+ghost use Rattle.nl_decl.specs.Outcome.{DeclareFew, Declares, IsRefusedFor};
+ghost use Rattle.nl_text.specs.Texts.{lexemes_of};
 
 use crate::claims::claims_of;
-use crate::declaration::{Declaration, Owner};
 use crate::gathering::{breeds_of, globals_of, owned_by, procedures_of};
-use crate::index::index_of;
 use crate::ledger::first_duplicate;
-use crate::reading::read;
 use crate::refusal::{DeclKind, DeclRefusal};
 use nl_fixed::{Names, NoMemory};
+use nl_outline::{Declaration, Owner, outline};
 use nl_scan::Tokens;
 use nl_tree::{Declared, NamedWords};
+use nl_vocabulary::index_of;
 use std::alloc::Global;
 
 /// What the tokens of a text declare, beside widgets with these names, or the first fault.
@@ -41,10 +40,10 @@ pub fn declare(
     requires widgets { AreWidgets widgets }
     ensures declared { IfOk result (Declares (lexemes_of text.now tokens.now) widgets) }
     ensures accepted { IfOk result IsDeclared }
-    ensures bodies { IfOk result (λ d. LieFrom (lexemes_of text.now tokens.now) 0 (map place_of d.procedures)) }
+    ensures bodies { IfOk result (BodiesLieIn (lexemes_of text.now tokens.now)) }
     ensures fault { IfErr result (IsRefusedFor (lexemes_of text.now tokens.now) widgets) }
 {
-    let declarations = read(alloc, text, tokens.as_slice())?;
+    let declarations = outline(alloc, text, tokens.as_slice())?;
     let claims = claims_of(alloc, declarations.as_slice())?;
     if let Some(place) = first_duplicate(alloc, &widgets, claims.as_slice())? {
         return Err(duplicate(place));
@@ -65,7 +64,7 @@ fn duplicate(place: usize) -> DeclRefusal
 // What the declarations declare in all, with its index.
 fn gather(alloc: Global, widgets: Names, declarations: &[Declaration]) -> Result<Declared, NoMemory>
     requires within { total_length declarations.now < 2 ^ 62 }
-    requires few { AreFew widgets declarations.now }
+    requires few { DeclareFew widgets declarations.now }
     ensures gathered { IfOk result (Gathers widgets declarations.now) }
     ensures indexed { IfOk result (λ d. IsPermutation (own_terms d) d.index) }
 {

@@ -3,15 +3,16 @@ use Rattle.nl_scan.proofs.Order.{tokens_of-in_order}
 use Rattle.nl_scan.specs.Tokens.{tokens_of}
 use Rattle.nl_decl.specs.Claims.{first_clash, widget_claim, claims, duplicate_in}
 use Rattle.nl_decl.specs.Gathered.{Gathers, procedures_in}
-use Rattle.nl_decl.specs.Texts.{lexemes_of}
+use Rattle.nl_text.specs.Texts.{lexemes_of}
 use Rattle.nl_decl.proofs.Accepted.{declared_fits}
 use Rattle.nl_decl.proofs.BodyOrder.{procedures_in_order}
-use Rattle.nl_decl.proofs.Meant.{tokens_are_plain}
-use Rattle.nl_decl.proofs.Within.{few_tokens, few_declared, lexemes_plain}
+use Rattle.nl_text.proofs.Meant.{tokens_are_plain}
+use Rattle.nl_outline.proofs.NamesOf.{lexemes_plain}
+use Rattle.nl_decl.proofs.Within.{few_tokens, few_declared}
 use Rattle.nl_decl.proofs.declaring.declare.Goals as goal
 
-pub read-requires : goal.read-requires
-read-requires c = rw c.as_slice.ensures (tokens_of-in_order c.args.text.now c.args.tokens.now c.requires.scanned)
+pub outline-requires : goal.outline-requires
+outline-requires c = rw c.as_slice.ensures (tokens_of-in_order c.args.text.now c.args.tokens.now c.requires.scanned)
 
 pub claims_of-requires : goal.claims_of-requires
 claims_of-requires c = rw c.as_slice-2.ensures.value (few_declared c.args.text.now c.as_slice.result.now c.in_ok-declarations.declarations.items (rw c.as_slice.ensures c.requires.scanned) c.in_ok-declarations.ensures.ok)
