@@ -14,7 +14,9 @@ use std::alloc::Global;
 use std::collections::HashSet;
 
 fn put(marks: &mut HashSet<Marked>, key: Marked) -> Result<(), NoMemory>
-    ensures { OnOk result (Puts key (contains same_marked marks.old) (contains same_marked marks.new)) }
+    ensures {
+        OnOk result (Puts key (contains same_marked marks.old) (contains same_marked marks.new))
+    }
 {
     marks.insert(key)?;
     Ok(())
@@ -35,7 +37,10 @@ fn note(
     name: &[u8],
     claim: Claim,
 ) -> Result<(), NoMemory>
-    ensures { OnOk result (Notes name.now claim (contains same_marked marks.old) (contains same_marked marks.new)) }
+    ensures {
+        OnOk result (Notes name.now claim
+            (contains same_marked marks.old) (contains same_marked marks.new))
+    }
 {
     let key = marked(alloc, name, common_mark(claim))?;
     put(marks, key)?;

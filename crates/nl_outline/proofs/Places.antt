@@ -4,23 +4,14 @@ use Rattle.nl_scan.specs.declared.token.Token.{Token}
 use Rattle.nl_outline.specs.declared.declaration.Declaration.{Declaration}
 use Rattle.nl_outline.specs.declared.mode.Mode.{Mode}
 use Rattle.nl_scan.specs.Tokens.{AreInOrder}
+use Rattle.nl_scan.proofs.Order.{AreInOrder-at}
 use Rattle.nl_outline.specs.inner.Reading.{State, in_mode, feed_in, feed, run_from, run}
 use Rattle.nl_scan.specs.Texts.{LiesIn}
 use Rattle.nl_text.specs.Texts.{lexeme_of, lexemes_of}
 
-in_order_bound : (ts : List Token) (from end : ℕ) → AreInOrder from end ts → from ≤ end
-in_order_bound [] from end h = h
-in_order_bound (t ∷ ts) from end h = omega (arith, h.0, in_order_bound ts (t.span.start + t.span.len) end h.2)
-
-in_order_inside : (ts : List Token) (from end k : ℕ) (d : Token) → AreInOrder from end ts → k < length ts
-    → (get_or ts k d).span.start + (get_or ts k d).span.len ≤ end
-in_order_inside [] from end k d h below = absurd (omega (arith, below))
-in_order_inside (t ∷ ts) from end zero d h below = in_order_bound ts _ end h.2
-in_order_inside (t ∷ ts) from end (suc k) d h below = in_order_inside ts _ end k d h.2 (omega (arith, below))
-
 -- each token lies in the text
 pub lies_in : (text : List ℕ) (ts : List Token) (k : ℕ) (d : Token) → AreInOrder 0 (length text) ts → k < length ts → LiesIn text (get_or ts k d).span
-lies_in text ts k d h below = in_order_inside ts 0 (length text) k d h below
+lies_in text ts k d h below = AreInOrder-at 0 (length text) ts k d h below
 
 pub lexemes-length : (text : List ℕ) (ts : List Token) → length (lexemes_of text ts) ≡ length ts
 lexemes-length text [] = refl

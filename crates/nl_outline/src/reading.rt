@@ -1,7 +1,7 @@
 //! The reading of declarations, token by token.
 ghost use Rattle.std.specs.Prelude.{◌≡◌, ◌<◌, ◌+◌, [], IfOk, IfErr, IsOk, length};
 ghost use Rattle.nl_fixed.specs.Nouns.{Bytes, Names};
-ghost use Rattle.nl_scan.specs.Texts.{LiesIn, bytes_at, word_at};
+ghost use Rattle.nl_scan.specs.Texts.{LiesIn};
 ghost use Rattle.nl_scan.specs.Tokens.{AreInOrder};
 ghost use Rattle.nl_text.specs.Texts.{lexeme_of, lexemes_of};
 ghost use Rattle.nl_outline.specs.Declarations.{AreDeclarations, is_end};
@@ -15,27 +15,8 @@ use crate::mode::{Mode, Subject};
 use crate::owners::Owners;
 use crate::refusal::OutlineRefusal;
 use nl_fixed::{Names, NoMemory, Str};
-use nl_scan::{Lexeme, Token};
+use nl_scan::{Lexeme, Token, bytes_of, word_of};
 use std::alloc::Global;
-
-// The bytes of a token.
-fn bytes_of<'a>(text: &'a [u8], token: &Token) -> &'a [u8]
-    requires { LiesIn text.now token.now.span }
-    ensures { result.now ≡ bytes_at text.now token.now.span }
-{
-    let start = token.span.start as usize;
-    let len = token.span.len as usize;
-    &text[start..start + len]
-}
-
-// A word in lower case.
-fn word_of(alloc: Global, text: &[u8], token: &Token) -> Result<Str, NoMemory>
-    requires { LiesIn text.now token.now.span }
-    ensures { IfOk result (λ word. word ≡ word_at text.now token.now.span) }
-{
-    let word = bytes_of(text, token).to_ascii_lowercase(alloc)?;
-    Ok(Str::of_vec(word))
-}
 
 // Whether a token is the word that ends a body.
 fn is_end(text: &[u8], token: &Token) -> bool

@@ -10,6 +10,7 @@ ghost use Rattle.nl_tree.specs.Names.{procedures_names};
 ghost use Rattle.nl_tree.specs.Vocabulary.{breed_terms, counted, global_term, made_as, made_name, made_terms, own_terms, owned_term, procedure_term, variable_term};
 ghost use Rattle.nl_vocabulary.specs.Rooms.{AreFew};
 ghost use Rattle.nl_vocabulary.specs.inner.Index.{AddsRows, Owns};
+ghost use Rattle.nl_vocabulary.specs.inner.Making.{made_row};
 ghost use Rattle.nl_vocabulary.specs.Made.{pattern_of};
 ghost use Rattle.nl_tree.specs.Index.{named};
 
@@ -36,7 +37,7 @@ const UNKNOWN: Kinds = Kinds {
 };
 
 fn add(list: &mut Vec<NamedWord>, name: Str, word: Word) -> Result<(), NoMemory>
-    ensures { OnOk result (AddsRows list.old.items (named name word ∷ []) list.new.items) }
+    ensures { OnOk result (AddsRows list.old (named name word ∷ []) list.new) }
 {
     list.push(NamedWord { name, word })?;
     Ok(())
@@ -59,7 +60,9 @@ fn variable(runs: Kinds, what: What) -> Word
 
 // The word of a breed that has the row of a built-in word.
 fn made_word(number: u32, entry: &Entry) -> Word
-    ensures { (name : Name) → named name result ∷ [] ≡ made_as number name (Some (row_of entry.now)) }
+    ensures {
+        (name : Name) → named name result ∷ [] ≡ made_as number name (Some (row_of entry.now))
+    }
 {
     Word {
         role: entry.role,
@@ -95,7 +98,7 @@ fn procedure_word(place: u32, procedure: &Procedure) -> Word
 
 fn add_globals(alloc: Global, list: &mut Vec<NamedWord>, names: &[Str]) -> Result<(), NoMemory>
     requires { length names.now < 2 ^ 31 }
-    ensures { OnOk result (AddsRows list.old.items (counted global_term 0 names.now) list.new.items) }
+    ensures { OnOk result (AddsRows list.old (counted global_term 0 names.now) list.new) }
 {
     let mut place = 0;
     'names: for name in names {
@@ -113,7 +116,10 @@ fn add_owned(
     owned: &Owned,
 ) -> Result<(), NoMemory>
     requires { length names.now < 2 ^ 31 }
-    ensures { OnOk result ((d : Declared) → Owns d owned.now → AddsRows list.old.items (counted (owned_term d) 0 names.now) list.new.items) }
+    ensures {
+        OnOk result ((d : Declared) → Owns d owned.now
+            → AddsRows list.old (counted (owned_term d) 0 names.now) list.new)
+    }
 {
     let mut place = 0;
     'names: for name in names {
@@ -133,7 +139,7 @@ fn add_made_word(
     breed: &Breed,
     word: &MadeWord,
 ) -> Result<(), NoMemory>
-    ensures { OnOk result (AddsRows list.old.items (made_as number (made_name breed.now (pattern_of word.now)) (row_named rows word.now.base.now)) list.new.items) }
+    ensures { OnOk result (AddsRows list.old (made_row number breed.now word.now) list.new) }
 {
     let words = base_words();
     match words.find(word.base.as_bytes()) {
@@ -157,7 +163,10 @@ fn add_made(
     breed: &Breed,
     words: &[MadeWord],
 ) -> Result<(), NoMemory>
-    ensures { OnOk result (AddsRows list.old.items (made_terms number breed.now (map pattern_of words.now)) list.new.items) }
+    ensures {
+        OnOk result (AddsRows list.old
+            (made_terms number breed.now (map pattern_of words.now)) list.new)
+    }
 {
     'words: for word in words {
         add_made_word(alloc, list, number, breed, word)?;
@@ -167,7 +176,7 @@ fn add_made(
 
 fn add_breeds(alloc: Global, list: &mut Vec<NamedWord>, breeds: &[Breed]) -> Result<(), NoMemory>
     requires { length breeds.now < 2 ^ 31 }
-    ensures { OnOk result (AddsRows list.old.items (breed_terms 1 breeds.now) list.new.items) }
+    ensures { OnOk result (AddsRows list.old (breed_terms 1 breeds.now) list.new) }
 {
     let mut number = 1;
     'breeds: for breed in breeds {
@@ -185,7 +194,7 @@ fn add_procedures(
 ) -> Result<(), NoMemory>
     requires names { length (procedures_names procedures.now) < 2 ^ 31 }
     requires number { length procedures.now < 2 ^ 31 }
-    ensures { OnOk result (AddsRows list.old.items (counted procedure_term 0 procedures.now) list.new.items) }
+    ensures { OnOk result (AddsRows list.old (counted procedure_term 0 procedures.now) list.new) }
 {
     let mut place = 0;
     'procedures: for procedure in procedures {
