@@ -75,10 +75,8 @@ fn claim_made(
     singular: &[u8],
 ) -> Result<(), NoMemory>
     requires { place < 2 ^ 62 }
-    ensures {
-        OnOk result (list.new.items ≡ list.old.items
-            ++ made_from place plural.now singular.now (map pattern_of words.now))
-    }
+    ensures { OnOk result (list.new.items ≡ list.old.items
+        ++ made_from place plural.now singular.now (map pattern_of words.now)) }
 {
     'words: for word in words {
         let name = made_name(alloc, word, plural, singular)?;
@@ -125,9 +123,8 @@ impl Claims {
         singular: &Str,
     ) -> Result<(), NoMemory>
         requires { self.old.tokens + 5 < 2 ^ 62 }
-        ensures {
-            OnOk result (Adds self.old (Declaration.Breed sort plural.now singular.now) self.new)
-        }
+        ensures { OnOk result
+            (Adds self.old (Declaration.Breed sort plural.now singular.now) self.new) }
     {
         let words = made_words(is_of_links(sort), is_directed(sort));
         claim_made(
@@ -150,15 +147,11 @@ impl Claims {
         inputs: &Option<Names>,
         body: usize,
     ) -> Result<(), NoMemory>
-        requires within {
-            self.old.tokens
-                + length_of (Declaration.Procedure false name.now inputs.now body) < 2 ^ 62
-        }
+        requires within { self.old.tokens
+            + length_of (Declaration.Procedure false name.now inputs.now body) < 2 ^ 62 }
         requires fewer { self.old.procedures ≤ self.old.tokens }
-        ensures {
-            OnOk result (Adds self.old
-                (Declaration.Procedure false name.now inputs.now body) self.new)
-        }
+        ensures { OnOk result (Adds self.old
+            (Declaration.Procedure false name.now inputs.now body) self.new) }
     {
         let name = name.copy(alloc)?;
         self.list.push(Claimed {

@@ -102,9 +102,8 @@ fn give_to(
     owner: Owner,
     names: &Names,
 ) -> Result<(), NoMemory>
-    ensures {
-        OnOk result (Gives (Declaration.Own owner names.now) breeds.old.items breeds.new.items)
-    }
+    ensures { OnOk result
+        (Gives (Declaration.Own owner names.now) breeds.old.items breeds.new.items) }
 {
     let Some(place) = breed_at(owner) else {
         return Ok(());

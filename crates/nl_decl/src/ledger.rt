@@ -14,9 +14,8 @@ use std::alloc::Global;
 use std::collections::HashSet;
 
 fn put(marks: &mut HashSet<Marked>, key: Marked) -> Result<(), NoMemory>
-    ensures {
-        OnOk result (Puts key (contains same_marked marks.old) (contains same_marked marks.new))
-    }
+    ensures { OnOk result
+        (Puts key (contains same_marked marks.old) (contains same_marked marks.new)) }
 {
     marks.insert(key)?;
     Ok(())
@@ -37,10 +36,8 @@ fn note(
     name: &[u8],
     claim: Claim,
 ) -> Result<(), NoMemory>
-    ensures {
-        OnOk result (Notes name.now claim
-            (contains same_marked marks.old) (contains same_marked marks.new))
-    }
+    ensures { OnOk result (Notes name.now claim
+        (contains same_marked marks.old) (contains same_marked marks.new)) }
 {
     let key = marked(alloc, name, common_mark(claim))?;
     put(marks, key)?;
@@ -57,9 +54,8 @@ fn note(
 // Whether one of these marks is on the name.
 fn bears(marks: &HashSet<Marked>, key: &mut Marked, asked: &[Mark]) -> bool
     ensures same { key.new.name ≡ key.old.name }
-    ensures found {
-        result ≡ list_any (marked_with (contains same_marked marks.now) key.old.name) asked.now
-    }
+    ensures found { result
+        ≡ list_any (marked_with (contains same_marked marks.now) key.old.name) asked.now }
 {
     'asked: for mark in asked {
         key.mark = *mark;
@@ -71,9 +67,8 @@ fn bears(marks: &HashSet<Marked>, key: &mut Marked, asked: &[Mark]) -> bool
 }
 
 fn bears_own(marks: &HashSet<Marked>, key: &mut Marked, own: Option<Mark>) -> bool
-    ensures {
-        result ≡ list_any (marked_with (contains same_marked marks.now) key.old.name) (own_marks own)
-    }
+    ensures { result
+        ≡ list_any (marked_with (contains same_marked marks.now) key.old.name) (own_marks own) }
 {
     match own {
         None => false,

@@ -228,7 +228,9 @@ fn many_names_are_declared(rt: HostRuntime) {
         matches!(word(&declared, b"p4999"), Some(found) if found.what == What::Procedure(4999))
     );
     assert!(rt; matches!(word(&declared, b"g0000"), Some(found) if found.what == What::Global(0)));
-    assert!(rt; matches!(word(&declared, b"hatch-b0999"), Some(found) if found.role == Role::Command));
+    assert!(rt;
+        matches!(word(&declared, b"hatch-b0999"), Some(found) if found.role == Role::Command)
+    );
 }
 
 // Behind all that is kept, each fault is told as itself.

@@ -60,9 +60,7 @@ fn variable(runs: Kinds, what: What) -> Word
 
 // The word of a breed that has the row of a built-in word.
 fn made_word(number: u32, entry: &Entry) -> Word
-    ensures {
-        (name : Name) → named name result ∷ [] ≡ made_as number name (Some (row_of entry.now))
-    }
+    ensures { (name : Name) → named name result ∷ [] ≡ made_as number name (Some (row_of entry.now)) }
 {
     Word {
         role: entry.role,
@@ -116,10 +114,8 @@ fn add_owned(
     owned: &Owned,
 ) -> Result<(), NoMemory>
     requires { length names.now < 2 ^ 31 }
-    ensures {
-        OnOk result ((d : Declared) → Owns d owned.now
-            → AddsRows list.old (counted (owned_term d) 0 names.now) list.new)
-    }
+    ensures { OnOk result ((d : Declared) → Owns d owned.now
+        → AddsRows list.old (counted (owned_term d) 0 names.now) list.new) }
 {
     let mut place = 0;
     'names: for name in names {
@@ -163,10 +159,8 @@ fn add_made(
     breed: &Breed,
     words: &[MadeWord],
 ) -> Result<(), NoMemory>
-    ensures {
-        OnOk result (AddsRows list.old
-            (made_terms number breed.now (map pattern_of words.now)) list.new)
-    }
+    ensures { OnOk result (AddsRows list.old
+        (made_terms number breed.now (map pattern_of words.now)) list.new) }
 {
     'words: for word in words {
         add_made_word(alloc, list, number, breed, word)?;

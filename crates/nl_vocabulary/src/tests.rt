@@ -329,6 +329,9 @@ fn many_words_have_rows(rt: HostRuntime) -> Result<(), Fail> {
     assert_eq!(rt; index.as_slice().len(), 5000 + 70 + 1000 * 11);
     assert_eq!(rt; word_of(&rt, &index, "g4999").what, What::Global(4999));
     assert_eq!(rt; word_of(&rt, &index, "v0069").what, What::Own(69));
-    assert_eq!(rt; word_of(&rt, &index, "p0999-here").what, What::Made(1000, 305));
+    assert_eq!(rt;
+        word_of(&rt, &index, "p0999-here").what,
+        What::Made(1000, 305)
+    );
     Ok(())
 }

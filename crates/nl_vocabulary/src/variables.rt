@@ -41,10 +41,8 @@ impl Variables {
 
     // Appends the variables of breeds that no list before them has.
     fn join_breeds(&mut self, alloc: Global, breeds: &[Breed]) -> Result<(), NoMemory>
-        ensures {
-            OnOk result (self.new.names
-                ≡ self.old.names ++ beyond self.old.seen (breed_names breeds.now))
-        }
+        ensures { OnOk result (self.new.names
+            ≡ self.old.names ++ beyond self.old.seen (breed_names breeds.now)) }
     {
         'breeds: for breed in breeds {
             self.join(alloc, breed.own.as_slice())?;
