@@ -60,7 +60,8 @@ fn variable(runs: Kinds, what: What) -> Word
 
 // The word of a breed that has the row of a built-in word.
 fn made_word(number: u32, entry: &Entry) -> Word
-    ensures { (name : Name) → named name result ∷ [] ≡ made_as number name (Some (row_of entry.now)) }
+    ensures { (name : Name)
+        → named name result ∷ [] ≡ made_as number name (Some (row_of entry.now)) }
 {
     Word {
         role: entry.role,

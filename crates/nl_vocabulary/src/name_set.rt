@@ -32,7 +32,8 @@ impl NameSet {
     }
 
     fn add(&mut self, alloc: Global, name: &[u8]) -> Result<(), NoMemory>
-        ensures { OnOk result ((q : Name) → has self.new q ≡ (bytes_eq name.now q || has self.old q)) }
+        ensures { OnOk result
+            ((q : Name) → has self.new q ≡ (bytes_eq name.now q || has self.old q)) }
     {
         let name = name.to_vec(alloc)?;
         self.names.insert(name)?;
@@ -41,7 +42,8 @@ impl NameSet {
 
     /// Adds names, of which some may be in the set already.
     pub(crate) fn add_all(&mut self, alloc: Global, names: &[Str]) -> Result<(), NoMemory>
-        ensures { OnOk result ((q : Name) → has self.new q ≡ (among q names.now || has self.old q)) }
+        ensures { OnOk result
+            ((q : Name) → has self.new q ≡ (among q names.now || has self.old q)) }
     {
         'names: for name in names {
             self.add(alloc, name.as_bytes())?;

@@ -1,6 +1,7 @@
 -- The marks of the names so far, and what they tell of a further one.
 use Rattle.std.specs.Prelude.{◌≡◌, ℕ, Bool, true, false, if◌then◌else◌, ◌&&◌, ◌||◌, List, Option, Some, None, Vec, bytes_eq}
 use Rattle.std.specs.List.{list_any}
+use Rattle.std.specs.declared.alloc.Global.{Global}
 use Rattle.nl_fixed.specs.Nouns.{Name}
 use Rattle.nl_decl.specs.declared.claims.Claim.{Claim}
 use Rattle.nl_decl.specs.declared.claims.Claimed.{Claimed}
@@ -29,7 +30,7 @@ abbrev pub leaves_on : Name → Claim → Marked → Bool
 leaves_on name c q = bytes_eq name q.name.items && leaves c q.mark
 
 -- the name is marked so
-abbrev pub marked_with : (Marked → Bool) → Vec ℕ → Mark → Bool
+abbrev pub marked_with : (Marked → Bool) → Vec ℕ Global → Mark → Bool
 marked_with has name m = has (record { name = name; mark = m })
 
 -- one more mark is there, and those before it

@@ -1,6 +1,7 @@
 -- What the parts of the making of a model's rows owe to each other.
 use Rattle.std.specs.Prelude.{◌≡◌, Bool, true, false, ◌||◌, not, List, ◌++◌, map, filter, Vec, bytes_eq}
 use Rattle.std.specs.HashSet.{contains_by}
+use Rattle.std.specs.declared.alloc.Global.{Global}
 use Rattle.nl_fixed.specs.Nouns.{Name, Names}
 use Rattle.nl_words.specs.Kinds.{kinds}
 use Rattle.nl_words.specs.declared.entry.Kinds.{Kinds}
@@ -45,5 +46,5 @@ users d name =
     kinds false (on_patch || among name (turtle_names d)) on_patch (among name (link_names d))
 
 -- these rows stand behind those that stood there
-abbrev pub AddsRows : Vec NamedWord → List Term → Vec NamedWord → Type 0
+abbrev pub AddsRows : Vec NamedWord Global → List Term → Vec NamedWord Global → Type 0
 AddsRows old rows new = map term_of new.items ≡ map term_of old.items ++ rows
