@@ -22,9 +22,9 @@ use Rattle.nl_scan.specs.declared.token.Lexeme.TheVariants as scanned
 use Rattle.nl_scan.specs.Forms.{is_space, semicolon, is_some_bracket, is_mark, is_word_byte, bracket_of, quote, Flaw, has_form, is_closed, first_bad_escape, word_meaning, quoted_meaning, meaning_of}
 use Rattle.nl_scan.specs.Contents.{resolved, content_of}
 use Rattle.nl_scan.specs.Tokens.{AreInOrder}
-use Rattle.nl_scan.specs.Cuts.{bytes_at, IsMeant, AreMeant}
+use Rattle.nl_scan.specs.Cuts.{IsMeant, AreMeant}
 use Rattle.nl_tree.specs.Tokens.{IsLexeme, IsToken}
-use Rattle.nl_scan.specs.Texts.{word_at}
+use Rattle.nl_scan.specs.Texts.{bytes_of, word_at}
 use Rattle.nl_text.specs.Texts.{lexeme_as, plain_token, plain_tokens}
 use Rattle.nl_scan.proofs.Firsts.{has_form-nil, has_form-parts}
 use Rattle.nl_scan.proofs.Runs.{form_at-begins}
@@ -169,7 +169,7 @@ as_ok o = Ok o
 ok_same : (o p : Option s.Lexeme) → as_ok o ≡ as_ok p → o ≡ p
 ok_same o p h = cc
 
-word_form : (text : List ℕ) (t : Token) (b : ℕ) (rest : List ℕ) → bytes_at text t ≡ b ∷ rest → t.lexeme ≡ scanned.Word → IsMeant text t → WordForm b rest
+word_form : (text : List ℕ) (t : Token) (b : ℕ) (rest : List ℕ) → bytes_of text t ≡ b ∷ rest → t.lexeme ≡ scanned.Word → IsMeant text t → WordForm b rest
 word_form text t b rest e w m =
     let has = ap (has_form m.0) (sym e) ∙ m.1 in
     let mean = ap (meaning_of m.0) (sym e) ∙ m.2 ∙ ap (λ l. Ok (Some l)) w in
@@ -181,7 +181,7 @@ word_form text t b rest e w m =
     (λ h k. absurd (bracket_other b scanned.Word (λ x. cc x) (λ x. cc x) (λ x. cc x) (λ x. cc x) (ok_same _ _ k)))
     (λ h k. (h, word_none (read_of (b ∷ rest)) k)) has mean
 
-text_form : (text : List ℕ) (t : Token) (b : ℕ) (rest : List ℕ) → bytes_at text t ≡ b ∷ rest → t.lexeme ≡ scanned.Text → IsMeant text t → TextForm b rest
+text_form : (text : List ℕ) (t : Token) (b : ℕ) (rest : List ℕ) → bytes_of text t ≡ b ∷ rest → t.lexeme ≡ scanned.Text → IsMeant text t → TextForm b rest
 text_form text t b rest e w m =
     let has = ap (has_form m.0) (sym e) ∙ m.1 in
     let mean = ap (meaning_of m.0) (sym e) ∙ m.2 ∙ ap (λ l. Ok (Some l)) w in
@@ -193,10 +193,10 @@ text_form text t b rest e w m =
     (λ h k. absurd (bracket_other b scanned.Text (λ x. cc x) (λ x. cc x) (λ x. cc x) (λ x. cc x) (ok_same _ _ k)))
     (λ h k. absurd (word_no_text (read_of (b ∷ rest)) k)) has mean
 
-some_bytes : (text : List ℕ) (t : Token) → IsMeant text t → (b : ℕ) × (rest : List ℕ) × (bytes_at text t ≡ b ∷ rest)
-some_bytes text t m = at (bytes_at text t) refl
+some_bytes : (text : List ℕ) (t : Token) → IsMeant text t → (b : ℕ) × (rest : List ℕ) × (bytes_of text t ≡ b ∷ rest)
+some_bytes text t m = at (bytes_of text t) refl
   where
-    at : (bs : List ℕ) → bytes_at text t ≡ bs → (b : ℕ) × (rest : List ℕ) × (bytes_at text t ≡ b ∷ rest)
+    at : (bs : List ℕ) → bytes_of text t ≡ bs → (b : ℕ) × (rest : List ℕ) × (bytes_of text t ≡ b ∷ rest)
     at [] e = let h = ap (has_form m.0) (sym e) ∙ m.1 in let g = has_form-nil m.0 in cc (g, h)
     at (b ∷ rest) e = (b, rest, e)
 
