@@ -3,7 +3,7 @@ use Rattle.std.specs.Prelude.{◌≡◌, ℕ, true, refl}
 use Rattle.nl_value.specs.declared.sets.AgentSet.{AgentSet}
 use Rattle.nl_value.specs.Plain.{Plain, Plains, PlainItems, PlainTurtle, PlainPatch, PlainLink, PlainSet, no_items, item_then}
 use Rattle.nl_value.specs.Living.{Living, fits, all_fit, no_life}
-use Rattle.nl_value.specs.SmallWorld.{small_world}
+use Rattle.nl_value.specs.inner.SmallWorld.{small_world}
 
 -- the world may be asked about all agents and sets
 record AsksNothing (w : Living) : Type 0 where

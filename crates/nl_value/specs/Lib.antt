@@ -1,14 +1,12 @@
 pub mod Ascending
-pub mod Codes
 pub mod Equality
-pub mod Falls
+pub mod inner
 pub mod Laws
 pub mod Living
 pub mod Measures
+pub mod Nouns
 pub mod Order
 pub mod Plain
 pub mod Sets
-pub mod SmallWorld
 pub mod Text
 pub mod Views
-pub mod Weights

@@ -1,11 +1,13 @@
 -- What values ask the world: who lives, who belongs to a set, where a link stands among links, and the names.
-use Rattle.std.specs.Prelude.{ℕ, Bool, true, false, ◌&&◌, List, [], ◌∷◌}
+use Rattle.std.specs.Prelude.{ℕ, Bool, true, false, ◌&&◌, [], ◌∷◌}
 use Rattle.std.specs.Ordering.{nat_cmp, is_lt}
 use Rattle.std.specs.Cmp.Lexicographic.{slice_cmp}
 use Rattle.std.specs.Str.{bytes_eq}
 use Rattle.nl_value.specs.declared.sets.AgentKind.{AgentKind}
 use Rattle.nl_value.specs.declared.sets.AgentKind.TheVariants.{Turtle, Patch, Link}
 use Rattle.nl_value.specs.declared.sets.AgentSet.{AgentSet}
+use Rattle.nl_fixed.specs.Nouns.{Bytes}
+use Rattle.nl_value.specs.Nouns.{Serials, Key}
 use Rattle.nl_value.specs.Sets.{set_kind}
 use Rattle.nl_value.specs.Plain.{Plain, Plains, PlainNumber, PlainTruth, PlainWords, PlainItems, PlainTurtle, PlainPatch, PlainLink, PlainNobody, PlainSet, no_items, item_then}
 
@@ -20,9 +22,9 @@ pub record LinkPlace : Type 0 where
 pub record Living : Type 0 where
   pub turtle_lives : ℕ → Bool
   pub link_lives : ℕ → Bool
-  pub members : AgentSet → List ℕ
+  pub members : AgentSet → Serials
   pub link_place : ℕ → LinkPlace
-  pub name : Plain → List ℕ
+  pub name : Plain → Bytes
   pub turtle_fits : ℕ → Bool
   pub patch_fits : ℕ → Bool
   pub link_fits : ℕ → Bool
@@ -68,7 +70,7 @@ abbrev pub same_sets : Living → AgentSet → AgentSet → Bool
 same_sets w a b = same_kind (set_kind a) (set_kind b) && bytes_eq (w.members a) (w.members b)
 
 -- links are ordered by their first end, their second end, their breed and their number, in this order
-abbrev pub link_key : Living → ℕ → List ℕ
+abbrev pub link_key : Living → ℕ → Key
 link_key w link = (w.link_place link).end1 ∷ (w.link_place link).end2 ∷ (w.link_place link).breed ∷ link ∷ []
 
 abbrev pub link_comes_before : Living → ℕ → ℕ → Bool

@@ -1,12 +1,13 @@
 -- Values without where they lie in memory.
 use Rattle.std.specs.Prelude.{ℕ, ℤ, Bool, List, [], ◌∷◌}
+use Rattle.nl_fixed.specs.Nouns.{Bytes}
 use Rattle.nl_value.specs.declared.sets.AgentSet.{AgentSet}
 
 mutual
   pub data Plain : Type 0 where
     PlainNumber : (count : ℤ) → Plain
     PlainTruth : (truth : Bool) → Plain
-    PlainWords : (bytes : List ℕ) → Plain
+    PlainWords : (bytes : Bytes) → Plain
     PlainItems : (items : Plains) → Plain
     PlainTurtle : (turtle : ℕ) → Plain
     PlainPatch : (patch : ℕ) → Plain

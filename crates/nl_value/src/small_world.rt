@@ -2,7 +2,7 @@
 ghost use Rattle.std.specs.Prelude.{◌≡◌, IfOk};
 ghost use Rattle.std.specs.List.{filter};
 ghost use Rattle.nl_value.specs.Living.{link_key};
-ghost use Rattle.nl_value.specs.SmallWorld.{small_world, small_members, small_turtle_lives, small_link_lives};
+ghost use Rattle.nl_value.specs.inner.SmallWorld.{small_world, small_members, small_turtle_lives, small_link_lives};
 
 use crate::life::Life;
 use crate::sets::{AgentSet, Serials};

@@ -35,8 +35,8 @@ impl Model for Items {
     ghost use Rattle.std.specs.Prelude.{List};
     ghost use Rattle.std.specs.Coded.{coded_list};
     ghost use Rattle.nl_value.specs.Plain.{Plain};
-    ghost use Rattle.nl_value.specs.Codes.{plain_code};
-    ghost use Rattle.nl_value.specs.Weights.{list_weight};
+    ghost use Rattle.nl_value.specs.inner.Codes.{plain_code};
+    ghost use Rattle.nl_value.specs.inner.Weights.{list_weight};
 
     ghost Value = { List Plain };
 
@@ -50,7 +50,7 @@ impl Model for Items {
     ghost size = { list_weight };
 
     ghost use Rattle.std.proofs.Common.{arith};
-    ghost use Rattle.nl_value.specs.Falls.{falls};
+    ghost use Rattle.nl_value.specs.inner.Falls.{falls};
 
     ghost size_decreases = { λ a h. omega (arith, falls a.list.items) };
 }
