@@ -5,3 +5,4 @@ pub mod Joined
 pub mod Equivalence
 pub mod Fitting
 pub mod Ordered
+pub mod Sorting

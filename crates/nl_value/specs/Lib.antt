@@ -1,12 +1,15 @@
 pub mod Ascending
 pub mod Equality
+pub mod Fit
 pub mod inner
 pub mod Laws
+pub mod Limits
 pub mod Living
 pub mod Measures
 pub mod Nouns
 pub mod Order
 pub mod Plain
 pub mod Sets
+pub mod Sorting
 pub mod Text
 pub mod Views

@@ -23,3 +23,8 @@ mutual
 abbrev pub plains : List Plain → Plains
 plains [] = no_items
 plains (p ∷ ps) = item_then p (plains ps)
+
+-- the items of the data as a list, which is the way back
+abbrev pub items_of : Plains → List Plain
+items_of no_items = []
+items_of (item_then first rest) = first ∷ items_of rest

@@ -33,7 +33,3 @@ abbrev mutual
   pub texts_of : Living → Plains → List Bytes
   texts_of w no_items = []
   texts_of w (item_then first rest) = text_of w true first ∷ texts_of w rest
-
--- a text has at most so many bytes, since the text as a value has the size 1,000,000 at most
-abbrev pub most_bytes : ℕ
-most_bytes = 999999

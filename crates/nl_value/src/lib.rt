@@ -5,7 +5,7 @@
 pub mod equality;
 pub mod laws;
 pub mod life;
-mod measures;
+pub mod measures;
 pub mod order;
 pub mod sets;
 #[cfg(test)]

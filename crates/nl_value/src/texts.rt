@@ -2,6 +2,7 @@
 ghost use Rattle.std.specs.Prelude.{◌≡◌, ◌+◌, ◌<◌, ◌≤◌, length, IsTrue, IfOk, Err, codes, false, if◌then◌else◌};
 ghost use Rattle.std.specs.List.{join_with_byte};
 ghost use Rattle.nl_value.specs.Plain.{PlainItems, plains};
+ghost use Rattle.nl_value.specs.Limits.{most_bytes};
 ghost use Rattle.nl_value.specs.Living.{fits, all_fit, has_name};
 ghost use Rattle.nl_fixed.specs.Quoted.{written_byte, quoted_text};
 ghost use Rattle.nl_value.specs.Text.{text_of, texts_of, space};
@@ -9,6 +10,7 @@ ghost use Rattle.nl_value.specs.inner.Appends.{Appends};
 ghost use Rattle.nl_value.specs.Views.{plain};
 
 use crate::life::Life;
+use crate::measures::MOST_SIZE;
 use crate::values::{Items, Value};
 use nl_fixed::{NoMemory, Str};
 use std::alloc::Global;
@@ -35,8 +37,8 @@ impl From<NoMemory> for TextFail {
     }
 }
 
-/// How many bytes a text has at most.
-const MOST: usize = 999_999;
+/// How many bytes a text has at most: a text has the size 1 besides its bytes.
+const MOST: usize = MOST_SIZE as usize - 1;
 
 /// Appends bytes, where the text stays within its limit.
 fn put(alloc: Global, out: &mut Str, more: &[u8]) -> Result<(), TextFail>
@@ -191,10 +193,10 @@ pub fn text<L: Life>(alloc: Global, value: &Value, quoted: bool, life: &L) -> Re
         let w = L.living life.now in
         IfOk result (λ text. text ≡ text_of w quoted (plain value.now))
     }
-    ensures within { IfOk result (λ text. 1 + length text ≤ 1000000) }
+    ensures within { IfOk result (λ text. length text ≤ most_bytes) }
     ensures large {
         let whole = text_of (L.living life.now) quoted (plain value.now) in
-        result ≡ Err TextFail.TooLarge → 1000000 < 1 + length whole
+        result ≡ Err TextFail.TooLarge → most_bytes < length whole
     }
 {
     let mut out = Str::of_vec(Vec::new(alloc));

@@ -3,7 +3,7 @@ use Rattle.std.specs.Prelude.{◌≡◌, ◌+◌, ◌<◌, ◌≤◌, ◌++◌, 
 use Rattle.nl_fixed.specs.Nouns.{Bytes}
 use Rattle.nl_value.specs.declared.texts.TextFail.{TextFail}
 use Rattle.nl_value.specs.declared.texts.TextFail.TheVariants.{TooLarge}
-use Rattle.nl_value.specs.Text.{most_bytes}
+use Rattle.nl_value.specs.Limits.{most_bytes}
 
 -- at Ok the text `old` has become `new` by `more` and a text that was within the limit still is, and TooLarge comes only where
 -- the whole would pass the limit

@@ -47,8 +47,6 @@ small_world = record {
   members = small_members;
   link_place = small_place;
   name = small_name;
-  turtle_fits = λ turtle. true;
   patch_fits = λ patch. true;
-  link_fits = λ link. true;
   set_fits = λ set. true;
 }

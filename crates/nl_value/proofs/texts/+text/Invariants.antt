@@ -2,7 +2,7 @@
 use Rattle.std.proofs.Common.{◌≡◌, ◌+◌, ◌≤◌, ◌++◌, length, take}
 use Rattle.nl_value.specs.Plain.{plains}
 use Rattle.nl_value.specs.inner.Weights.{weight, weights}
-use Rattle.nl_value.specs.Text.{most_bytes}
+use Rattle.nl_value.specs.Limits.{most_bytes}
 use Rattle.nl_value.specs.Views.{plain}
 use Rattle.nl_value.proofs.Joined.{spaced}
 use Rattle.nl_value.proofs.texts.+text.Given as goal

@@ -2,7 +2,7 @@
 use Rattle.std.proofs.Common.{◌≡◌, ◌≤◌, ◌++◌, length, take}
 use Rattle.std.specs.List.{flat_map}
 use Rattle.nl_fixed.specs.Quoted.{written_byte}
-use Rattle.nl_value.specs.Text.{most_bytes}
+use Rattle.nl_value.specs.Limits.{most_bytes}
 use Rattle.nl_value.proofs.texts.put_quoted.Given as goal
 
 abbrev pub invariant-loop-byte : goal.invariant-loop-byte
