@@ -4,5 +4,7 @@ pub mod Weighing
 pub mod Joined
 pub mod Equivalence
 pub mod Fitting
+pub mod Lists
 pub mod Ordered
+pub mod OrderOfAll
 pub mod Sorting

@@ -16,5 +16,6 @@ pub mod texts;
 pub mod values;
 
 pub use life::{Life, NoLife};
+pub use order::OrderKind;
 pub use sets::{AgentKind, AgentSet, Serials};
 pub use values::{Items, Value};
