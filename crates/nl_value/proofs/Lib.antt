@@ -7,4 +7,6 @@ pub mod Fitting
 pub mod Lists
 pub mod Ordered
 pub mod OrderOfAll
-pub mod Sorting
+pub mod StableSorts
+pub mod Searching
+pub mod Coloring

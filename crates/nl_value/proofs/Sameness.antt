@@ -18,11 +18,11 @@ and_false : (a b : Bool) → b ≡ false → (a && b) ≡ false
 and_false true b e = e
 and_false false b e = refl
 
-and_left : (a b : Bool) → (a && b) ≡ true → a ≡ true
+pub and_left : (a b : Bool) → (a && b) ≡ true → a ≡ true
 and_left true b e = refl
 and_left false b e = e
 
-and_right : (a b : Bool) → (a && b) ≡ true → b ≡ true
+pub and_right : (a b : Bool) → (a && b) ≡ true → b ≡ true
 and_right true b e = e
 and_right false b e = absurd (false≢true e)
 

@@ -1,4 +1,5 @@
 pub mod Ascending
+pub mod Colors
 pub mod Equality
 pub mod Fit
 pub mod inner

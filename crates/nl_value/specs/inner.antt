@@ -4,5 +4,6 @@ pub mod Appends
 pub mod Codes
 pub mod Contents
 pub mod Falls
+pub mod Rows
 pub mod SmallWorld
 pub mod Weights

@@ -2,12 +2,14 @@
 //! size.
 #![tactic(auto)]
 
+pub mod colors;
 pub mod equality;
 pub mod laws;
 pub mod life;
 pub mod measures;
 pub mod order;
 pub mod sets;
+pub mod sorting;
 #[cfg(test)]
 mod small_world;
 #[cfg(test)]

@@ -1,5 +1,6 @@
 //! Sets of agents.
-ghost use Rattle.std.specs.Prelude.{◌≡◌, [], ◌∷◌, ◌++◌, ◌↔◌, length, IsTrue, IfOk, OnOk, OnErr};
+ghost use Rattle.std.specs.Prelude.{◌≡◌, [], ◌∷◌, ◌++◌, ◌↔◌, ◌==◌, length, IsTrue, IfOk, OnOk, OnErr};
+ghost use Rattle.std.specs.List.{list_any};
 ghost use Rattle.std.specs.List.Sorted.{IsStrictlyIncreasing};
 ghost use Rattle.nl_value.specs.Ascending.{IsAboveLast};
 
@@ -34,6 +35,14 @@ impl Serials {
         }
     }
 
+    /// The numbers of a vector, which ascend, without a copy.
+    pub fn of_vec(list: Vec<u64>) -> Serials
+        requires { IsStrictlyIncreasing list.items }
+        ensures { result ≡ list.items }
+    {
+        Serials { list }
+    }
+
     /// The numbers, ascending.
     pub fn as_slice(&self) -> &[u64]
         ensures value { result.now ≡ self.now }
@@ -54,6 +63,13 @@ impl Serials {
         ensures { IsTrue result ↔ (self.now ≡ []) }
     {
         self.list.is_empty()
+    }
+
+    /// Whether the number is among them, by a binary search.
+    pub fn contains(&self, number: u64) -> bool
+        ensures { result ≡ list_any (λ other. other == number) self.now }
+    {
+        self.list.binary_search(&number).is_ok()
     }
 
     /// Takes all numbers away.

@@ -1,4 +1,4 @@
-use Rattle.nl_value.proofs.Sorting.{sorted_by-sorted, sorted_by-stable, sorted_by-length, sorted_is}
+use Rattle.nl_value.proofs.StableSorts.{sorted_by-sorted, sorted_by-stable, sorted_by-length, sorted_is}
 use Rattle.nl_value.proofs.laws.sorting_is_a_function.Goals as goal
 
 pub returns : goal.returns
