@@ -7,9 +7,8 @@ use Rattle.std.specs.List.{list_all}
 use Rattle.std.specs.Str.{bytes_eq}
 use Rattle.nl_fixed.specs.Nouns.{Name}
 use Rattle.nl_value.specs.declared.colors.NamedColor.{NamedColor}
-use Rattle.nl_value.specs.Plain.{Plain, PlainNumber}
 use Rattle.nl_fixed.specs.Numbers.{in_range}
-use Rattle.nl_value.specs.Colors.{Color, number_among, primary_numbers}
+use Rattle.nl_value.specs.Colors.{Color, number_among}
 use Rattle.nl_value.proofs.Sameness.{and_left, and_right}
 use Rattle.nl_value.specs.inner.Rows.{color_of}
 

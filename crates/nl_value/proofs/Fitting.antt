@@ -1,9 +1,9 @@
 -- What fits: lists by their items, and every value where both tests pass everything.
-use Rattle.std.specs.Prelude.{◌≡◌, ℕ, Bool, true, ◌&&◌, List, [], ◌∷◌, ◌++◌, refl}
+use Rattle.std.specs.Prelude.{◌≡◌, ℕ, Bool, true, ◌&&◌, List, [], ◌∷◌, refl}
 use Rattle.std.proofs.Common.{ap}
 use Rattle.std.specs.List.{list_all}
 use Rattle.nl_value.specs.declared.sets.AgentSet.{AgentSet}
-use Rattle.nl_value.specs.Plain.{Plain, Plains, PlainItems, PlainTurtle, PlainPatch, PlainLink, PlainSet, no_items, item_then, plains}
+use Rattle.nl_value.specs.Plain.{Plain, Plains, PlainItems, PlainPatch, PlainSet, no_items, item_then, plains}
 use Rattle.nl_value.specs.Fit.{value_fits, values_fit}
 use Rattle.nl_value.specs.Living.{fits, no_life}
 use Rattle.nl_value.specs.inner.SmallWorld.{small_world}

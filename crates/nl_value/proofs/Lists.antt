@@ -1,11 +1,11 @@
 -- A list as a value, by its items.
-use Rattle.std.specs.Prelude.{◌≡◌, ℕ, ◌+◌, max, Bool, true, ◌&&◌, List, [], ◌∷◌, ◌++◌, map, refl}
+use Rattle.std.specs.Prelude.{◌≡◌, ◌+◌, max, true, ◌&&◌, List, [], ◌∷◌, ◌++◌, map, refl}
 use Rattle.std.proofs.Common.{ap, arith}
 use Rattle.std.specs.List.{sum_by, join_with_byte}
 use Rattle.std.specs.Cmp.Lexicographic.{pointwise}
 use Rattle.std.proofs.lemmas.List.Sums.{sum_by-cons}
 use Rattle.nl_fixed.specs.Nouns.{Bytes}
-use Rattle.nl_value.specs.Plain.{Plain, Plains, PlainItems, no_items, item_then, plains, items_of}
+use Rattle.nl_value.specs.Plain.{Plain, Plains, no_items, item_then, plains, items_of}
 use Rattle.nl_value.specs.Living.{Living}
 use Rattle.nl_value.specs.Equality.{same_values, same_lists}
 use Rattle.nl_value.specs.Laws.{IsListed}

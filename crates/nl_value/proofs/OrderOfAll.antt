@@ -1,18 +1,18 @@
 -- The order of all values: any two compare, and by the language's order where they have one.
-use Rattle.std.specs.Prelude.{◌≡◌, ℕ, pos, Bool, true, false, ◌&&◌, if◌then◌else◌, Option, Some, None, ◌⊎◌, List, [], ◌∷◌, refl}
+use Rattle.std.specs.Prelude.{◌≡◌, ℕ, pos, Bool, true, false, if◌then◌else◌, Option, Some, None, ◌⊎◌, List, [], ◌∷◌, refl}
 use Rattle.std.proofs.Common.{ap, ◌∙◌, sym, inl, inr}
 use Rattle.std.proofs.lemmas.Bool.{false≢true}
 use Rattle.std.specs.declared.cmp.Ordering.{Ordering}
 use Rattle.std.specs.declared.cmp.Ordering.TheVariants.{Less, Equal, Greater}
 use Rattle.std.specs.Option.{is_some}
-use Rattle.std.specs.Ordering.{nat_cmp, int_cmp, is_lt, ordering_then, ordering_reverse}
+use Rattle.std.specs.Ordering.{nat_cmp, int_cmp, ordering_then}
 use Rattle.std.specs.Cmp.{IsTotalOrder, then_total, on_total, IsStrictWeakOrder}
 use Rattle.std.specs.Cmp.Lexicographic.{slice_cmp}
 use Rattle.std.proofs.lemmas.Cmp.{nat_cmp_total, int_cmp_total, nat_list_cmp_total}
 use Rattle.std.proofs.lemmas.List.Sorted.{ranks_by}
 use Rattle.nl_value.specs.declared.order.OrderKind.{OrderKind}
 use Rattle.nl_value.specs.declared.order.OrderKind.TheVariants.{Numbers, Texts, Turtles, Patches, Links, Unordered}
-use Rattle.nl_value.specs.Plain.{Plain, PlainNumber, PlainTruth, PlainWords, PlainItems, PlainTurtle, PlainPatch, PlainLink, PlainNobody, PlainSet}
+use Rattle.nl_value.specs.Plain.{Plain, PlainNumber, PlainWords, PlainTurtle, PlainPatch, PlainLink}
 use Rattle.nl_value.specs.Living.{Living, link_key}
 use Rattle.nl_value.specs.Order.{compared, order_kind, have_order, rank, count_of, key_of, value_order, comes_first}
 use Rattle.nl_value.specs.Laws.{IsOrderOfAll}
@@ -96,8 +96,8 @@ some_of w a b (Some r) e s h = e ∙ ap (λ (x : Ordering). Some x) (sym (value_
 tied : (w : Living) (a b : Plain) → value_order w a b ≡ Equal → (compared w a b ≡ Some Equal) ⊎ ((order_kind w a ≡ Unordered) × (order_kind w b ≡ Unordered))
 tied w a b h =
     elim (kinds_tie (order_kind w a) (order_kind w b) (then_first (nat_cmp (rank (order_kind w a)) (rank (order_kind w b))) (ordering_then (int_cmp (count_of a) (count_of b)) (slice_cmp nat_cmp (key_of w a) (key_of w b))) h)) [
-      inl e ↦ inl (some_of w a b (compared w a b) refl ((is_ordered w).some a b ∙ e) h)
-    | inr e ↦ inr e
+      | inl e ↦ inl (some_of w a b (compared w a b) refl ((is_ordered w).some a b ∙ e) h)
+      | inr e ↦ inr e
     ]
 
 by_rank : (w : Living) (a b : Plain) (r : Ordering) → nat_cmp (rank (order_kind w a)) (rank (order_kind w b)) ≡ r → compared w a b ≡ None → value_order w a b ≡ r
@@ -105,8 +105,8 @@ by_rank w a b Less e h = ap (λ (q : Ordering). ordering_then q (ordering_then (
 by_rank w a b Greater e h = ap (λ (q : Ordering). ordering_then q (ordering_then (int_cmp (count_of a) (count_of b)) (slice_cmp nat_cmp (key_of w a) (key_of w b)))) e
 by_rank w a b Equal e h =
     elim (kinds_tie (order_kind w a) (order_kind w b) e) [
-      inl s ↦ absurd (false≢true (sym (ap is_some h) ∙ (is_ordered w).some a b ∙ s))
-    | inr u ↦ value_order-unordered w a b u.0 u.1
+      | inl s ↦ absurd (false≢true (sym (ap is_some h) ∙ (is_ordered w).some a b ∙ s))
+      | inr u ↦ value_order-unordered w a b u.0 u.1
     ]
 
 -- values that have no order compare by their kinds

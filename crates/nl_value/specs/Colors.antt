@@ -1,5 +1,5 @@
 -- The colors that have names, with their numbers. The names and numbers are those of the NetLogo Programming Guide ("Color").
-use Rattle.std.specs.Prelude.{ℕ, ℤ, pos, ◌+◌, ◌*◌, Option, Some, None, if◌then◌else◌, List, [], ◌∷◌, ◌++◌, map, codes}
+use Rattle.std.specs.Prelude.{ℕ, ℤ, pos, ◌*◌, Option, Some, None, if◌then◌else◌, List, [], ◌∷◌, ◌++◌, map, codes}
 use Rattle.std.specs.Str.{bytes_eq}
 use Rattle.nl_fixed.specs.Nouns.{Name}
 

@@ -7,6 +7,7 @@ pub mod Laws
 pub mod Limits
 pub mod Living
 pub mod Measures
+pub mod Memory
 pub mod Nouns
 pub mod Order
 pub mod Plain

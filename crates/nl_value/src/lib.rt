@@ -9,9 +9,9 @@ pub mod life;
 pub mod measures;
 pub mod order;
 pub mod sets;
-pub mod sorting;
 #[cfg(test)]
 mod small_world;
+pub mod sorting;
 #[cfg(test)]
 mod tests;
 pub mod texts;

@@ -60,10 +60,8 @@ fn compare_turtles<L: Life>(a: u64, b: u64, life: &L) -> Option<Ordering>
 fn compare_living<L: Life>(a: u64, b: u64, life: &L) -> Ordering
     requires first { IsTrue ((L.living life.now).link_lives a) }
     requires second { IsTrue ((L.living life.now).link_lives b) }
-    ensures {
-        let w = L.living life.now in
-        result ≡ slice_cmp nat_cmp (link_key w a) (link_key w b)
-    }
+    ensures { let w = L.living life.now in
+        result ≡ slice_cmp nat_cmp (link_key w a) (link_key w b) }
 {
     if life.link_before(a, b) {
         Ordering::Less

@@ -121,6 +121,8 @@ pub enum AgentSet {
 }
 
 impl AgentSet {
+    ghost use Rattle.std.specs.Prelude.{false, IsOk};
+    ghost use Rattle.nl_value.specs.Memory.{is_listed_set};
     ghost use Rattle.nl_value.specs.Sets.{set_kind};
 
     /// The kind of the agents that the set may hold.
@@ -134,9 +136,10 @@ impl AgentSet {
         }
     }
 
-    /// The same set again.
+    /// The same set again. Only a set that is a list of numbers takes memory.
     pub fn copy(&self, alloc: Global) -> Result<AgentSet, NoMemory>
-        ensures { IfOk result (λ again. again ≡ self.now) }
+        ensures again { IfOk result (λ again. again ≡ self.now) }
+        ensures without { is_listed_set self.now ≡ false → IsOk result }
     {
         match self {
             AgentSet::Turtles => Ok(AgentSet::Turtles),

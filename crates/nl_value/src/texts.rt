@@ -102,10 +102,8 @@ fn put_truth(alloc: Global, out: &mut Str, truth: bool) -> Result<(), TextFail>
 fn put_named<L: Life>(alloc: Global, out: &mut Str, value: &Value, life: &L) -> Result<(), TextFail>
     requires named { IsTrue (has_name (plain value.now)) }
     requires fit { IsTrue (fits (L.living life.now) (plain value.now)) }
-    ensures {
-        let w = L.living life.now in
-        Appends result out.old (text_of w false (plain value.now)) out.new
-    }
+    ensures { let w = L.living life.now in
+        Appends result out.old (text_of w false (plain value.now)) out.new }
 {
     if value.is_gone(life) {
         return put(alloc, out, b"nobody");
@@ -123,10 +121,8 @@ fn put_spaced<L: Life>(
     life: &L,
 ) -> Result<(), TextFail>
     requires { IsTrue (all_fit (L.living life.now) (plains items.now)) }
-    ensures {
-        let w = L.living life.now in
-        Appends result out.old (join_with_byte space (texts_of w (plains items.now))) out.new
-    }
+    ensures { let w = L.living life.now in
+        Appends result out.old (join_with_byte space (texts_of w (plains items.now))) out.new }
 {
     let Some((first, others)) = items.list.split_first() else {
         return Ok(());
@@ -143,10 +139,8 @@ fn put_spaced<L: Life>(
 #[cycle(text)]
 fn put_items<L: Life>(alloc: Global, out: &mut Str, items: &Items, life: &L) -> Result<(), TextFail>
     requires { IsTrue (all_fit (L.living life.now) (plains items.now)) }
-    ensures {
-        let w = L.living life.now in
-        Appends result out.old (text_of w false (PlainItems (plains items.now))) out.new
-    }
+    ensures { let w = L.living life.now in
+        Appends result out.old (text_of w false (PlainItems (plains items.now))) out.new }
 {
     put(alloc, out, b"[")?;
     put_spaced(alloc, out, items, life)?;
@@ -164,10 +158,8 @@ fn put_value<L: Life>(
     life: &L,
 ) -> Result<(), TextFail>
     requires { IsTrue (fits (L.living life.now) (plain value.now)) }
-    ensures {
-        let w = L.living life.now in
-        Appends result out.old (text_of w quoted (plain value.now)) out.new
-    }
+    ensures { let w = L.living life.now in
+        Appends result out.old (text_of w quoted (plain value.now)) out.new }
 {
     match value {
         Value::Number(number) => {
@@ -189,15 +181,11 @@ fn put_value<L: Life>(
 /// agent or a set. The text of nobody and of a dead agent is `nobody`. A text of more than 999,999 bytes is TooLarge.
 pub fn text<L: Life>(alloc: Global, value: &Value, quoted: bool, life: &L) -> Result<Str, TextFail>
     requires { IsTrue (fits (L.living life.now) (plain value.now)) }
-    ensures text {
-        let w = L.living life.now in
-        IfOk result (λ text. text ≡ text_of w quoted (plain value.now))
-    }
+    ensures text { let w = L.living life.now in
+        IfOk result (λ text. text ≡ text_of w quoted (plain value.now)) }
     ensures within { IfOk result (λ text. length text ≤ most_bytes) }
-    ensures large {
-        let whole = text_of (L.living life.now) quoted (plain value.now) in
-        result ≡ Err TextFail.TooLarge → most_bytes < length whole
-    }
+    ensures large { let whole = text_of (L.living life.now) quoted (plain value.now) in
+        result ≡ Err TextFail.TooLarge → most_bytes < length whole }
 {
     let mut out = Str::of_vec(Vec::new(alloc));
     put_value(alloc, &mut out, value, quoted, life)?;

@@ -166,12 +166,15 @@ impl Items {
 }
 
 impl Value {
-    ghost use Rattle.std.specs.Prelude.{◌≡◌, IfOk};
+    ghost use Rattle.std.specs.Prelude.{◌≡◌, false, IfOk, IsOk};
+    ghost use Rattle.nl_value.specs.Memory.{holds_memory};
+    ghost use Rattle.nl_value.specs.Views.{plain};
 
-    /// The same value again.
+    /// The same value again. Only a text, a list and a listed set take memory.
     #[cycle(copy)]
     pub fn copy(&self, alloc: Global) -> Result<Value, NoMemory>
-        ensures { IfOk result (λ value. value ≡ self.now) }
+        ensures value { IfOk result (λ value. value ≡ self.now) }
+        ensures without { holds_memory (plain self.now) ≡ false → IsOk result }
     {
         match self {
             Value::Number(number) => Ok(Value::Number(*number)),

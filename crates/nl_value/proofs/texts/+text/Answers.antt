@@ -46,6 +46,6 @@ put_spaced-returns g t c =
     let w = g.L.Life.living c.args.life.now in
     let seen = split_seen c.deref.result.now c.items.inside.list.items c.in-Some.first.now c.in-Some.others.now c.args.items.now c.in-Some.ensures.cases.0 c.deref.ensures.value c.items.view_is in
     let written =
-        written_so_far w c.args.out.now c.put_value.new.out c.loop-other.out c.in-Some.first.now c.in-Some.others.now c.loop-other.other-index c.in_ok-put_value.ensures.0 c.loop-other.invariant.written c.loop-other-test.false
-        ∙ ap (λ s. c.args.out.now ++ s) (sym (joined_seen w c.in-Some.first.now c.in-Some.others.now c.args.items.now seen)) in
+    written_so_far w c.args.out.now c.put_value.new.out c.loop-other.out c.in-Some.first.now c.in-Some.others.now c.loop-other.other-index c.in_ok-put_value.ensures.0 c.loop-other.invariant.written c.loop-other-test.false
+    ∙ ap (λ s. c.args.out.now ++ s) (sym (joined_seen w c.in-Some.first.now c.in-Some.others.now c.args.items.now seen)) in
     (written, λ short. c.loop-other.invariant.within (c.in_ok-put_value.ensures.1 short), λ wrong. cc)

@@ -1,4 +1,4 @@
-use Rattle.std.proofs.Common.{rules, of_calls, Bool, List, map, ap, ◌∙◌}
+use Rattle.std.proofs.Common.{rules, of_calls, List, map, ap, ◌∙◌}
 use Rattle.std.specs.Cmp.{IsStrictWeakOrder}
 use Rattle.std.proofs.lemmas.Fn.{always_returns_same}
 use Rattle.std.proofs.lemmas.List.Sorted.{ranks_by}
