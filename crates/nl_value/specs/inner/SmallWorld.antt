@@ -1,6 +1,8 @@
 -- A small world for tests: turtles 1 and 2 live, of which 2 is a fox, and links 1 to 4.
-use Rattle.std.specs.Prelude.{ℕ, Bool, true, ◌||◌, ◌&&◌, ◌==◌, nat_le, if◌then◌else◌, List, [], ◌∷◌, codes}
+use Rattle.std.specs.Prelude.{ℕ, Bool, true, ◌||◌, ◌&&◌, ◌==◌, nat_le, if◌then◌else◌, [], ◌∷◌, codes}
 use Rattle.std.specs.List.{filter}
+use Rattle.nl_fixed.specs.Nouns.{Bytes}
+use Rattle.nl_value.specs.Nouns.{Serials}
 use Rattle.nl_value.specs.declared.sets.AgentSet.{AgentSet}
 use Rattle.nl_value.specs.declared.sets.AgentSet.TheVariants.{Turtles, Breed, Patches, Links, LinkBreed, SomeTurtles, SomePatches, SomeLinks}
 use Rattle.nl_value.specs.Plain.{Plain, PlainTurtle, PlainLink, PlainSet}
@@ -12,7 +14,7 @@ small_turtle_lives n = n == 1 || n == 2
 abbrev pub small_link_lives : ℕ → Bool
 small_link_lives n = nat_le 1 n && nat_le n 4
 
-abbrev pub small_members : AgentSet → List ℕ
+abbrev pub small_members : AgentSet → Serials
 small_members Turtles = 1 ∷ 2 ∷ []
 small_members (Breed breed) = 2 ∷ []
 small_members Patches = 0 ∷ []
@@ -28,11 +30,11 @@ small_place n =
     if n == 3 then record { end1 = 0; end2 = 1; breed = 1 } else
     record { end1 = 0; end2 = 1; breed = 0 }
 
-abbrev pub small_set_name : AgentSet → List ℕ
+abbrev pub small_set_name : AgentSet → Bytes
 small_set_name (Breed breed) = codes "(agentset, 1 foxes)"
 small_set_name set = codes "(agentset, 2 turtles)"
 
-abbrev pub small_name : Plain → List ℕ
+abbrev pub small_name : Plain → Bytes
 small_name (PlainTurtle n) = if n == 2 then codes "(fox 2)" else codes "(turtle 1)"
 small_name (PlainLink n) = codes "(link 0 1)"
 small_name (PlainSet set) = small_set_name set
@@ -45,8 +47,6 @@ small_world = record {
   members = small_members;
   link_place = small_place;
   name = small_name;
-  turtle_fits = λ turtle. true;
   patch_fits = λ patch. true;
-  link_fits = λ link. true;
   set_fits = λ set. true;
 }

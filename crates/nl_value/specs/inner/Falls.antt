@@ -1,4 +1,4 @@
--- An item is less than the list that holds it.
+-- An item is less than the list that holds it. The model of `Items` wants this, since values nest through it.
 use Rattle.std.specs.Prelude.{◌≤◌, List, [], ◌∷◌, map}
 use Rattle.std.proofs.Common.{arith}
 use denote.Param.Weighed.{most, w_this}
@@ -6,7 +6,7 @@ use Rattle.nl_value.specs.declared.values.Value.{Value}
 use Rattle.nl_value.specs.declared.values.Value.TheVariants.{Number, Truth, Words, Items, Turtle, Patch, Link, Nobody, Set}
 use Rattle.nl_value.specs.declared.values.Items.TheDeep.{deep-Value}
 use Rattle.nl_value.specs.Plain.{plains}
-use Rattle.nl_value.specs.Weights.{weights}
+use Rattle.nl_value.specs.inner.Weights.{weights}
 use Rattle.nl_value.specs.Views.{plain}
 
 pub falls : (vs : List Value) → most (λ x. w_this.weight Value deep-Value x) vs ≤ weights (plains (map plain vs))

@@ -1,4 +1,4 @@
--- A code for plain values, by which a proof tells them apart: the value written out as numbers.
+-- A code for plain values, by which a proof tells them apart: the value written out as numbers. The model of `Items` wants one.
 use Rattle.std.specs.Prelude.{◌≡◌, ℕ, zero, suc, ◌+◌, ◌≤◌, pos, negsuc, true, false, List, [], ◌∷◌, ◌++◌, length, take, drop, refl}
 use Rattle.std.proofs.Common.{ap, arith}
 use Rattle.std.specs.Coded.{Coded, code_by, coded_list, coded_ℕ}

@@ -1,4 +1,4 @@
--- A measure by which an item is less than the list that holds it.
+-- A measure by which an item is less than the list that holds it: that of the calls that walk a value, and of its model.
 use Rattle.std.specs.Prelude.{ℕ, ◌+◌, suc, List}
 use Rattle.nl_value.specs.Plain.{Plain, Plains, PlainNumber, PlainTruth, PlainWords, PlainItems, PlainTurtle, PlainPatch, PlainLink, PlainNobody, PlainSet, no_items, item_then, plains}
 
