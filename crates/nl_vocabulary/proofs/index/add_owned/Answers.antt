@@ -15,7 +15,7 @@ names-preserved c =
       ap (λ n. n + 1) c.names.invariant.0,
       λ d known.
           let row : named c.in_ok-name.name c.variable.result ≡ owned_term d c.names.place it =
-          c.variable.ensures c.in_ok-name.name ∙ ap (λ n. variable_term n c.users-users.result (what.Own c.names.place)) c.in_ok-name.ensures
+          c.variable.ensures c.in_ok-name.name ∙ ap (λ n. variable_term n c.users-users.result (what.Own c.names.place)) c.in_ok-name.ensures.ok
           ∙ ap (λ k. variable_term it k (what.Own c.names.place)) (c.users-users.ensures d known ∙ ap (users d) c.as_bytes.ensures) in
           counted_more (owned_term d) c.names.place i c.args.names.now it _ _ _ _ split row c.in_ok-add.ensures (c.names.invariant.1 d known),
     )
