@@ -14,8 +14,11 @@ mod told;
 mod top;
 mod words;
 
-pub use ends::Status;
 use nl_scan::TEXT_LIMIT;
+
+pub use ends::Status;
+pub use fault::{ModelFault, ModelKind, ModelRefusal};
+pub use program::read_program;
 pub use top::run;
 
 /// A model or an experiment of more bytes is refused.

@@ -1,7 +1,6 @@
 //! What a model declares, from its tokens.
-ghost use Rattle.std.specs.Prelude.{◌≡◌, ◌<◌, ◌^◌, IfOk, IfErr, Ok};
+ghost use Rattle.std.specs.Prelude.{◌≡◌, ◌<◌, ◌^◌, IfOk, IfErr};
 ghost use Rattle.std.specs.List.Sorted.{IsPermutation};
-ghost use Rattle.nl_scan.specs.Tokens.{tokens_of};
 ghost use Rattle.nl_tree.specs.Names.{AreWidgets, IsDeclared};
 ghost use Rattle.nl_tree.specs.Vocabulary.{own_terms};
 ghost use Rattle.nl_decl.specs.declared.refusal.DeclKind.TheVariants as DeclKind;
@@ -18,12 +17,12 @@ use crate::ledger::first_duplicate;
 use crate::refusal::{DeclKind, DeclRefusal};
 use nl_fixed::{Names, NoMemory};
 use nl_outline::{Declaration, Owner, outline};
-use nl_scan::Tokens;
+use nl_scan::Source;
 use nl_tree::{Declared, NamedWords};
 use nl_vocabulary::index_of;
 use std::alloc::Global;
 
-/// What the tokens of a text declare, beside widgets with these names, or the first fault.
+/// What a text declares, beside widgets with these names, or the first fault.
 ///
 /// Where the tokens are no declarations, the fault is `BadDeclaration` at the first token with which they begin none, or at their number
 /// where the text ends within a declaration. Else it is `Duplicate` at the first name that may not stand beside a built-in word, a widget or
@@ -32,18 +31,18 @@ use std::alloc::Global;
 /// and links at once, and an input may be called as one of another procedure.
 pub fn declare(
     alloc: Global,
-    text: &[u8],
-    tokens: &Tokens,
+    source: &Source<'_>,
     widgets: Names,
 ) -> Result<Declared, DeclRefusal>
-    requires scanned { tokens_of text.now ≡ Ok tokens.now }
-    requires widgets { AreWidgets widgets }
-    ensures declared { IfOk result (Declares (lexemes_of text.now tokens.now) widgets) }
+    requires { AreWidgets widgets }
+    ensures declared { IfOk result
+        (Declares (lexemes_of source.now.text.now source.now.tokens.now) widgets) }
     ensures accepted { IfOk result IsDeclared }
-    ensures bodies { IfOk result (BodiesLieIn (lexemes_of text.now tokens.now)) }
-    ensures fault { IfErr result (IsRefusedFor (lexemes_of text.now tokens.now) widgets) }
+    ensures bodies { IfOk result (BodiesLieIn (lexemes_of source.now.text.now source.now.tokens.now)) }
+    ensures fault { IfErr result
+        (IsRefusedFor (lexemes_of source.now.text.now source.now.tokens.now) widgets) }
 {
-    let declarations = outline(alloc, text, tokens.as_slice())?;
+    let declarations = outline(alloc, source.text, source.tokens)?;
     let claims = claims_of(alloc, declarations.as_slice())?;
     if let Some(place) = first_duplicate(alloc, &widgets, claims.as_slice())? {
         return Err(duplicate(place));

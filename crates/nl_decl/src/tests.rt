@@ -5,7 +5,7 @@ ghost use Rattle.nl_tree.specs.Names.{AreWidgets, IsDeclared};
 use crate::declaring::declare;
 use crate::refusal::{DeclKind, DeclRefusal};
 use nl_fixed::{Names, NoMemory, Str};
-use nl_scan::scan;
+use nl_scan::{Source, scan};
 use nl_tree::{Declared, What, word};
 use nl_words::Role;
 use std::alloc::Global;
@@ -44,7 +44,7 @@ fn declared(alloc: Global, text: &[u8], speed: bool) -> Result<Declared, DeclRef
         return Err(DeclRefusal::NoMemory);
     };
     let widgets = widgets(alloc, speed)?;
-    let declared = declare(alloc, text, &tokens, widgets)?;
+    let declared = declare(alloc, &Source::new(text, tokens.as_slice()), widgets)?;
     Ok(declared)
 }
 

@@ -8,7 +8,7 @@ ghost use Rattle.nl_tree.specs.Vocabulary.{terms};
 use nl_decl::declare;
 use nl_fixed::{Names, Span};
 use nl_parse::{BodyRefusal, read_body};
-use nl_scan::scan;
+use nl_scan::{Source, scan};
 use nl_tree::{Declared, Form, Tree};
 use std::alloc::Global;
 
@@ -22,7 +22,7 @@ pub(crate) fn declared_by(alloc: Global, model: &[u8]) -> Option<Declared>
     let Ok(tokens) = scan(alloc, model) else {
         return None;
     };
-    match declare(alloc, model, &tokens, Names::empty(alloc)) {
+    match declare(alloc, &Source::new(model, tokens.as_slice()), Names::empty(alloc)) {
         Ok(declared) => Some(declared),
         Err(_) => None,
     }

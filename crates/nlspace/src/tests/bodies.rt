@@ -1,6 +1,6 @@
 //! Bodies and lone texts that are read, and where others are refused.
 
-use crate::test_texts::{NOWHERE, read_bare};
+use crate::tests::texts::{NOWHERE, read_bare};
 use nl_parse::{BodyKind, BodyRefusal};
 use nl_tree::Form;
 use std::alloc::Global;

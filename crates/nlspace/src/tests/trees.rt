@@ -1,7 +1,7 @@
 //! The trees of texts: which word holds which, and where each node stands.
 ghost use Rattle.nl_tree.specs.Names.{IsDeclared};
 
-use crate::test_texts::{NOWHERE, declared_by, read, read_bare};
+use crate::tests::texts::{NOWHERE, declared_by, read, read_bare};
 use nl_fixed::{Names, Num, Span, Str};
 use nl_tree::{Declared, Form, Label, Tree};
 use std::alloc::Global;

@@ -1,17 +1,15 @@
-use Rattle.std.proofs.Common.{[], ◌∷◌, ◌++◌, All, sym, subst}
+use Rattle.std.proofs.Common.{◌++◌, [], ◌∷◌, All, sym, subst}
 use Rattle.std.proofs.lemmas.Result.{IfOk-weaker}
 use Rattle.nl_scan.specs.Tokens.{IsTokenOf}
-use Rattle.nl_tree.specs.BodyFault.{Fits, IsGood, ends_at}
 use Rattle.nl_tree.specs.Tokens as plain
-use Rattle.nl_tree.specs.Views as view
-use Rattle.nl_tree.specs.Vocabulary.{terms}
-use Rattle.nl_decl.specs.Texts.{plain_tokens}
-use Rattle.nl_decl.proofs.Meant.{tokens_are_plain}
-use Rattle.nl_parse.proofs.Scanned.{scanned}
-use Rattle.nlspace.proofs.test_texts.read.Goals as goal
+use Rattle.nl_text.specs.Texts.{plain_tokens}
+use Rattle.nl_text.proofs.Meant.{tokens_are_plain}
+use Rattle.nl_cli.proofs.Programs.{tokens_of_text}
+use Rattle.nlspace.proofs.tests.texts.read.Goals as goal
 
 pub read_body-requires-clause-tokens : goal.read_body-requires-clause-tokens
-read_body-requires-clause-tokens c = subst (All (IsTokenOf c.args.text.now)) (sym c.as_slice.ensures) (scanned c.args.text.now c.in-Ok.tokens c.in-Ok.ensures.tokens)
+read_body-requires-clause-tokens c =
+    subst (All (IsTokenOf c.args.text.now)) (sym c.as_slice.ensures) (tokens_of_text c.args.text.now c.in-Ok.tokens c.in-Ok.ensures.tokens)
 
 pub returns : goal.returns
 returns c =

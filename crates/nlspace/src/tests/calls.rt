@@ -21,6 +21,9 @@ pub(crate) const HEADER: &[u8] =
 // that want a model without a fault name this kind alone, so that they change in one place with the form.
 pub(crate) const FAULTLESS: &str = "NotBuilt";
 
+// How many bytes a sink of a call has room for.
+const ROOM: usize = 200_000;
+
 // A call of the program with its files and sinks.
 #[derive(Drop)]
 pub(crate) struct Call {
@@ -46,8 +49,8 @@ impl Call {
             alloc,
             words: Args::new(alloc),
             files: MemFiles::new(alloc),
-            out: MemSink::with_room(alloc, 1000)?,
-            err: MemSink::with_room(alloc, 1000)?,
+            out: MemSink::with_room(alloc, ROOM)?,
+            err: MemSink::with_room(alloc, ROOM)?,
         };
         for word in words {
             call.words.push(alloc, *word)?;

@@ -1,94 +1,19 @@
-//! Lone texts that the observer runs beside a checked program: who may run their words, what is set, and where `report` and `stop` stand.
-ghost use Rattle.std.specs.Prelude.{◌≡◌, ◌≤◌, ◌<◌, Ok, IfOk, All, length, map};
-ghost use Rattle.nl_scan.specs.Tokens.{IsTokenOf, tokens_of};
-ghost use Rattle.nl_tree.specs.Names.{IsDeclared};
-ghost use Rattle.nl_tree.specs.Views.{plain};
-ghost use Rattle.nl_tree.specs.Vocabulary.{terms};
-ghost use Rattle.nl_decl.specs.Bodies.{LieFrom, place_of};
-ghost use Rattle.nl_decl.specs.Texts.{lexemes_of};
-ghost use Rattle.nl_cli.specs.ModelFault.{AreBodies, IsBody};
+//! Lone texts that the observer runs beside a checked program: who may run their words, what is set, and where `report`
+//! and `stop` stand.
 
-use crate::test_texts::{NOWHERE, read};
-use nl_check::{CheckKind, CheckRefusal, check, check_text};
-use nl_decl::declare;
+use crate::tests::texts::{NOWHERE, read};
+use nl_check::{CheckKind, CheckRefusal, check_text};
+use nl_cli::read_program;
 use nl_fixed::Names;
-use nl_parse::{BodyRefusal, read_body};
-use nl_scan::{Token, Tokens, scan};
-use nl_tree::{Declared, Form, Procedure, Program, Tree, Trees};
+use nl_scan::{Source, scan};
+use nl_tree::{Form, Program};
 use std::alloc::Global;
 use std::process::Abort;
 
-// The tree of the body of a procedure.
-fn body_of(
-    alloc: Global,
-    code: &[u8],
-    tokens: &[Token],
-    declared: &Declared,
-    procedure: &Procedure,
-) -> Result<Tree, BodyRefusal>
-    requires tokens { All (IsTokenOf code.now) tokens.now }
-    requires declared { IsDeclared declared.now }
-    requires from { procedure.now.first ≤ procedure.now.after }
-    requires to { procedure.now.after < length tokens.now }
-    ensures { IfOk result (λ tree. IsBody code.now tokens.now (terms declared.now) procedure.now (plain tree)) }
-{
-    let body = &tokens[procedure.first..procedure.after];
-    let end = tokens[procedure.after].span;
-    let inputs = &procedure.inputs;
-    match read_body(alloc, code, body, end, Form::Commands, inputs, declared) {
-        Ok(tree) => Ok(tree),
-        Err(refusal) => Err(refusal),
-    }
-}
-
-// The trees of the bodies of all procedures.
-fn bodies_of(
-    alloc: Global,
-    code: &[u8],
-    tokens: &[Token],
-    declared: &Declared,
-) -> Result<Trees, BodyRefusal>
-    requires tokens { All (IsTokenOf code.now) tokens.now }
-    requires declared { IsDeclared declared.now }
-    requires bodies { LieFrom (lexemes_of code.now tokens.now) 0 (map place_of declared.now.procedures) }
-    ensures { IfOk result (AreBodies code.now tokens.now (terms declared.now) declared.now.procedures) }
-{
-    let mut bodies = Trees::empty(alloc);
-    'procedures: for procedure in declared.procedures.as_slice() {
-        let body = body_of(alloc, code, tokens, declared, procedure)?;
-        bodies.push(alloc, body)?;
-    }
-    Ok(bodies)
-}
-
-// The checked program of what these tokens declare; none where it has a fault.
-fn program_with(alloc: Global, code: &[u8], tokens: &Tokens, declared: Declared) -> Option<Program>
-    requires scanned { tokens_of code.now ≡ Ok tokens.now }
-    requires declared { IsDeclared declared }
-    requires bodies { LieFrom (lexemes_of code.now tokens.now) 0 (map place_of declared.procedures) }
-{
-    match bodies_of(alloc, code, tokens.as_slice(), &declared) {
-        Ok(bodies) => check(alloc, declared, bodies).ok(),
-        Err(_) => None,
-    }
-}
-
-// The checked program that these tokens are; none where they have a fault.
-fn program_from(alloc: Global, code: &[u8], tokens: &Tokens) -> Option<Program>
-    requires { tokens_of code.now ≡ Ok tokens.now }
-{
-    match declare(alloc, code, tokens, Names::empty(alloc)) {
-        Ok(declared) => program_with(alloc, code, tokens, declared),
-        Err(_) => None,
-    }
-}
-
 // The checked program of a model; none where that has a fault.
 fn program_of(alloc: Global, code: &[u8]) -> Option<Program> {
-    match scan(alloc, code) {
-        Ok(tokens) => program_from(alloc, code, &tokens),
-        Err(_) => None,
-    }
+    let tokens = scan(alloc, code).ok()?;
+    read_program(alloc, &Source::new(code, tokens.as_slice())).ok()
 }
 
 // What the check says of a lone text; none where the text can't be read.

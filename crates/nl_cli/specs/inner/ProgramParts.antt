@@ -7,9 +7,8 @@ use Rattle.nl_tree.specs.declared.declared.Procedure.{Procedure}
 use Rattle.nl_tree.specs.Checked.{IsModelFault}
 use Rattle.nl_tree.specs.Term.{Term}
 use Rattle.nl_tree.specs.Tree.{Node}
-use Rattle.nl_parse.specs.declared.body.BodyKind.{BodyKind}
-use Rattle.nl_check.specs.declared.refusal.CheckKind.{CheckKind}
-use Rattle.nl_check.specs.Faults.{fault_of}
+use Rattle.nl_tree.specs.declared.faults.BodyKind.{BodyKind}
+use Rattle.nl_tree.specs.declared.faults.CheckKind.{CheckKind}
 use Rattle.nl_cli.specs.declared.fault.ModelKind.{ModelKind}
 use Rattle.nl_cli.specs.declared.fault.ModelRefusal.{ModelRefusal}
 use Rattle.nl_cli.specs.ModelFault.{IsCodeFault, IsFaultOfBodies, IsFaultOfBody}
@@ -36,5 +35,5 @@ IsBodiesRefusal text tokens table ps ModelRefusal.NoMemory = Unit {0}
 -- that of who may run the bodies
 abbrev pub IsCheckRefusal : List ℕ → Declared → List Node → ModelRefusal → Type 0
 IsCheckRefusal text d bodies (ModelRefusal.Fault fault) =
-    (kind : CheckKind) × (i : ℕ) × (span : Span) × (IsModelFault d bodies i (fault_of kind) span × (fault ≡ fault_at text (ModelKind.Check kind) span.start))
+    (kind : CheckKind) × (i : ℕ) × (span : Span) × (IsModelFault d bodies i kind span × (fault ≡ fault_at text (ModelKind.Check kind) span.start))
 IsCheckRefusal text d bodies ModelRefusal.NoMemory = Unit {0}

@@ -3,7 +3,7 @@ use Rattle.nl_tree.specs.BodyFault.{Fits}
 use Rattle.nl_tree.specs.Names.{IsDeclared}
 use Rattle.nl_tree.specs.Views.{plain}
 use Rattle.nl_tree.specs.Vocabulary.{terms}
-use Rattle.nlspace.proofs.tests_lone.checked.Goals as goal
+use Rattle.nlspace.proofs.tests.lone.checked.Goals as goal
 
 pub read-requires : goal.read-requires
 read-requires c = subst IsDeclared (sym c.declared.ensures.value) c.declared.ensures.checked.0

@@ -1,6 +1,6 @@
 //! Who may run the words of blocks.
 
-use crate::test_calls::{Bodies, FAULTLESS, assert_marked, is_any_among};
+use crate::tests::calls::{Bodies, FAULTLESS, assert_marked, is_any_among};
 use std::alloc::Global;
 use std::process::Abort;
 use std::test::Fail;

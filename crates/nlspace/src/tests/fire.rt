@@ -1,6 +1,6 @@
 //! A whole model, cut short at each of its words, and with each of them exchanged.
 
-use crate::test_calls::{assert_at_mark, assert_fault, assert_faultless};
+use crate::tests::calls::{assert_at_mark, assert_fault, assert_faultless};
 use std::alloc::Global;
 use std::process::Abort;
 use std::test::Fail;

@@ -1,6 +1,6 @@
 //! Where `report` and `stop` may stand, and which variables may be set.
 
-use crate::test_calls::{Bodies, FAULTLESS, assert_marked, is_any_among};
+use crate::tests::calls::{Bodies, FAULTLESS, assert_marked, is_any_among};
 use std::alloc::Global;
 use std::process::Abort;
 use std::test::Fail;

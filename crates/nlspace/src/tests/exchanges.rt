@@ -1,7 +1,7 @@
 //! A whole model with one of its words exchanged.
 
-use crate::test_calls::{FAULTLESS, assert_fault, assert_faultless};
-use crate::tests_fire::{FIRE, whole};
+use crate::tests::calls::{FAULTLESS, assert_fault, assert_faultless};
+use crate::tests::fire::{FIRE, whole};
 use std::alloc::Global;
 use std::process::Abort;
 use std::test::Fail;

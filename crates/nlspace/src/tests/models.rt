@@ -1,6 +1,6 @@
 //! The first faults of models: their order, names, and chains of calls.
 
-use crate::test_calls::{FAULTLESS, assert_fault, assert_faultless, assert_faults, assert_marked};
+use crate::tests::calls::{FAULTLESS, assert_fault, assert_faultless, assert_faults, assert_marked};
 use std::alloc::Global;
 use std::process::Abort;
 use std::test::Fail;
@@ -192,6 +192,19 @@ const RINGS: &[(&str, &str)] = &[
     (
         "to ~go ask turtles [ a ] end to a b fd 1 end to b a end",
         FAULTLESS,
+    ),
+    // From outside of a ring, behind a call and at its far end.
+    (
+        "to a ask turtles [ ~b ] end to b c end to c b tick end",
+        "WrongContext",
+    ),
+    (
+        "to ~a ask turtles [ b ] end to b c end to c b home end",
+        FAULTLESS,
+    ),
+    (
+        "to a ask turtles [ ~b ] end to b c end to c b hide-link end",
+        "WrongContext",
     ),
     (
         "to go fd 1 ~a end to a b end to b tick a end",
