@@ -23,7 +23,8 @@ pub fn class_of_word(name: &[u8], row: Option<Word>) -> Class
 
 // What a row makes of a word, which may be the minus sign.
 fn class_of_row(word: Word, minus: bool) -> Class
-    ensures { V.class_of result ≡ class_by word.role word.many minus (word.inputs.now ++ repeated word.values) }
+    ensures { V.class_of result
+        ≡ class_by word.role word.many minus (word.inputs.now ++ repeated word.values) }
 {
     let Word {
         role,
@@ -118,7 +119,8 @@ fn many_class(listed: &'static [Input], values: u32) -> Class
 // How many values these are, if they are nothing else.
 #[tactic(auto, using(crate::proofs::Rows::all_repeated, crate::proofs::Rows::not_repeated))]
 fn count(listed: &'static [Input], values: u32) -> Option<u64>
-    ensures { MatchOption result ((n : ℕ) → listed.now ++ repeated values ≡ repeated n → ⊥) (λ n. listed.now ++ repeated values ≡ repeated n) }
+    ensures { MatchOption result ((n : ℕ) → listed.now ++ repeated values ≡ repeated n → ⊥)
+        (λ n. listed.now ++ repeated values ≡ repeated n) }
 {
     if !are_values(listed) {
         return None;

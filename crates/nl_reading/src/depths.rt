@@ -174,7 +174,8 @@ fn begin_within(newest: &Frame, below: &[Frame]) -> u32
 
 // The same where an item of a call of any number begins.
 fn many_depth(items: &Grouped, others: u64, below: &[Frame]) -> u32
-    ensures { (w : Name) (s : Span) → IsDepth result (λ K. begin_depth (InMany w s items.now others ∷ K)) below.now }
+    ensures { (w : Name) (s : Span) →
+        IsDepth result (λ K. begin_depth (InMany w s items.now others ∷ K)) below.now }
 {
     if is_in_paren(below) {
         return whole_depth(false, deeper(items.depth()), below);
@@ -245,10 +246,8 @@ fn statement_within(newest: &Frame, below: &[Frame]) -> u32
 }
 
 fn is_statement_paren(frame: &Frame) -> bool
-    ensures {
-        (e : Names) (below : List M.Frame) → let K = frame_of e frame.now ∷ below in
-        statement_depth K ≡ whole_depth false (if result then 1 else 0) K
-    }
+    ensures { (e : Names) (below : List M.Frame) → let K = frame_of e frame.now ∷ below in
+        statement_depth K ≡ whole_depth false (if result then 1 else 0) K }
 {
     match frame {
         Frame::StatementParen(_) => true,
@@ -275,7 +274,8 @@ fn is_literal(shape: Shape) -> bool
 /// The least depth that the whole tree can still have in this mode inside these frames, up to `TOO_DEEP`.
 #[tactic(auto, using(crate::proofs::Capped::capped_whole))]
 pub fn least_depth(mode: &Mode, frames: &[Frame]) -> u32
-    ensures { (names : Names) → IsDepth result (λ K. least_depth (st (mode_of mode.now) names K)) frames.now }
+    ensures { (names : Names) →
+        IsDepth result (λ K. least_depth (st (mode_of mode.now) names K)) frames.now }
 {
     match mode {
         Mode::Begin => begin_depth(frames),

@@ -28,7 +28,8 @@ impl Model for KnownNames {
 
     ghost view = { λ known. known.list.items };
 
-    ghost invariant = { λ known. (q : Bytes) → contains_by (λ key. bytes_eq q key.items) known.index ≡ among q known.list.items };
+    ghost invariant = { λ known. (q : Bytes) →
+        contains_by (λ key. bytes_eq q key.items) known.index ≡ among q known.list.items };
 }
 
 impl KnownNames {

@@ -94,7 +94,8 @@ impl Inputs {
     /// The first input, and those behind it.
     #[tactic(auto, using(crate::proofs::Needs::one_less_value))]
     pub fn split(self) -> Option<(Need, Inputs)>
-        ensures { MatchOption result (needs_of self ≡ []) (λ pair. needs_of self ≡ pair.0 ∷ needs_of pair.1) }
+        ensures { MatchOption result (needs_of self ≡ [])
+            (λ pair. needs_of self ≡ pair.0 ∷ needs_of pair.1) }
     {
         let Inputs {
             listed,
