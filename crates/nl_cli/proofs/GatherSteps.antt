@@ -67,10 +67,13 @@ experiment_read_stops paths before between after last known now model End.Write 
 pub experiment_stops : (paths : Paths) (files : Asked) (model text : List ℕ) (end : End) → files.faults_after ≡ files.faults_before
     → Got paths.model files.folder model → Got paths.experiment files.folder text
     → ExperimentSays text (Err end) → Gathers paths files (Err end)
-experiment_stops paths files model text (End.Plan fault) sound got_model got_text says = (sound, λ folder is.
-    let read_model = IsRead-read_of paths.model file_limit folder model (got_model folder is) in
-    let read_text = IsRead-read_of paths.experiment file_limit folder text (got_text folder is) in
-    experiment_bad (found_in paths folder) read_model.whole read_text.whole fault read_model.there read_text.there (experiment_whole_says paths.experiment text folder (Err fault) (got_text folder is) says))
+experiment_stops paths files model text (End.Plan fault) sound got_model got_text says = (
+  sound,
+  λ folder is.
+      let read_model = IsRead-read_of paths.model file_limit folder model (got_model folder is) in
+      let read_text = IsRead-read_of paths.experiment file_limit folder text (got_text folder is) in
+      experiment_bad (found_in paths folder) read_model.whole read_text.whole fault read_model.there read_text.there (experiment_whole_says paths.experiment text folder (Err fault) (got_text folder is) says),
+)
 experiment_stops paths files model text End.Memory sound got_model got_text says = sound
 experiment_stops paths files model text (End.Read _) sound got_model got_text says = absurd says
 experiment_stops paths files model text (End.Model _) sound got_model got_text says = absurd says

@@ -14,10 +14,9 @@ mod told;
 mod top;
 mod words;
 
-use nl_scan::TEXT_LIMIT;
-
 pub use ends::Status;
 pub use fault::{ModelFault, ModelKind, ModelRefusal};
+use nl_scan::TEXT_LIMIT;
 pub use program::read_program;
 pub use top::run;
 

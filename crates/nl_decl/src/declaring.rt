@@ -29,11 +29,7 @@ use std::alloc::Global;
 /// an earlier name; a word that a breed makes stands at the name that it is made of. Which names may share is this project's own choice: a
 /// widget may be declared in `globals` too, a variable may belong to several breeds of turtles, to several breeds of links, and to turtles
 /// and links at once, and an input may be called as one of another procedure.
-pub fn declare(
-    alloc: Global,
-    source: &Source<'_>,
-    widgets: Names,
-) -> Result<Declared, DeclRefusal>
+pub fn declare(alloc: Global, source: &Source<'_>, widgets: Names) -> Result<Declared, DeclRefusal>
     requires { AreWidgets widgets }
     ensures declared { IfOk result
         (Declares (lexemes_of source.now.text.now source.now.tokens.now) widgets) }

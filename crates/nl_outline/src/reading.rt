@@ -64,9 +64,7 @@ fn takes_name(subject: &Subject, names: usize) -> bool
 
 // What follows the token behind the word that announces a list.
 fn open_list(alloc: Global, subject: Subject, token: &Token) -> Option<Mode>
-    ensures {
-        (text : Bytes) → GoesOn (λ done. open_list done subject (lexeme_of text token.now)) result
-    }
+    ensures { (text : Bytes) → GoesOn (λ done. open_list done subject (lexeme_of text token.now)) result }
 {
     match token.lexeme {
         Lexeme::Open => Some(Mode::Listing(subject, Names::empty(alloc))),
@@ -82,9 +80,7 @@ fn title(
     token: &Token,
 ) -> Result<Option<Mode>, NoMemory>
     requires { LiesIn text.now token.now.span }
-    ensures {
-        IfOk result (GoesOn (λ done. title done reporter (lexeme_of text.now token.now)))
-    }
+    ensures { IfOk result (GoesOn (λ done. title done reporter (lexeme_of text.now token.now))) }
 {
     match token.lexeme {
         Lexeme::Word => {
@@ -141,11 +137,9 @@ impl Reader {
         names: &[Str],
     ) -> Result<Option<Mode>, NoMemory>
         requires { IsKept self.old }
-        ensures {
-            IfOk result (Reaches
-                (end_breed self.old.done.items names.now (Declaration.Breed sort))
-                0 self.new)
-        }
+        ensures { IfOk result (Reaches
+            (end_breed self.old.done.items names.now (Declaration.Breed sort))
+            0 self.new) }
     {
         let [plural, singular] = names else {
             return Ok(None);
@@ -185,11 +179,9 @@ impl Reader {
         token: &Token,
     ) -> Result<Option<Mode>, NoMemory>
         requires ready { MayTake self.old text.now token.now }
-        ensures {
-            IfOk result (Reaches
-                (list_more self.old.done.items subject names (lexeme_of text.now token.now))
-                0 self.new)
-        }
+        ensures { IfOk result (Reaches
+            (list_more self.old.done.items subject names (lexeme_of text.now token.now))
+            0 self.new) }
     {
         match token.lexeme {
             Lexeme::Word => {
@@ -209,11 +201,9 @@ impl Reader {
     // What follows the token with which a declaration is to begin.
     fn begin(&self, alloc: Global, text: &[u8], token: &Token) -> Result<Option<Mode>, NoMemory>
         requires ready { MayTake self.now text.now token.now }
-        ensures {
-            IfOk result (Reaches
-                (begin_one self.now.done.items (lexeme_of text.now token.now))
-                0 self.now)
-        }
+        ensures { IfOk result (Reaches
+            (begin_one self.now.done.items (lexeme_of text.now token.now))
+            0 self.now) }
     {
         match token.lexeme {
             Lexeme::Word => {
@@ -234,11 +224,9 @@ impl Reader {
     ) -> Result<Option<Mode>, NoMemory>
         requires ready { MayTake self.old text.now token.now }
         requires room { body.tokens < usize.MAX }
-        ensures {
-            IfOk result (Reaches
-                (go_on_with self.old.done.items body (lexeme_of text.now token.now))
-                (body.tokens + 1) self.new)
-        }
+        ensures { IfOk result (Reaches
+            (go_on_with self.old.done.items body (lexeme_of text.now token.now))
+            (body.tokens + 1) self.new) }
     {
         let Body {
             reporter,
@@ -266,11 +254,9 @@ impl Reader {
         token: &Token,
     ) -> Result<Option<Mode>, NoMemory>
         requires ready { MayTake self.old text.now token.now }
-        ensures {
-            IfOk result (Reaches
-                (head self.old.done.items reporter name (lexeme_of text.now token.now))
-                1 self.new)
-        }
+        ensures { IfOk result (Reaches
+            (head self.old.done.items reporter name (lexeme_of text.now token.now))
+            1 self.new) }
     {
         match token.lexeme {
             Lexeme::Open => Ok(Some(Mode::Listing(
@@ -299,11 +285,9 @@ impl Reader {
     ) -> Result<Option<Mode>, NoMemory>
         requires ready { MayTake self.old text.now token.now }
         requires room { counted mode < usize.MAX }
-        ensures {
-            IfOk result (Reaches
-                (feed_in self.old.done.items mode (lexeme_of text.now token.now))
-                (counted mode + 1) self.new)
-        }
+        ensures { IfOk result (Reaches
+            (feed_in self.old.done.items mode (lexeme_of text.now token.now))
+            (counted mode + 1) self.new) }
     {
         match mode {
             Mode::Between => self.begin(alloc, text, token),

@@ -15,12 +15,12 @@ ghost use Rattle.nl_tree.specs.Tokens.{word};
 ghost use Rattle.nl_tree.specs.Grammar.{leaf};
 ghost use Rattle.nl_tree.specs.declared.tree.Label.TheVariants as label;
 
-use nl_reading::frames::{Frame, Mode};
-use nl_grammar::{Last, Shape};
-use nl_reading::marks::{Class, Head, Inputs, Mark};
-use nl_reading::parts::{Grouped, Grown};
 use crate::reader::{Reader, Refusal, refuse};
 use nl_fixed::{NoMemory, Span};
+use nl_grammar::{Last, Shape};
+use nl_reading::frames::{Frame, Mode};
+use nl_reading::marks::{Class, Head, Inputs, Mark};
+use nl_reading::parts::{Grouped, Grown};
 use nl_tree::Label;
 
 impl<'a> Reader<'a> {
@@ -53,10 +53,8 @@ impl<'a> Reader<'a> {
 
     // A word where an expression begins.
     fn begin_word(&mut self, head: Head, class: Class) -> Result<(), Refusal>
-        ensures {
-            Follows result self.old self.new
-                (λ e K. feed_begin e K (word head.name (class_of class) head.place))
-        }
+        ensures { Follows result self.old self.new
+            (λ e K. feed_begin e K (word head.name (class_of class) head.place)) }
     {
         match class {
             Class::Unknown => self.begin_local(head),
@@ -86,10 +84,8 @@ impl<'a> Reader<'a> {
 
     // A word that is an expression by itself.
     fn begin_leaf(&mut self, head: Head, shape: Shape) -> Result<(), NoMemory>
-        ensures {
-            Reaches result self.old self.new
-                (closed shape (leaf (label.Named head.name) head.place))
-        }
+        ensures { Reaches result self.old self.new
+            (closed shape (leaf (label.Named head.name) head.place)) }
     {
         let tree = Grown::leaf(self.alloc, Label::Named(head.name), head.place);
         self.closed(shape, tree)
@@ -97,10 +93,8 @@ impl<'a> Reader<'a> {
 
     // A word that has no row.
     fn begin_local(&mut self, head: Head) -> Result<(), Refusal>
-        ensures {
-            Follows result self.old self.new
-                (λ e K. feed_local (among head.name e) head.name head.place e K)
-        }
+        ensures { Follows result self.old self.new
+            (λ e K. feed_local (among head.name e) head.name head.place e K) }
     {
         if !self.knows(head.name.as_bytes()) {
             return Err(Refusal::Unexpected);
@@ -112,10 +106,8 @@ impl<'a> Reader<'a> {
     // A call whose last input is an item.
     #[tactic(auto, using(crate::proofs::Stacked::no_call, crate::proofs::Stacked::a_call))]
     fn begin_call(&mut self, head: Head, inputs: Inputs) -> Result<(), Refusal>
-        ensures {
-            Follows result self.old self.new
-                (begin_call head.name head.place (needs_of inputs))
-        }
+        ensures { Follows result self.old self.new
+            (begin_call head.name head.place (needs_of inputs)) }
     {
         if self.has_more_sides() {
             return Err(Refusal::Unexpected);
@@ -210,10 +202,8 @@ impl<'a> Reader<'a> {
 
     // A closing parenthesis behind less than a call's usual number of items.
     fn end_usual(&mut self, head: Head, items: Grouped) -> Result<(), Refusal>
-        ensures {
-            (n : ℕ) → Follows result self.old self.new
-                (λ e K. end_many e (InMany head.name head.place items n ∷ K))
-        }
+        ensures { (n : ℕ) → Follows result self.old self.new
+            (λ e K. end_many e (InMany head.name head.place items n ∷ K)) }
     {
         match self.take() {
             Some(Frame::Paren(bracket)) => {

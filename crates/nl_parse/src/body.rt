@@ -20,13 +20,13 @@ ghost use Rattle.nl_parse.specs.Outcome.{Refuses, StopsAt, StopsIn, first_span};
 ghost use Rattle.nl_reading.specs.inner.Reading.{mode_of};
 ghost use Rattle.nl_parse.specs.inner.State.{state_of};
 
+use crate::reader::{Reader, Refusal};
+use nl_fixed::{Names, NoMemory, Span, Str};
 use nl_reading::classes::class_of_word;
 use nl_reading::frames::{Frame, Mode};
 use nl_reading::known_names::KnownNames;
 use nl_reading::marks::{Head, Mark};
 use nl_reading::parts::{Grouped, Grown, TOO_DEEP};
-use crate::reader::{Reader, Refusal};
-use nl_fixed::{Names, NoMemory, Span, Str};
 use nl_scan::{Lexeme, Token, text_of};
 use nl_tree::{BodyKind, Declared, Ending, Form, Tree, word};
 use std::alloc::Global;

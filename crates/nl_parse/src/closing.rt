@@ -17,12 +17,12 @@ ghost use Rattle.nl_reading.specs.inner.Reading.{frame_of, names_with, maybe_ove
 ghost use Rattle.nl_parse.specs.inner.State.{stack_of, names_of, state_of};
 ghost use Rattle.nl_parse.specs.inner.Steps.{Follows, Reaches};
 
-use nl_reading::frames::{Frame, Mode};
-use nl_grammar::{Shape};
-use nl_reading::marks::{Class, Head, Mark};
-use nl_reading::parts::{Grouped, Grown};
 use crate::reader::{Reader, Refusal, refuse};
 use nl_fixed::{NoMemory, Span, Str};
+use nl_grammar::Shape;
+use nl_reading::frames::{Frame, Mode};
+use nl_reading::marks::{Class, Head, Mark};
+use nl_reading::parts::{Grouped, Grown};
 use nl_tree::Label;
 
 /// What stands around an expression that is over.
@@ -40,11 +40,9 @@ enum Around {
 
 // What a frame is around an expression.
 fn what_is(frame: &Frame) -> Around
-    ensures shut {
-        (x : Shape) (t : Node) (tok : Tok) (e : Names) (below : List M.Frame) →
+    ensures shut { (x : Shape) (t : Node) (tok : Tok) (e : Names) (below : List M.Frame) →
         feed_shut x t (names_with frame.now e) (frame_of e frame.now ∷ below) tok
-            ≡ shut_in result x t e below tok
-    }
+        ≡ shut_in result x t e below tok }
     ensures something { result ≡ Around.Nothing → ⊥ }
 {
     match frame {
@@ -69,10 +67,8 @@ impl<'a> Reader<'a> {
 
     // A word behind a block.
     fn begin_of(&mut self, block: Grown, head: Head, class: Class) -> Result<(), Refusal>
-        ensures {
-            Follows result self.old self.new
-                (λ e K. feed_blocked block e K (word head.name (class_of class) head.place))
-        }
+        ensures { Follows result self.old self.new
+            (λ e K. feed_blocked block e K (word head.name (class_of class) head.place)) }
     {
         match class {
             Class::Of => {
@@ -85,10 +81,8 @@ impl<'a> Reader<'a> {
 
     /// A token behind the items of a literal list.
     fn feed_items(&mut self, bracket: Span, items: Grouped, mark: Mark) -> Result<(), Refusal>
-        ensures {
-            Follows result self.old self.new
-                (λ e K. feed_items bracket items e K (mark_of mark))
-        }
+        ensures { Follows result self.old self.new
+            (λ e K. feed_items bracket items e K (mark_of mark)) }
     {
         match mark {
             Mark::Number(number, place) => {
@@ -122,10 +116,8 @@ impl<'a> Reader<'a> {
         head: Head,
         class: Class,
     ) -> Result<(), Refusal>
-        ensures {
-            Follows result self.old self.new
-                (λ e K. feed_items bracket items e K (word head.name (class_of class) head.place))
-        }
+        ensures { Follows result self.old self.new
+            (λ e K. feed_items bracket items e K (word head.name (class_of class) head.place)) }
     {
         match class {
             Class::Constant => {
@@ -144,10 +136,8 @@ impl<'a> Reader<'a> {
         label: Label,
         place: Span,
     ) -> Result<(), NoMemory>
-        ensures {
-            Reaches result self.old self.new
-                (λ e K. st Listing e (InList bracket (and_last items (leaf label place)) ∷ K))
-        }
+        ensures { Reaches result self.old self.new
+            (λ e K. st Listing e (InList bracket (and_last items (leaf label place)) ∷ K)) }
     {
         let mut items = items;
         items.add(self.alloc, Grown::leaf(self.alloc, label, place))?;
@@ -166,10 +156,8 @@ impl<'a> Reader<'a> {
 
     /// A token behind an expression, which closes it.
     pub fn feed_shut(&mut self, shape: Shape, tree: Grown, mark: Mark) -> Result<(), Refusal>
-        ensures {
-            Follows result self.old self.new
-                (λ e K. feed_shut shape tree e K (mark_of mark))
-        }
+        ensures { Follows result self.old self.new
+            (λ e K. feed_shut shape tree e K (mark_of mark)) }
     {
         match self.take_around() {
             Around::Paren(bracket) => self.feed_paren(shape, tree, bracket, mark),
@@ -183,11 +171,9 @@ impl<'a> Reader<'a> {
 
     // Takes what stands around an expression.
     fn take_around(&mut self) -> Around
-        ensures shut {
-            (x : Shape) (t : Node) (tok : Tok) →
+        ensures shut { (x : Shape) (t : Node) (tok : Tok) →
             feed_shut x t (names_of self.old) (stack_of self.old) tok
-                ≡ shut_in result x t (names_of self.new) (stack_of self.new) tok
-        }
+            ≡ shut_in result x t (names_of self.new) (stack_of self.new) tok }
         ensures nothing { result ≡ Around.Nothing → stack_of self.new ≡ [] }
     {
         match self.take() {
@@ -204,10 +190,8 @@ impl<'a> Reader<'a> {
         bracket: Span,
         mark: Mark,
     ) -> Result<(), Refusal>
-        ensures {
-            Follows result self.old self.new
-                (λ e K. feed_bracket shape tree bracket e K (mark_of mark))
-        }
+        ensures { Follows result self.old self.new
+            (λ e K. feed_bracket shape tree bracket e K (mark_of mark)) }
     {
         if let Shape::Literal = shape {
             let items = Grouped::of(self.alloc, tree)?;
@@ -231,10 +215,8 @@ impl<'a> Reader<'a> {
         bracket: Span,
         mark: Mark,
     ) -> Result<(), Refusal>
-        ensures {
-            Follows result self.old self.new
-                (λ e K. feed_paren shape tree bracket e K (mark_of mark))
-        }
+        ensures { Follows result self.old self.new
+            (λ e K. feed_paren shape tree bracket e K (mark_of mark)) }
     {
         match mark {
             Mark::CloseParen(_) => {
@@ -254,10 +236,8 @@ impl<'a> Reader<'a> {
         bracket: Span,
         mark: Mark,
     ) -> Result<(), Refusal>
-        ensures {
-            Follows result self.old self.new
-                (λ e K. feed_more shape tree bracket e K (mark_of mark))
-        }
+        ensures { Follows result self.old self.new
+            (λ e K. feed_more shape tree bracket e K (mark_of mark)) }
     {
         if let Shape::Growing = shape {
             let (label, place, items) = tree.taken_apart();
@@ -275,10 +255,8 @@ impl<'a> Reader<'a> {
         place: Span,
         mark: Mark,
     ) -> Result<(), Refusal>
-        ensures {
-            Follows result self.old self.new
-                (λ e K. feed_minus tree bracket place e K (mark_of mark))
-        }
+        ensures { Follows result self.old self.new
+            (λ e K. feed_minus tree bracket place e K (mark_of mark)) }
     {
         match mark {
             Mark::CloseParen(_) => {
@@ -293,10 +271,8 @@ impl<'a> Reader<'a> {
 
     // A token behind the expression of a block.
     fn feed_reporter(&mut self, tree: Grown, bracket: Span, mark: Mark) -> Result<(), Refusal>
-        ensures {
-            Follows result self.old self.new
-                (λ e K. feed_reporter tree bracket e K (mark_of mark))
-        }
+        ensures { Follows result self.old self.new
+            (λ e K. feed_reporter tree bracket e K (mark_of mark)) }
     {
         match mark {
             Mark::CloseBracket(_) => {
@@ -324,10 +300,8 @@ impl<'a> Reader<'a> {
 
     /// A token behind a statement in parentheses, which makes this name.
     pub fn feed_ended(&mut self, tree: Grown, made: Option<Str>, mark: Mark) -> Result<(), Refusal>
-        ensures {
-            Follows result self.old self.new
-                (λ e K. feed_ended tree (maybe_over made e) K (mark_of mark))
-        }
+        ensures { Follows result self.old self.new
+            (λ e K. feed_ended tree (maybe_over made e) K (mark_of mark)) }
     {
         match mark {
             Mark::CloseParen(place) => self.close_statement(tree, made, place),
@@ -342,10 +316,8 @@ impl<'a> Reader<'a> {
         made: Option<Str>,
         place: Span,
     ) -> Result<(), Refusal>
-        ensures {
-            Follows result self.old self.new
-                (λ e K. feed_ended tree (maybe_over made e) K (close_paren place))
-        }
+        ensures { Follows result self.old self.new
+            (λ e K. feed_ended tree (maybe_over made e) K (close_paren place)) }
     {
         match self.take() {
             Some(Frame::StatementParen(bracket)) => {

@@ -6,22 +6,20 @@ ghost use Rattle.nl_reading.specs.inner.Reading.{maybe_over};
 ghost use Rattle.nl_parse.specs.inner.State.{stack_of, names_of, state_of};
 ghost use Rattle.nl_parse.specs.inner.Steps.{Reaches};
 
-use nl_reading::frames::{Frame, Mode, begin_mode, build, closes};
-use nl_grammar::{Last, Shape};
-use nl_reading::marks::{Head, Inputs};
-use nl_reading::parts::{Grouped, Grown};
 use crate::reader::Reader;
 use nl_fixed::{NoMemory, Str};
+use nl_grammar::{Last, Shape};
+use nl_reading::frames::{Frame, Mode, begin_mode, build, closes};
+use nl_reading::marks::{Head, Inputs};
+use nl_reading::parts::{Grouped, Grown};
 use nl_tree::Label;
 
 impl<'a> Reader<'a> {
     /// Ends a statement that makes this name.
     #[tactic(auto, using(nl_reading::proofs::Framed::made_push))]
     pub fn end_statement(&mut self, tree: Grown, made: Option<Str>) -> Result<(), NoMemory>
-        ensures {
-            Reaches result self.old self.new
-                (λ e K. end_statement tree (maybe_over made e) K)
-        }
+        ensures { Reaches result self.old self.new
+            (λ e K. end_statement tree (maybe_over made e) K) }
     {
         match self.take() {
             Some(Frame::Statements(bracket, ending, names, statements)) => {
@@ -54,10 +52,8 @@ impl<'a> Reader<'a> {
         rest: Inputs,
         last: Last,
     ) -> Result<(), NoMemory>
-        ensures {
-            Reaches result self.old self.new
-                (next head.name head.place inputs (needs_of rest) last)
-        }
+        ensures { Reaches result self.old self.new
+            (next head.name head.place inputs (needs_of rest) last) }
     {
         match rest.split() {
             Some((need, rest)) => {
@@ -105,10 +101,8 @@ impl<'a> Reader<'a> {
         shape: Shape,
         tree: Grown,
     ) -> Result<(), NoMemory>
-        ensures {
-            Reaches result self.old self.new
-                (λ e K. closed shape tree e (InNear head.name head.place sides others ∷ K))
-        }
+        ensures { Reaches result self.old self.new
+            (λ e K. closed shape tree e (InNear head.name head.place sides others ∷ K)) }
     {
         let mut sides = sides;
         sides.add(self.alloc, tree)?;
@@ -204,10 +198,8 @@ impl<'a> Reader<'a> {
         shape: Shape,
         tree: Grown,
     ) -> Result<(), NoMemory>
-        ensures {
-            Reaches result self.old self.new
-                (λ e K. accept shape tree e (InMany head.name head.place items others ∷ K))
-        }
+        ensures { Reaches result self.old self.new
+            (λ e K. accept shape tree e (InMany head.name head.place items others ∷ K)) }
     {
         if others == 0 {
             return self.enter(Mode::Shut(shape, tree), Frame::Many(head, items, 0));

@@ -10,10 +10,10 @@ ghost use Rattle.nl_parse.specs.inner.State.{stack_of, names_of, state_of, outer
 ghost use Rattle.nl_parse.specs.inner.Steps.{Reaches};
 ghost use Rattle.nl_parse.specs.inner.Asked.{is_at_side, is_in_list};
 
+use nl_fixed::NoMemory;
 use nl_reading::depths::least_depth;
 use nl_reading::frames::{Frame, Mode, make_name};
 use nl_reading::known_names::KnownNames;
-use nl_fixed::NoMemory;
 use std::alloc::Global;
 
 /// Why a token is not taken.
@@ -67,10 +67,8 @@ impl<'a> Reader<'a> {
 
     /// Puts a frame on the stack, inside of which this may come next.
     pub fn enter(&mut self, mode: Mode, frame: Frame) -> Result<(), NoMemory>
-        ensures {
-            Reaches result self.old self.new
-                (λ e K. st (mode_of mode) (mode_names mode (names_with frame e)) (frame_of e frame ∷ K))
-        }
+        ensures { Reaches result self.old self.new
+            (λ e K. st (mode_of mode) (mode_names mode (names_with frame e)) (frame_of e frame ∷ K)) }
     {
         self.put(frame)?;
         self.mode = mode;

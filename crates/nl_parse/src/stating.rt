@@ -12,16 +12,14 @@ ghost use Rattle.nl_tree.specs.Tokens.{word};
 ghost use Rattle.nl_parse.specs.inner.State.{stack_of, names_of, state_of};
 ghost use Rattle.nl_parse.specs.inner.Steps.{Follows, Reaches};
 
-use nl_reading::frames::{Frame, Mode};
-use nl_grammar::{Last};
-use nl_tree::{Ending};
-use nl_reading::known_names::KnownNames;
-use nl_reading::marks::{Class, Head, Mark, begins_statement};
-use nl_tree::{Block};
-use nl_reading::parts::{Grouped, Grown};
 use crate::reader::{Reader, Refusal, refuse};
 use nl_fixed::{NoMemory, Span};
-use nl_tree::Label;
+use nl_grammar::Last;
+use nl_reading::frames::{Frame, Mode};
+use nl_reading::known_names::KnownNames;
+use nl_reading::marks::{Class, Head, Mark, begins_statement};
+use nl_reading::parts::{Grouped, Grown};
+use nl_tree::{Block, Ending, Label};
 
 impl<'a> Reader<'a> {
     /// A token where a block begins.
@@ -40,10 +38,8 @@ impl<'a> Reader<'a> {
 
     /// Begins a block of commands.
     pub fn open_statements(&mut self, bracket: Span) -> Result<(), NoMemory>
-        ensures {
-            Reaches result self.old self.new
-                (λ e K. st Stating e (InStatements bracket AtBracket e none ∷ K))
-        }
+        ensures { Reaches result self.old self.new
+            (λ e K. st Stating e (InStatements bracket AtBracket e none ∷ K)) }
     {
         let names = KnownNames::empty(self.alloc);
         let statements = Grouped::new(self.alloc);
@@ -65,10 +61,8 @@ impl<'a> Reader<'a> {
 
     // A word where a variable's name is wanted.
     fn choose_word(&mut self, head: Head, class: Class) -> Result<(), Refusal>
-        ensures {
-            Follows result self.old self.new
-                (λ e K. feed_choosing e K (word head.name (class_of class) head.place))
-        }
+        ensures { Follows result self.old self.new
+            (λ e K. feed_choosing e K (word head.name (class_of class) head.place)) }
     {
         match class {
             Class::Named => {
@@ -88,10 +82,8 @@ impl<'a> Reader<'a> {
 
     // A variable's name.
     fn choose(&mut self, head: Head) -> Result<(), NoMemory>
-        ensures {
-            Reaches result self.old self.new
-                (supply (leaf (label.Named head.name) head.place))
-        }
+        ensures { Reaches result self.old self.new
+            (supply (leaf (label.Named head.name) head.place)) }
     {
         let tree = Grown::leaf(self.alloc, Label::Named(head.name), head.place);
         self.supply(tree)
@@ -125,10 +117,8 @@ impl<'a> Reader<'a> {
         statements: Grouped,
         mark: Mark,
     ) -> Result<(), Refusal>
-        ensures {
-            Follows result self.old self.new
-                (λ e K. feed_ending ending bracket statements e K (mark_of mark))
-        }
+        ensures { Follows result self.old self.new
+            (λ e K. feed_ending ending bracket statements e K (mark_of mark)) }
     {
         match (ending, &mark) {
             (Ending::AtBracket, Mark::CloseBracket(_)) => {
@@ -159,10 +149,8 @@ impl<'a> Reader<'a> {
 
     // A word that begins a statement.
     fn begin_statement(&mut self, head: Head, class: Class) -> Result<(), Refusal>
-        ensures {
-            Follows result self.old self.new
-                (λ e K. feed_statement e K (word head.name (class_of class) head.place))
-        }
+        ensures { Follows result self.old self.new
+            (λ e K. feed_statement e K (word head.name (class_of class) head.place)) }
     {
         match class {
             Class::Command(inputs) => {
@@ -180,10 +168,8 @@ impl<'a> Reader<'a> {
 
     /// A token behind `let`, which is a new name.
     pub fn feed_naming(&mut self, head: Head, mark: Mark) -> Result<(), Refusal>
-        ensures {
-            Follows result self.old self.new
-                (λ e K. feed_naming head.name head.place e K (mark_of mark))
-        }
+        ensures { Follows result self.old self.new
+            (λ e K. feed_naming head.name head.place e K (mark_of mark)) }
     {
         match mark {
             Mark::Word(name, class) => self.begin_let(head, name, class),
@@ -193,10 +179,8 @@ impl<'a> Reader<'a> {
 
     // A word where a new name is wanted.
     fn begin_let(&mut self, head: Head, name: Head, class: Class) -> Result<(), Refusal>
-        ensures {
-            Follows result self.old self.new
-                (λ e K. feed_naming head.name head.place e K (word name.name (class_of class) name.place))
-        }
+        ensures { Follows result self.old self.new
+            (λ e K. feed_naming head.name head.place e K (word name.name (class_of class) name.place)) }
     {
         match class {
             Class::Unknown => {

@@ -10,13 +10,12 @@ ghost use Rattle.nl_reading.specs.inner.Reading.{mode_of, mode_names};
 ghost use Rattle.nl_parse.specs.inner.State.{stack_of, names_of, state_of};
 ghost use Rattle.nl_parse.specs.inner.Steps.{Follows};
 
-use nl_reading::frames::{Frame, Mode, TOP, takes_operator};
-use nl_grammar::{Last, Shape};
-use nl_reading::marks::{Class, Head, Inputs, Mark};
-use nl_tree::{Block, Need};
-use nl_reading::parts::{Grouped, Grown};
 use crate::reader::{Reader, Refusal, refuse};
-use nl_tree::Label;
+use nl_grammar::{Last, Shape};
+use nl_reading::frames::{Frame, Mode, TOP, takes_operator};
+use nl_reading::marks::{Class, Head, Inputs, Mark};
+use nl_reading::parts::{Grouped, Grown};
+use nl_tree::{Block, Label, Need};
 use std::mem;
 
 impl<'a> Reader<'a> {
@@ -43,10 +42,8 @@ impl<'a> Reader<'a> {
 
     // A token in this mode, where no chain is at hand.
     fn feed_ready(&mut self, mode: Mode, mark: Mark) -> Result<(), Refusal>
-        ensures {
-            Follows result self.old self.new
-                (λ e K. feed_ready (st (mode_of mode) (mode_names mode e) K) (mark_of mark))
-        }
+        ensures { Follows result self.old self.new
+            (λ e K. feed_ready (st (mode_of mode) (mode_names mode e) K) (mark_of mark)) }
     {
         match mode {
             Mode::Optional => self.feed_optional(mark),
@@ -76,10 +73,8 @@ impl<'a> Reader<'a> {
         last: Last,
         mark: Mark,
     ) -> Result<(), Refusal>
-        ensures {
-            Follows result self.old self.new
-                (λ e K. feed_optional e (InCall head.name head.place inputs need (needs_of rest) last ∷ K) (mark_of mark))
-        }
+        ensures { Follows result self.old self.new
+            (λ e K. feed_optional e (InCall head.name head.place inputs need (needs_of rest) last ∷ K) (mark_of mark)) }
     {
         match mark {
             Mark::OpenBracket(place) => {
@@ -100,10 +95,8 @@ impl<'a> Reader<'a> {
         last: Last,
         mark: Mark,
     ) -> Result<(), Refusal>
-        ensures {
-            Follows result self.old self.new
-                (λ e K. feed_plain (next head.name head.place inputs (without_maybes (needs_of rest)) last e K) (mark_of mark))
-        }
+        ensures { Follows result self.old self.new
+            (λ e K. feed_plain (next head.name head.place inputs (without_maybes (needs_of rest)) last e K) (mark_of mark)) }
     {
         self.next(head, inputs, rest.without_maybes(), last)?;
         let mode = self.take_mode();
@@ -112,10 +105,8 @@ impl<'a> Reader<'a> {
 
     // A token in this mode, where no chain is at hand and no block may be missing.
     fn feed_plain(&mut self, mode: Mode, mark: Mark) -> Result<(), Refusal>
-        ensures {
-            Follows result self.old self.new
-                (λ e K. feed_plain (st (mode_of mode) (mode_names mode e) K) (mark_of mark))
-        }
+        ensures { Follows result self.old self.new
+            (λ e K. feed_plain (st (mode_of mode) (mode_names mode e) K) (mark_of mark)) }
     {
         match mode {
             Mode::Begin => self.feed_begin(mark),
@@ -133,10 +124,8 @@ impl<'a> Reader<'a> {
 
     // A token where a chain is at hand.
     fn feed_have(&mut self, shape: Shape, tree: Grown, mark: Mark) -> Result<(), Refusal>
-        ensures {
-            Follows result self.old self.new
-                (λ e K. feed_have shape tree e K (mark_of mark))
-        }
+        ensures { Follows result self.old self.new
+            (λ e K. feed_have shape tree e K (mark_of mark)) }
     {
         match mark {
             Mark::Word(head, class) => self.have_word(shape, tree, head, class),
@@ -152,10 +141,8 @@ impl<'a> Reader<'a> {
         head: Head,
         class: Class,
     ) -> Result<(), Refusal>
-        ensures {
-            Follows result self.old self.new
-                (λ e K. feed_have shape tree e K (word head.name (class_of class) head.place))
-        }
+        ensures { Follows result self.old self.new
+            (λ e K. feed_have shape tree e K (word head.name (class_of class) head.place)) }
     {
         match class {
             Class::With => {
@@ -175,10 +162,8 @@ impl<'a> Reader<'a> {
 
     // A token that ends the chain at hand, and all that is open with it.
     fn feed_broken(&mut self, shape: Shape, tree: Grown, mark: Mark) -> Result<(), Refusal>
-        ensures {
-            Follows result self.old self.new
-                (λ e K. feed_broken e (settle top shape tree K) (mark_of mark))
-        }
+        ensures { Follows result self.old self.new
+            (λ e K. feed_broken e (settle top shape tree K) (mark_of mark)) }
     {
         let (shape, tree) = self.settle(TOP, shape, tree)?;
         self.accept(shape, tree)?;
@@ -194,10 +179,8 @@ impl<'a> Reader<'a> {
         shape: Shape,
         tree: Grown,
     ) -> Result<(), Refusal>
-        ensures {
-            Follows result self.old self.new
-                (λ e K. feed_binary (nat_lt level top) level head.name head.place e (settle (suc level) shape tree K))
-        }
+        ensures { Follows result self.old self.new
+            (λ e K. feed_binary (nat_lt level top) level head.name head.place e (settle (suc level) shape tree K)) }
     {
         if level >= TOP {
             return Err(Refusal::Unexpected);

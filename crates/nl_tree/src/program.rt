@@ -45,7 +45,10 @@ impl Model for Program {
 
     ghost view = { λ p. record { declared = p.declared; bodies = p.bodies; kinds = p.kinds } };
 
-    ghost invariant = { λ p. IsProgram (record { declared = p.declared; bodies = p.bodies; kinds = p.kinds }) × AreRows p.declared p.rows.items × IsSortedBy comes_before p.rows.items × (p.globals ≡ length (global_names p.declared)) };
+    ghost invariant = { λ p. IsProgram (record { declared = p.declared; bodies = p.bodies; kinds = p.kinds })
+        × AreRows p.declared p.rows.items
+        × IsSortedBy comes_before p.rows.items
+        × (p.globals ≡ length (global_names p.declared)) };
 }
 
 impl Program {
@@ -91,7 +94,8 @@ impl Program {
         ensures value { option_map plain (option_copied result) ≡ slice_get self.now.bodies procedure }
         ensures checked { IsProgram self.now }
         ensures within { IsSome result ↔ (procedure < length self.now.declared.procedures) }
-        ensures slots { (p : Procedure) → slice_get self.now.declared.procedures procedure ≡ Some p → IfSome result (λ body. NamesHaveSlots self.now.declared p.inputs (plain body.now)) }
+        ensures slots { (p : Procedure) → slice_get self.now.declared.procedures procedure ≡ Some p
+            → IfSome result (λ body. NamesHaveSlots self.now.declared p.inputs (plain body.now)) }
     {
         self.bodies.get(procedure)
     }
@@ -160,7 +164,9 @@ fn count_globals(rows: &[NamedWhat]) -> usize
 // The row of this name among rows in the order of their names.
 pub(crate) fn find_row<'a>(rows: &'a [NamedWhat], name: &[u8]) -> Option<&'a NamedWhat>
     requires { IsSortedBy comes_before rows.now }
-    ensures { MatchOption result (All (λ row. bytes_eq row.name name.now ≡ false) rows.now) (λ row. (row.now.name ≡ name.now) × Contains rows.now row.now) }
+    ensures { MatchOption result
+        (All (λ row. bytes_eq row.name name.now ≡ false) rows.now)
+        (λ row. (row.now.name ≡ name.now) × Contains rows.now row.now) }
 {
     match rows.binary_search_by(|row| row.name.as_bytes().cmp(name)) {
         Ok(at) => Some(&rows[at]),

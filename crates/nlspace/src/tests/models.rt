@@ -1,6 +1,8 @@
 //! The first faults of models: their order, names, and chains of calls.
 
-use crate::tests::calls::{FAULTLESS, assert_fault, assert_faultless, assert_faults, assert_marked};
+use crate::tests::calls::{
+    FAULTLESS, assert_fault, assert_faultless, assert_faults, assert_marked,
+};
 use std::alloc::Global;
 use std::process::Abort;
 use std::test::Fail;

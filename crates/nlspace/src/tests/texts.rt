@@ -22,7 +22,11 @@ pub(crate) fn declared_by(alloc: Global, model: &[u8]) -> Option<Declared>
     let Ok(tokens) = scan(alloc, model) else {
         return None;
     };
-    match declare(alloc, &Source::new(model, tokens.as_slice()), Names::empty(alloc)) {
+    match declare(
+        alloc,
+        &Source::new(model, tokens.as_slice()),
+        Names::empty(alloc),
+    ) {
         Ok(declared) => Some(declared),
         Err(_) => None,
     }

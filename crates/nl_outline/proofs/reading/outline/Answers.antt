@@ -18,7 +18,7 @@ pub feed-requires-clause-ready : goal.feed-requires-clause-ready
 feed-requires-clause-ready c = record {
   kept = c.loop-index.invariant.kept;
   inside = subst (λ t. LiesIn c.args.text.now t.span) (sym c.index-tokens-index.is)
-    (lies_in c.args.text.now c.args.tokens.now c.loop-index.index c.index-tokens-index.result c.requires c.loop-index-test.true);
+      (lies_in c.args.text.now c.args.tokens.now c.loop-index.index c.index-tokens-index.result c.requires c.loop-index-test.true);
 }
 
 -- src/reading.rt:361:21
