@@ -16,7 +16,8 @@ use Rattle.nl_grammar.specs.Machine.{State, st, Frame, Over, Step, go, stop, fee
 use Rattle.nl_grammar.specs.Depth.{least_depth}
 use Rattle.nl_grammar.specs.Fault.{reading_to}
 use Rattle.nl_grammar.specs.Completion.{HasWords}
-use Rattle.nl_parse.specs.Outcome.{first_span, Stops, StopsAt, StopsIn, Refuses}
+use Rattle.nl_parse.specs.Outcome.{Refuses}
+use Rattle.nl_parse.specs.inner.Stops.{first_span, Stops, StopsAt, StopsIn}
 use Rattle.nl_tree.specs.declared.faults.BodyKind.{BodyKind}
 use Rattle.nl_parse.specs.declared.body.BodyRefusal.{BodyRefusal}
 use Rattle.nl_grammar.proofs.Taken.{taken_text}

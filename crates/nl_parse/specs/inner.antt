@@ -2,3 +2,4 @@ pub mod Around
 pub mod Asked
 pub mod State
 pub mod Steps
+pub mod Stops

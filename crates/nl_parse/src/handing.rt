@@ -4,6 +4,7 @@ ghost use Rattle.nl_grammar.specs.Machine.{end_statement, next, closed, supply, 
 ghost use Rattle.nl_reading.specs.inner.View.{needs_of};
 ghost use Rattle.nl_reading.specs.inner.Reading.{maybe_over};
 ghost use Rattle.nl_parse.specs.inner.State.{stack_of, names_of, state_of};
+ghost use Rattle.nl_parse.specs.inner.Asked.{ends_newest};
 ghost use Rattle.nl_parse.specs.inner.Steps.{Reaches};
 
 use crate::reader::Reader;
@@ -210,25 +211,35 @@ impl<'a> Reader<'a> {
     }
 
     /// Ends all that an operator of this level ends.
-    #[tactic(auto, using(nl_reading::proofs::Framed::closed_makes_none))]
+    #[tactic(auto, using(nl_reading::proofs::Framed::closed_makes_none, crate::proofs::Stacked::nothing_ends))]
     pub fn settle(
         &mut self,
         level: u8,
         shape: Shape,
         tree: Grown,
     ) -> Result<(Shape, Grown), NoMemory>
-        ensures settled { IfOk result (λ held. settle level shape tree (stack_of self.old) ≡ got held.0 held.1 (stack_of self.new)) }
+        ensures settled { IfOk result (λ held.
+            settle level shape tree (stack_of self.old) ≡ got held.0 held.1 (stack_of self.new)) }
         ensures names { OnOk result (names_of self.new ≡ names_of self.old) }
     {
         let mut held = (shape, tree);
-        'frames: while let Some(frame) = self.take() {
-            if !closes(level, &frame) {
-                self.put(frame)?;
-                break 'frames;
+        'frames: while self.ends_newest(level) {
+            match self.take() {
+                Some(frame) => held = build(self.alloc, frame, held.1)?,
+                None => unreachable!(),
             }
-            held = build(self.alloc, frame, held.1)?;
         }
         Ok(held)
+    }
+
+    // Whether an operator of this level ends the newest frame.
+    fn ends_newest(&self, level: u8) -> bool
+        ensures { result ≡ ends_newest level (stack_of self.now) }
+    {
+        match self.newest() {
+            Some(frame) => closes(level, frame),
+            None => false,
+        }
     }
 
     /// Hands a literal list to what waits for it.

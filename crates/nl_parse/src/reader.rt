@@ -58,7 +58,8 @@ impl<'a> Reader<'a> {
     /// Puts a frame on the stack.
     #[tactic(auto, using(nl_reading::proofs::Framed::frames_push, nl_reading::proofs::Framed::names_push))]
     pub fn put(&mut self, frame: Frame) -> Result<(), NoMemory>
-        ensures stack { OnOk result (stack_of self.new ≡ frame_of (names_of self.old) frame ∷ stack_of self.old) }
+        ensures stack { OnOk result
+            (stack_of self.new ≡ frame_of (names_of self.old) frame ∷ stack_of self.old) }
         ensures names { OnOk result (names_of self.new ≡ names_with frame (names_of self.old)) }
     {
         self.stack.push(frame)?;
@@ -68,7 +69,8 @@ impl<'a> Reader<'a> {
     /// Puts a frame on the stack, inside of which this may come next.
     pub fn enter(&mut self, mode: Mode, frame: Frame) -> Result<(), NoMemory>
         ensures { Reaches result self.old self.new
-            (λ e K. st (mode_of mode) (mode_names mode (names_with frame e)) (frame_of e frame ∷ K)) }
+            (λ e K.
+            st (mode_of mode) (mode_names mode (names_with frame e)) (frame_of e frame ∷ K)) }
     {
         self.put(frame)?;
         self.mode = mode;
@@ -77,7 +79,8 @@ impl<'a> Reader<'a> {
 
     /// Says what may come next.
     pub fn turn(&mut self, mode: Mode)
-        ensures { state_of self.new ≡ st (mode_of mode) (mode_names mode (names_of self.old)) (stack_of self.old) }
+        ensures { state_of self.new
+            ≡ st (mode_of mode) (mode_names mode (names_of self.old)) (stack_of self.old) }
     {
         self.mode = mode;
     }
@@ -85,7 +88,8 @@ impl<'a> Reader<'a> {
     /// Takes the newest frame.
     #[tactic(auto, using(nl_reading::proofs::Framed::frames_push, nl_reading::proofs::Framed::names_push))]
     pub fn take(&mut self) -> Option<Frame>
-        ensures stack { IfSome result (λ frame. stack_of self.old ≡ frame_of (names_of self.new) frame ∷ stack_of self.new) }
+        ensures stack { IfSome result (λ frame.
+            stack_of self.old ≡ frame_of (names_of self.new) frame ∷ stack_of self.new) }
         ensures names { IfSome result (λ frame. names_of self.old ≡ names_with frame (names_of self.new)) }
         ensures none { IfNone result (stack_of self.old ≡ []) }
         ensures still_none { IfNone result (stack_of self.new ≡ []) }
@@ -97,7 +101,9 @@ impl<'a> Reader<'a> {
 
     /// The newest frame, which stays where it is.
     pub fn newest(&self) -> Option<&Frame>
-        ensures stack { IfSome result (λ frame. stack_of self.now ≡ frame_of (outer_names_of self.now) frame.now ∷ outer_stack_of self.now) }
+        ensures stack { IfSome result (λ frame.
+            stack_of self.now
+            ≡ frame_of (outer_names_of self.now) frame.now ∷ outer_stack_of self.now) }
         ensures none { IfNone result (stack_of self.now ≡ []) }
     {
         match self.stack.as_slice() {

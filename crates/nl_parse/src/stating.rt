@@ -10,6 +10,7 @@ ghost use Rattle.nl_parse.specs.declared.reader.Refusal.TheVariants.{Unexpected}
 ghost use Rattle.nl_reading.specs.inner.View.{class_of, mark_of};
 ghost use Rattle.nl_tree.specs.Tokens.{word};
 ghost use Rattle.nl_parse.specs.inner.State.{stack_of, names_of, state_of};
+ghost use Rattle.nl_parse.specs.inner.Asked.{is_stating};
 ghost use Rattle.nl_parse.specs.inner.Steps.{Follows, Reaches};
 
 use crate::reader::{Reader, Refusal, refuse};
@@ -90,22 +91,32 @@ impl<'a> Reader<'a> {
     }
 
     /// A token where a statement begins, or what ends statements.
+    #[tactic(auto, using(crate::proofs::Stacked::not_stating, crate::proofs::Stacked::a_statement, crate::proofs::Stacked::no_statement))]
     pub fn feed_stating(&mut self, mark: Mark) -> Result<(), Refusal>
         ensures { Follows result self.old self.new (λ e K. feed_stating e K (mark_of mark)) }
     {
+        if !self.is_stating() {
+            return refuse(mark);
+        }
+        if begins_statement(&mark) {
+            return self.feed_statement(mark);
+        }
         match self.take() {
-            Some(Frame::Statements(bracket, ending, names, statements)) => {
-                if !begins_statement(&mark) {
-                    return self.feed_ending(ending, bracket, statements, mark);
-                }
-                self.put(Frame::Statements(bracket, ending, names, statements))?;
-                self.feed_statement(mark)
-            }
-            Some(Frame::StatementParen(bracket)) => {
-                self.put(Frame::StatementParen(bracket))?;
-                self.feed_statement(mark)
+            Some(Frame::Statements(bracket, ending, _names, statements)) => {
+                self.feed_ending(ending, bracket, statements, mark)
             }
             other => refuse(other),
+        }
+    }
+
+    // Whether a statement may stand here.
+    fn is_stating(&self) -> bool
+        ensures { result ≡ is_stating (stack_of self.now) }
+    {
+        match self.newest() {
+            Some(Frame::Statements(_, _, _, _)) => true,
+            Some(Frame::StatementParen(_)) => true,
+            _ => false,
         }
     }
 
@@ -180,7 +191,9 @@ impl<'a> Reader<'a> {
     // A word where a new name is wanted.
     fn begin_let(&mut self, head: Head, name: Head, class: Class) -> Result<(), Refusal>
         ensures { Follows result self.old self.new
-            (λ e K. feed_naming head.name head.place e K (word name.name (class_of class) name.place)) }
+            (λ e K.
+            feed_naming head.name head.place e K
+            (word name.name (class_of class) name.place)) }
     {
         match class {
             Class::Unknown => {

@@ -32,7 +32,8 @@ impl<'a> Reader<'a> {
 
     /// Takes out what may come next.
     pub fn take_mode(&mut self) -> Mode
-        ensures state { state_of self.old ≡ st (mode_of result) (mode_names result (names_of self.new)) (stack_of self.new) }
+        ensures state { state_of self.old
+            ≡ st (mode_of result) (mode_names result (names_of self.new)) (stack_of self.new) }
         ensures mode { result ≡ self.old.mode }
         ensures names { names_of self.new ≡ names_of self.old }
         ensures stack { stack_of self.new ≡ stack_of self.old }
@@ -74,7 +75,10 @@ impl<'a> Reader<'a> {
         mark: Mark,
     ) -> Result<(), Refusal>
         ensures { Follows result self.old self.new
-            (λ e K. feed_optional e (InCall head.name head.place inputs need (needs_of rest) last ∷ K) (mark_of mark)) }
+            (λ e K.
+            feed_optional e
+            (InCall head.name head.place inputs need (needs_of rest) last ∷ K)
+            (mark_of mark)) }
     {
         match mark {
             Mark::OpenBracket(place) => {
@@ -96,7 +100,10 @@ impl<'a> Reader<'a> {
         mark: Mark,
     ) -> Result<(), Refusal>
         ensures { Follows result self.old self.new
-            (λ e K. feed_plain (next head.name head.place inputs (without_maybes (needs_of rest)) last e K) (mark_of mark)) }
+            (λ e K.
+            feed_plain
+            (next head.name head.place inputs (without_maybes (needs_of rest)) last e K)
+            (mark_of mark)) }
     {
         self.next(head, inputs, rest.without_maybes(), last)?;
         let mode = self.take_mode();
@@ -180,7 +187,9 @@ impl<'a> Reader<'a> {
         tree: Grown,
     ) -> Result<(), Refusal>
         ensures { Follows result self.old self.new
-            (λ e K. feed_binary (nat_lt level top) level head.name head.place e (settle (suc level) shape tree K)) }
+            (λ e K.
+            feed_binary (nat_lt level top) level head.name head.place e
+            (settle (suc level) shape tree K)) }
     {
         if level >= TOP {
             return Err(Refusal::Unexpected);
