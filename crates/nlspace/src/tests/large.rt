@@ -78,9 +78,43 @@ fn many_procedures_are_read(rt: HostRuntime) -> Result<(), Fail> {
 #[test]
 fn a_long_body_is_read(rt: HostRuntime) -> Result<(), Fail> {
     let alloc = rt.alloc();
-    let statements = "fd 1\n".repeat(alloc, 20_000)?;
+    let statements = "fd 1\n".repeat(alloc, 50_000)?;
     let good = format!(in alloc; "to walk\n{statements}end")?;
     assert_faultless(&rt, alloc, good.as_str(), "1:4")?;
     let faulty = format!(in alloc; "to walk\n{statements}tick end")?;
-    assert_fault(&rt, alloc, faulty.as_str(), "20002:1: WrongContext")
+    assert_fault(&rt, alloc, faulty.as_str(), "50002:1: WrongContext")
+}
+
+// A procedure of so many inputs, which makes as many names more, and uses the first and the last of both.
+fn many_names(alloc: Global, count: u64) -> Result<String, Fail> {
+    let mut inputs = String::new(alloc);
+    let mut lets = String::new(alloc);
+    for number in 0..count {
+        let input = format!(in alloc; "i{number} ")?;
+        inputs.push_str(input.as_str())?;
+        let statement = format!(in alloc; "let n{number} i{number}\n")?;
+        lets.push_str(statement.as_str())?;
+    }
+    let last = count - 1;
+    Ok(format!(in alloc; "to a [ {inputs}]\n{lets}show i0 + i{last} + n0 + n{last} end")?)
+}
+
+#[test]
+fn many_names_are_known(rt: HostRuntime) -> Result<(), Fail> {
+    let alloc = rt.alloc();
+    let model = many_names(alloc, 70)?;
+    assert_faultless(&rt, alloc, model.as_str(), "1:4")?;
+    let faulty = format!(in alloc; "{model}\nto b show n0 end")?;
+    assert_fault(&rt, alloc, faulty.as_str(), "73:11: UnknownName")
+}
+
+#[test]
+fn long_lists_and_texts_are_read(rt: HostRuntime) -> Result<(), Fail> {
+    let alloc = rt.alloc();
+    let numbers = "1 ".repeat(alloc, 300)?;
+    let letters = long_name(alloc)?;
+    let good = format!(in alloc; "to a show [ {numbers}]\nshow \"{letters}\" end")?;
+    assert_faultless(&rt, alloc, good.as_str(), "1:4")?;
+    let faulty = format!(in alloc; "to a show [ {numbers}]\nshow \"{letters}\"\nfoo end")?;
+    assert_fault(&rt, alloc, faulty.as_str(), "3:1: UnknownName")
 }
