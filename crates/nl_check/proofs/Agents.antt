@@ -8,7 +8,7 @@ use Rattle.nl_tree.specs.Tokens.{repeated}
 use Rattle.nl_tree.specs.Context.{last_value, given, givens}
 use Rattle.nl_tree.specs.Tree.{Node, nodes}
 use Rattle.nl_tree.specs.Term.{Term}
-use Rattle.nl_check.specs.Given.{given_by, is_value}
+use Rattle.nl_check.specs.inner.Given.{given_by, is_value}
 
 pub in_row : (is : List Input) (n at : ℕ) (x : Input) → at < length is → slice_get is at ≡ Some x → slice_get (is ++ repeated n) at ≡ Some x
 in_row [] n at x within here = absurd (omega (arith, within))

@@ -1,8 +1,8 @@
 -- The kinds that are left around a block, and procedures that nobody calls.
 use Rattle.std.proofs.Common.{◌≡◌, ℕ, zero, suc, ◌+◌, List, [], ◌∷◌, ◌++◌, refl, ap, ◌∙◌, length, arith, add-one}
 use Rattle.nl_words.specs.declared.entry.Kinds.{Kinds}
-use Rattle.nl_check.specs.Faults.{last_or, front_of, front}
-use Rattle.nl_check.specs.Calls.{nobody}
+use Rattle.nl_check.specs.inner.Faults.{last_or, front_of, front}
+use Rattle.nl_check.specs.inner.Calls.{nobody}
 
 pub last_push : (d : Kinds) (ks : List Kinds) (k : Kinds) → last_or d (ks ++ k ∷ []) ≡ k
 last_push d [] k = refl

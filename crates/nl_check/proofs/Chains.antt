@@ -8,8 +8,8 @@ use Rattle.std.proofs.lemmas.Bool.{cases_eq, cases_lt, ltb-true, ltb-false}
 use Rattle.nl_words.specs.declared.entry.Kinds.{Kinds}
 use Rattle.nl_words.specs.Kinds.{everyone}
 use Rattle.nl_tree.specs.Context.{Kind, allows}
-use Rattle.nl_check.specs.Kinds.{meet, count}
-use Rattle.nl_check.specs.Reach.{kinds_at, places_at, Barred, by_own, by_callee, ArePlaces, AreSettled, passed_kinds, passed_work, Under, Settling, left_to_do}
+use Rattle.nl_check.specs.inner.Kinds.{meet, count}
+use Rattle.nl_check.specs.inner.Reach.{kinds_at, places_at, Barred, by_own, by_callee, ArePlaces, AreSettled, passed_kinds, passed_work, Under, Settling, left_to_do}
 use Rattle.nl_check.proofs.Meets.{meet_left, meet_right, meet_lacks, true_or_not, not_both, count_meet, none_lost}
 
 set_here : (ks : List Kinds) (i j : ℕ) (k : Kinds) → i < length ks → j ≡ i → kinds_at (set ks i k) j ≡ k

@@ -8,21 +8,22 @@ use Rattle.nl_fixed.specs.declared.span.Span.{Span}
 use Rattle.nl_words.specs.declared.entry.Kinds.{Kinds}
 use Rattle.nl_words.specs.Kinds.{everyone, observers}
 use Rattle.nl_tree.specs.declared.declared.Declared.{Declared}
+use Rattle.nl_tree.specs.declared.faults.CheckKind.{CheckKind}
 use Rattle.nl_tree.specs.declared.declared.Procedure.{Procedure}
 use Rattle.nl_tree.specs.Tree.{Node}
 use Rattle.nl_tree.specs.Vocabulary.{terms}
-use Rattle.nl_tree.specs.Context.{ContextFault, IsRightText, pieces}
+use Rattle.nl_tree.specs.Context.{IsRightText, pieces}
 use Rattle.nl_tree.specs.Checked.{IsModelFault, IsLoneFault, KindsAreLeft}
 use Rattle.nl_check.specs.declared.refusal.CheckRefusal.TheVariants as refusal
 use Rattle.nl_check.specs.declared.faults.Wrong.{Wrong}
-use Rattle.nl_check.specs.Calls.{own_of, calls_from, reversed, nobody}
-use Rattle.nl_check.specs.Faults.{fault_of, first_wrong}
+use Rattle.nl_check.specs.inner.Calls.{own_of, calls_from, reversed, nobody}
+use Rattle.nl_check.specs.inner.Faults.{first_wrong}
 use Rattle.nl_check.specs.Laws.{BodiesAreRightOrFaulty, TextsAreRightOrFaulty}
-use Rattle.nl_check.specs.Reach.{kinds_at, places_at, ArePlaces, AreSettled, passed_kinds, passed_work, Settling, left_to_do}
-use Rattle.nl_check.specs.Steps.{steps_of}
+use Rattle.nl_check.specs.inner.Reach.{kinds_at, places_at, ArePlaces, AreSettled, passed_kinds, passed_work, Settling, left_to_do}
+use Rattle.nl_check.specs.inner.Steps.{steps_of}
 use Rattle.nl_check.proofs.Chains.{stepped, begun, settled, all_reached, passed_weighs, within_all}
 use Rattle.nl_check.proofs.Graph.{own_length, callers_many, callers_placed, left_there}
-use Rattle.nl_check.proofs.Judged.{callee_there, body_right, body_refused, text_right, text_refused, RightBelow, right_more, all_right, first_refused}
+use Rattle.nl_check.proofs.Judged.{callee_there, body_judged, text_right, text_refused, RightBelow, right_more, all_right, first_refused}
 
 -- ---- the work is done in so many rounds
 
@@ -91,14 +92,14 @@ module _ (d : Declared) (bodies : List Node) (many : length bodies ≡ length d.
 
 module _ (d : Declared) (bodies : List Node) (called : List Kinds) (many : length called ≡ length bodies) (left : KindsAreLeft d bodies called) where
   abbrev Faulty : Type 0
-  Faulty = (i : ℕ) × (x : ContextFault) × (p : Span) × IsModelFault d bodies i x p
+  Faulty = (i : ℕ) × (x : CheckKind) × (p : Span) × IsModelFault d bodies i x p
 
   judged : (n : ℕ) (p : Procedure) (t : Node) → RightBelow d bodies n → slice_get d.procedures n ≡ Some p → slice_get bodies n ≡ Some t
       → (found : Option Wrong) → found ≡ first_wrong called p.reporter [] everyone (steps_of (terms d) false (pieces (terms d) t)) → RightBelow d bodies (n + 1) ⊎ Faulty
-  judged n p t before is_p is_t None is = inl (right_more d bodies n before (body_right d bodies called many left n p t is_p is_t None is))
+  judged n p t before is_p is_t None is = inl (right_more d bodies n before (body_judged d bodies called many left n p t is_p is_t None is))
   judged n p t before is_p is_t (Some w) is =
-      let (i, (number, fault)) = first_refused d bodies n (refusal.Fault w.kind (n + 1) w.span) before (body_refused d bodies called many left n p t is_p is_t (Some w) is) in
-      inr (i, fault_of w.kind, w.span, fault)
+      let (i, (number, fault)) = first_refused d bodies n (refusal.Fault w.kind (n + 1) w.span) before (body_judged d bodies called many left n p t is_p is_t (Some w) is) in
+      inr (i, w.kind, w.span, fault)
 
   one_more : (n : ℕ) → RightBelow d bodies n → (p : Option Procedure) (t : Option Node) → slice_get d.procedures n ≡ p → slice_get bodies n ≡ t → RightBelow d bodies (n + 1) ⊎ Faulty
   one_more n before None t is_p is_t = inl (right_more d bodies n before (λ q u has_q has_u. let bad : None ≡ Some q = sym is_p ∙ has_q in cc))
@@ -116,9 +117,9 @@ module _ (d : Declared) (bodies : List Node) (called : List Kinds) (many : lengt
   ]
 
   lone : (t : Node) (found : Option Wrong) → found ≡ first_wrong called false [] observers (steps_of (terms d) false (pieces (terms d) t))
-      → IsRightText (terms d) bodies t ⊎ ((x : ContextFault) × (p : Span) × IsLoneFault d bodies t x p)
+      → IsRightText (terms d) bodies t ⊎ ((x : CheckKind) × (p : Span) × IsLoneFault d bodies t x p)
   lone t None is = inl (text_right d bodies called many left t None is)
-  lone t (Some w) is = inr (fault_of w.kind, w.span, (text_refused d bodies called many left t (Some w) is).1)
+  lone t (Some w) is = inr (w.kind, w.span, (text_refused d bodies called many left t (Some w) is).1)
 
 pub bodies_are_right_or_faulty : BodiesAreRightOrFaulty
 bodies_are_right_or_faulty d bodies many =

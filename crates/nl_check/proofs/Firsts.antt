@@ -4,12 +4,14 @@ use Rattle.std.proofs.lemmas.Bool.{cases_lt}
 use Rattle.std.proofs.lemmas.List.Elements.{All-head, All-tail}
 use Rattle.nl_fixed.specs.declared.span.Span.{Span}
 use Rattle.nl_tree.specs.declared.declared.Declared.{Declared}
+use Rattle.nl_tree.specs.declared.faults.CheckKind.{CheckKind}
+use Rattle.nl_tree.specs.declared.faults.CheckKind.TheVariants.{WrongContext, NotSettable, NoReport}
 use Rattle.nl_tree.specs.declared.declared.Procedure.{Procedure}
 use Rattle.nl_tree.specs.Tree.{Node}
 use Rattle.nl_tree.specs.Term.{Term}
 use Rattle.nl_tree.specs.Vocabulary.{terms}
 use Rattle.nl_words.specs.Kinds.{everyone, observers}
-use Rattle.nl_tree.specs.Context.{Use, uses, ContextFault, WrongContext, NotSettable, NoReport, is_not_settable, IsFaultAt, IsRight, IsFirstFault}
+use Rattle.nl_tree.specs.Context.{Use, uses, is_not_settable, IsFaultAt, IsRight, IsFirstFault}
 use Rattle.nl_tree.specs.Checked.{IsModelFault}
 use Rattle.nl_check.specs.Laws.{FaultsAreUnique, RightBodiesHaveNoFault, LoneFaultsAreUnique, RightTextsHaveNoFault}
 
@@ -48,7 +50,7 @@ not_both false h k = cc
 
 module _ (table : List Term) (bodies : List Node) (reporter : Bool) where
   -- at most one fault holds at one word
-  pub one_fault_at : (u : Use) (x y : ContextFault) → IsFaultAt table bodies reporter u x → IsFaultAt table bodies reporter u y → x ≡ y
+  pub one_fault_at : (u : Use) (x y : CheckKind) → IsFaultAt table bodies reporter u x → IsFaultAt table bodies reporter u y → x ≡ y
   one_fault_at u WrongContext WrongContext h k = refl
   one_fault_at u WrongContext NotSettable h k = absurd (k.0 h)
   one_fault_at u WrongContext NoReport h k = absurd (k.0 h)
@@ -59,29 +61,29 @@ module _ (table : List Term) (bodies : List Node) (reporter : Bool) where
   one_fault_at u NoReport NotSettable h k = absurd (not_both (is_not_settable table u.manner u.name) k.1 h.1)
   one_fault_at u NoReport NoReport h k = refl
 
-  right_is_apart : (u : Use) (x : ContextFault) → IsRight table bodies reporter u → IsFaultAt table bodies reporter u x → ⊥
+  right_is_apart : (u : Use) (x : CheckKind) → IsRight table bodies reporter u → IsFaultAt table bodies reporter u x → ⊥
   right_is_apart u x right at = right x at
 
   -- the uses of a text have one first fault at most
-  pub first_faults_are_unique : (us : List Use) (x y : ContextFault) (p q : Span) → IsFirstFault table bodies reporter us x p → IsFirstFault table bodies reporter us y q → (x ≡ y) × (p ≡ q)
+  pub first_faults_are_unique : (us : List Use) (x y : CheckKind) (p q : Span) → IsFirstFault table bodies reporter us x p → IsFirstFault table bodies reporter us y q → (x ≡ y) × (p ≡ q)
   first_faults_are_unique us x y p q (front, u, rest, (is, right, at, there)) (ahead, v, later, (js, all, here, where_it)) =
       let (_, one) = firsts_are_unique (IsRight table bodies reporter) (IsFaultAt table bodies reporter) right_is_apart front ahead u v rest later x y (sym is ∙ js) right all at here in
       (one_fault_at v x y (subst (λ (w : Use). IsFaultAt table bodies reporter w x) one at) here, sym there ∙ ap (λ (w : Use). w.span) one ∙ where_it)
 
   -- uses that are all right have none
-  pub right_uses_have_none : (us : List Use) (x : ContextFault) (p : Span) → All (IsRight table bodies reporter) us → IsFirstFault table bodies reporter us x p → ⊥
+  pub right_uses_have_none : (us : List Use) (x : CheckKind) (p : Span) → All (IsRight table bodies reporter) us → IsFirstFault table bodies reporter us x p → ⊥
   right_uses_have_none us x p right (front, u, rest, (is, _, at, _)) =
       right_has_none (IsRight table bodies reporter) (IsFaultAt table bodies reporter) right_is_apart us front u rest x is right at
 
 -- ---- the bodies of a model
 
 -- a body with a fault stands before no first fault
-none_earlier : (d : Declared) (bodies : List Node) (i j : ℕ) (x y : ContextFault) (p q : Span) → IsModelFault d bodies i x p → IsModelFault d bodies j y q → i < j → ⊥
+none_earlier : (d : Declared) (bodies : List Node) (i j : ℕ) (x y : CheckKind) (p q : Span) → IsModelFault d bodies i x p → IsModelFault d bodies j y q → i < j → ⊥
 none_earlier d bodies i j x y p q (a, t, (is_a, is_t, first, _)) (_, _, (_, _, _, before)) earlier =
     right_uses_have_none (terms d) bodies a.reporter (uses (terms d) everyone t) x p (before i a t earlier is_a is_t) first
 
 -- two first faults of one body are one
-one_in_body : (d : Declared) (bodies : List Node) (i : ℕ) (x y : ContextFault) (p q : Span) → IsModelFault d bodies i x p → IsModelFault d bodies i y q → (x ≡ y) × (p ≡ q)
+one_in_body : (d : Declared) (bodies : List Node) (i : ℕ) (x y : CheckKind) (p q : Span) → IsModelFault d bodies i x p → IsModelFault d bodies i y q → (x ≡ y) × (p ≡ q)
 one_in_body d bodies i x y p q (a, t, (is_a, is_t, first, _)) (b, u, (is_b, is_u, other, _)) =
     let procedures : Some a ≡ Some b = sym is_a ∙ is_b in
     let trees : Some t ≡ Some u = sym is_t ∙ is_u in

@@ -14,10 +14,10 @@ use Rattle.nl_tree.specs.Term.{Term}
 use Rattle.nl_tree.specs.Vocabulary.{term_named}
 use Rattle.nl_tree.specs.Context.{Kind, allows, words_at, site_words, Leads, at_word, by_call, AreLeft}
 use Rattle.nl_check.specs.declared.calls.Call.{Call}
-use Rattle.nl_check.specs.Calls.{call_to, calls_in, body_steps, own_of, calls_from, with_caller, reversed, nobody}
-use Rattle.nl_check.specs.Steps.{calls_of}
-use Rattle.nl_check.specs.Reach.{kinds_at, places_at, Barred, by_own, by_callee, ArePlaces, AreSettled}
-use Rattle.nl_check.specs.Faults.{called_kinds, or_everyone}
+use Rattle.nl_check.specs.inner.Calls.{call_to, calls_in, body_steps, own_of, calls_from, with_caller, reversed, nobody}
+use Rattle.nl_check.specs.inner.Steps.{calls_of}
+use Rattle.nl_check.specs.inner.Reach.{kinds_at, places_at, Barred, by_own, by_callee, ArePlaces, AreSettled}
+use Rattle.nl_check.specs.inner.Faults.{called_kinds, or_everyone}
 use Rattle.nl_check.proofs.Around.{nobody_length}
 use Rattle.nl_check.proofs.Meets.{true_or_not, everyone_allowed}
 use Rattle.nl_check.proofs.Sites.{CallsTo, runs_words, calls_words, body_runs, body_calls, denies, denied, calls_to, call_there}

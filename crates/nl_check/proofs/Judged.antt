@@ -19,9 +19,10 @@ use Rattle.nl_tree.proofs.Range.{named_in_range}
 use Rattle.nl_check.specs.declared.refusal.CheckRefusal.{CheckRefusal}
 use Rattle.nl_check.specs.declared.refusal.CheckRefusal.TheVariants as refusal
 use Rattle.nl_check.specs.declared.faults.Wrong.{Wrong}
-use Rattle.nl_check.specs.Steps.{steps_of}
-use Rattle.nl_check.specs.Faults.{first_wrong}
-use Rattle.nl_check.specs.Answers.{IsModelRefusal, IsTextRefusal, IsBodyFault, answered}
+use Rattle.nl_check.specs.inner.Steps.{steps_of}
+use Rattle.nl_check.specs.inner.Faults.{first_wrong}
+use Rattle.nl_check.specs.Answers.{IsModelRefusal, IsTextRefusal}
+use Rattle.nl_check.specs.inner.Judged.{IsRightAt, IsBodyFault, IsJudged, answered}
 use Rattle.nl_check.proofs.Graph.{called_left}
 use Rattle.nl_check.proofs.Verdicts.{none_found, some_found}
 
@@ -33,22 +34,22 @@ pub if_ok : {A : Type 0} {P Q : A → Type 0} (r : Result A NoMemory) → ((a : 
 if_ok (Ok a) f h = f a h
 if_ok (Err e) f h = tt
 
+-- what holds anyway holds of an answer that accepts
+pub told_ok : {P : Type 0} (r : Result (Unit {0}) CheckRefusal) → P → OnOk r P
+told_ok (Ok x) h = h
+told_ok (Err e) h = tt
+
 module _ (d : Declared) (bodies : List Node) (called : List Kinds) (many : length called ≡ length bodies) (left : KindsAreLeft d bodies called) where
   -- a body
   module _ (i : ℕ) (p : Procedure) (t : Node) (is_p : slice_get d.procedures i ≡ Some p) (is_t : slice_get bodies i ≡ Some t) where
-    pub body_right : (found : Option Wrong) → found ≡ first_wrong called p.reporter [] everyone (steps_of (terms d) false (pieces (terms d) t))
-        → OnOk (answered (i + 1) found) ((q : Procedure) (u : Node) → slice_get d.procedures i ≡ Some q → slice_get bodies i ≡ Some u → IsRightBody (terms d) bodies q.reporter u)
-    body_right (Some w) is = tt
-    body_right None is = λ q u is_q is_u.
+    pub body_judged : (found : Option Wrong) → found ≡ first_wrong called p.reporter [] everyone (steps_of (terms d) false (pieces (terms d) t)) → IsJudged d bodies i (answered (i + 1) found)
+    body_judged (Some w) is = (refl, (p, t, (is_p, is_t, some_found (terms d) bodies p.reporter called (called_left (terms d) bodies called many left) everyone (packed (pieces (terms d) t)) (Some w) is w refl)))
+    body_judged None is = λ q u is_q is_u.
         let one : Some p ≡ Some q = sym is_p ∙ is_q in
         let two : Some t ≡ Some u = sym is_t ∙ is_u in
         let same_p : p ≡ q = cc in
         let same_t : t ≡ u = cc in
         subst (λ (x : Procedure). IsRightBody (terms d) bodies x.reporter u) same_p (subst (IsRightBody (terms d) bodies p.reporter) same_t (none_found (terms d) bodies p.reporter called (called_left (terms d) bodies called many left) everyone (packed (pieces (terms d) t)) None is refl))
-
-    pub body_refused : (found : Option Wrong) → found ≡ first_wrong called p.reporter [] everyone (steps_of (terms d) false (pieces (terms d) t)) → IfErr (answered (i + 1) found) (IsBodyFault d bodies i)
-    body_refused None is = tt
-    body_refused (Some w) is = (refl, (p, t, (is_p, is_t, some_found (terms d) bodies p.reporter called (called_left (terms d) bodies called many left) everyone (packed (pieces (terms d) t)) (Some w) is w refl)))
 
   -- a lone text
   module _ (t : Node) where
@@ -65,7 +66,7 @@ module _ (d : Declared) (bodies : List Node) where
   abbrev pub RightBelow : ℕ → Type 0
   RightBelow n = (j : ℕ) (p : Procedure) (t : Node) → j < n → slice_get d.procedures j ≡ Some p → slice_get bodies j ≡ Some t → IsRightBody (terms d) bodies p.reporter t
 
-  pub right_more : (n : ℕ) → RightBelow n → ((p : Procedure) (t : Node) → slice_get d.procedures n ≡ Some p → slice_get bodies n ≡ Some t → IsRightBody (terms d) bodies p.reporter t) → RightBelow (n + 1)
+  pub right_more : (n : ℕ) → RightBelow n → IsRightAt d bodies n → RightBelow (n + 1)
   right_more n before here j p t below is_p is_t = elim (cases_lt j n) [
     | inl less ↦ before j p t less is_p is_t
     | inr past ↦ let same : j ≡ n = omega (arith, past, below) in here p t (ap (slice_get d.procedures) (sym same) ∙ is_p) (ap (slice_get bodies) (sym same) ∙ is_t)

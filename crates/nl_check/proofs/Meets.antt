@@ -3,8 +3,8 @@ use Rattle.std.proofs.Common.{◌≡◌, ◌≤◌, Bool, true, false, not, ◌&
 use Rattle.nl_words.specs.declared.entry.Kinds.{Kinds}
 use Rattle.nl_words.specs.Kinds.{everyone}
 use Rattle.nl_tree.specs.Context.{Kind, Observer, Turtle, Patch, Link, allows}
-use Rattle.nl_check.specs.Kinds.{meet, is_none, one_if, count}
-use Rattle.nl_check.specs.Reach.{Under}
+use Rattle.nl_check.specs.inner.Kinds.{meet, is_none, one_if, count}
+use Rattle.nl_check.specs.inner.Reach.{Under}
 
 bad : IsTrue false → ⊥
 bad h = cc

@@ -11,7 +11,7 @@ use Rattle.nl_tree.specs.declared.declared.NamedWhat.{NamedWhat}
 use Rattle.nl_tree.specs.Names.{IsDeclared}
 use Rattle.nl_tree.specs.Checked.{AreRows}
 use Rattle.nl_tree.specs.Vocabulary.{base_term, own_terms, named_what}
-use Rattle.nl_check.specs.Tables.{base_what, base_whats}
+use Rattle.nl_check.specs.inner.Tables.{base_what, base_whats}
 
 next_there : (rs : List Row) (k : ℕ) (r : Row) → slice_get rs k ≡ Some r → base_whats (drop k rs) ≡ base_what r ∷ base_whats (drop (k + 1) rs)
 next_there [] k r here = cc

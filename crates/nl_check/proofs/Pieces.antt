@@ -3,10 +3,11 @@ use Rattle.std.proofs.Common.{◌≡◌, ℕ, zero, suc, ◌+◌, Bool, true, fa
 use Rattle.std.specs.Prelude.{slice_get}
 use Rattle.nl_words.specs.declared.entry.Kinds.{Kinds}
 use Rattle.nl_words.specs.declared.entry.Input.{Input}
+use Rattle.nl_words.specs.declared.entry.Manner.TheVariants.{Run}
 use Rattle.nl_tree.specs.Tree.{Node, Nodes, none, more, nodes, listed}
 use Rattle.nl_tree.specs.Term.{Term}
 use Rattle.nl_tree.specs.Tokens.{inputs_of}
-use Rattle.nl_tree.specs.Context.{Run, use_of, is_operator, word_pieces, node_pieces, Piece, Sub, pieces, given, subs, givens, kinds_of_subs, block_kinds, part_pieces, parts_pieces, all_pieces, after_first, flat}
+use Rattle.nl_tree.specs.Context.{use_of, is_operator, word_pieces, node_pieces, Piece, Sub, pieces, given, subs, givens, kinds_of_subs, block_kinds, part_pieces, parts_pieces, all_pieces, after_first, flat}
 use Rattle.nl_fixed.specs.declared.span.Span.{Span}
 use Rattle.nl_fixed.specs.declared.memory.NoMemory.{NoMemory}
 use Rattle.nl_tree.specs.declared.tree.Label.{Label}
@@ -14,10 +15,10 @@ use Rattle.nl_tree.specs.declared.tree.Label.TheVariants as label
 use Rattle.nl_tree.specs.declared.index.Word.{Word}
 use Rattle.nl_tree.specs.Vocabulary.{term_named}
 use Rattle.nl_tree.proofs.Parts.{listed_nodes}
-use Rattle.nl_decl.specs.Words.{named}
+use Rattle.nl_tree.specs.Index.{named}
 use Rattle.nl_check.specs.declared.step.Step.{Step}
-use Rattle.nl_check.specs.Steps.{piece_steps, steps_of, used_as}
-use Rattle.nl_check.specs.Bodies.{or_value, sub_of, first_of, pieces_from, flat_from, word_step}
+use Rattle.nl_check.specs.inner.Steps.{piece_steps, steps_of, used_as}
+use Rattle.nl_check.specs.inner.Bodies.{or_value, sub_of, first_of, pieces_from, flat_from, word_step}
 
 pub steps_append : (table : List Term) (inner : Bool) (ps qs : List Piece) → steps_of table inner (ps ++ qs) ≡ steps_of table inner ps ++ steps_of table inner qs
 steps_append table inner [] qs = refl
@@ -79,10 +80,10 @@ module _ (table : List Term) (inner : Bool) where
     here = use_of w s Run
 
     abbrev here_step : Step
-    here_step = word_step (used_as (Some t) inner w s Run)
+    here_step = word_step (used_as (Some t) inner s Run)
 
     same_step : piece_steps table inner here ≡ here_step ∷ []
-    same_step = ap (λ o. word_step (used_as o inner w s Run) ∷ []) (sym row)
+    same_step = ap (λ o. word_step (used_as o inner s Run) ∷ []) (sym row)
 
     same_first : block_kinds t (kinds_of_subs (subs table (nodes parts))) ≡ all_first
     same_first = ap (block_kinds t) (gives_of_subs table (nodes parts))

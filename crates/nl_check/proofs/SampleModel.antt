@@ -16,9 +16,9 @@ use Rattle.nl_tree.specs.BodyFault.{Fits}
 use Rattle.nl_tree.specs.Grammar.{at_end}
 use Rattle.nl_tree.specs.Vocabulary.{counted, procedure_term, terms}
 use Rattle.nl_check.specs.declared.calls.Call.{Call}
-use Rattle.nl_check.specs.Calls.{call_to, reversed, nobody}
-use Rattle.nl_check.specs.Reach.{ArePlaces}
-use Rattle.nl_check.specs.Samples.{procedure_named, sample_procedures, model_of, empty_body}
+use Rattle.nl_check.specs.inner.Calls.{call_to, reversed, nobody}
+use Rattle.nl_check.specs.inner.Reach.{ArePlaces}
+use Rattle.nl_check.specs.inner.Samples.{procedure_named, sample_procedures, model_of, empty_body}
 use Rattle.nl_check.proofs.Around.{nobody_length}
 use Rattle.nl_check.proofs.Graph.{reversed_length, reversed_places}
 

@@ -4,18 +4,19 @@ use Rattle.std.specs.List.{Contains}
 use Rattle.std.proofs.lemmas.List.Elements.{Contains-append_left, Contains-append_right, Contains-append_cases}
 use Rattle.nl_words.specs.declared.entry.Kinds.{Kinds}
 use Rattle.nl_words.specs.Kinds.{everyone}
+use Rattle.nl_words.specs.declared.entry.Manner.TheVariants.{Run, Set, Spread}
 use Rattle.nl_tree.specs.declared.declared.What.{What}
 use Rattle.nl_tree.specs.declared.declared.What.TheVariants as what
 use Rattle.nl_tree.specs.Tree.{Node}
 use Rattle.nl_tree.specs.Term.{Term}
 use Rattle.nl_tree.specs.Vocabulary.{term_named}
-use Rattle.nl_tree.specs.Context.{Kind, allows, Run, Set, Spread, Piece, Pieces, use_of, block_of, no_piece, a_piece, pieces, with_piece, words_after, site_words}
+use Rattle.nl_tree.specs.Context.{Kind, allows, Piece, Pieces, use_of, block_of, no_piece, a_piece, pieces, with_piece, words_after, site_words}
 use Rattle.nl_check.specs.declared.calls.Call.{Call}
 use Rattle.nl_check.specs.declared.step.Step.{Step}
 use Rattle.nl_check.specs.declared.step.Step.TheVariants as step
-use Rattle.nl_check.specs.Kinds.{meet}
-use Rattle.nl_check.specs.Steps.{runs_of, call_of, calls_of, piece_steps, pieces_steps, steps_of}
-use Rattle.nl_check.specs.Calls.{runs_at, runs_in, callee_at, call_to, calls_in, body_steps}
+use Rattle.nl_check.specs.inner.Kinds.{meet}
+use Rattle.nl_check.specs.inner.Steps.{runs_of, call_of, calls_of, piece_steps, pieces_steps, steps_of}
+use Rattle.nl_check.specs.inner.Calls.{runs_at, runs_in, callee_at, call_to, calls_in, body_steps}
 use Rattle.nl_check.proofs.Meets.{meet_lacks, meet_assoc, meet_left, meet_right, not_both, everyone_allowed}
 
 -- the words of a site

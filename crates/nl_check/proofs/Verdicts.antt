@@ -1,58 +1,38 @@
 -- What the first fault of a text's steps says of its words.
-use Rattle.std.proofs.Common.{◌≡◌, ℕ, Bool, true, false, not, ◌&&◌, ◌||◌, cond, IsTrue, List, [], ◌∷◌, ◌++◌, Option, Some, None, All, ◌↔◌, inl, inr, ◌⊎◌, bytes_eq, refl, sym, ap, subst, ◌∙◌, arith, append_assoc, append-nil, codes}
+use Rattle.std.proofs.Common.{◌≡◌, ℕ, Bool, true, false, not, cond, IsTrue, List, [], ◌∷◌, ◌++◌, Option, Some, None, All, ◌↔◌, inl, inr, ◌⊎◌, refl, sym, ap, subst, ◌∙◌, arith, append_assoc, append-nil}
 use Rattle.std.specs.List.{Contains}
 use Rattle.std.proofs.lemmas.List.Elements.{Contains-append_left, Contains-push, Contains-push_cases, All-nil, All-cons, All-append}
-use Rattle.std.proofs.lemmas.Slice.Eq.{bytes_eq-Decides}
 use Rattle.nl_fixed.specs.declared.span.Span.{Span}
 use Rattle.nl_words.specs.declared.entry.Kinds.{Kinds}
 use Rattle.nl_words.specs.Kinds.{everyone}
+use Rattle.nl_words.specs.declared.entry.Manner.{Manner}
+use Rattle.nl_words.specs.declared.entry.Manner.TheVariants.{Run, Set, Spread}
 use Rattle.nl_tree.specs.declared.declared.What.{What}
 use Rattle.nl_tree.specs.declared.declared.What.TheVariants as what
 use Rattle.nl_tree.specs.Tree.{Node}
 use Rattle.nl_tree.specs.Term.{Term}
 use Rattle.nl_tree.specs.Vocabulary.{term_named}
-use Rattle.nl_tree.specs.Context.{Kind, allows, Manner, Run, Set, Spread, Piece, Pieces, use_of, block_of, no_piece, a_piece, Use, uses_in, uses_among, with_word, with_piece, Leads, Bars, IsWrongContext, is_fixed, is_on_patches, is_not_settable, has_no_report, ContextFault, WrongContext, NotSettable, NoReport, IsFaultAt, IsRight, IsFirstFault}
-use Rattle.nl_check.specs.declared.refusal.CheckKind.{CheckKind}
-use Rattle.nl_check.specs.declared.refusal.CheckKind.TheVariants as kind
+use Rattle.nl_tree.specs.Context.{Kind, allows, Piece, Pieces, use_of, block_of, no_piece, a_piece, Use, uses_in, uses_among, with_word, with_piece, Leads, Bars, IsWrongContext, is_not_settable, has_no_report, IsFaultAt, IsRight, IsFirstFault}
+use Rattle.nl_tree.specs.declared.faults.CheckKind.{CheckKind}
+use Rattle.nl_tree.specs.declared.faults.CheckKind.TheVariants.{WrongContext, NotSettable, NoReport}
 use Rattle.nl_check.specs.declared.faults.Wrong.{Wrong}
 use Rattle.nl_check.specs.declared.step.Use.{Use as StepUse}
 use Rattle.nl_check.specs.declared.step.Step.{Step}
 use Rattle.nl_check.specs.declared.step.Step.TheVariants as step
-use Rattle.nl_check.specs.Kinds.{meet, is_none}
-use Rattle.nl_check.specs.Steps.{leaving_of, runs_of, call_of, calls_of, counted, settable_by, used_as, piece_steps, pieces_steps}
-use Rattle.nl_check.specs.Faults.{fault_of, called_kinds, allowed, misplaced, kind_at, placed, last_or, or_later, first_wrong}
+use Rattle.nl_check.specs.inner.Kinds.{meet, is_none}
+use Rattle.nl_check.specs.inner.Steps.{runs_of, call_of, calls_of, counted, unsettable_by, used_as, piece_steps, pieces_steps}
+use Rattle.nl_check.specs.inner.Faults.{called_kinds, allowed, kind_at, placed, last_or, or_later, first_wrong}
 use Rattle.nl_check.proofs.Around.{last_push, front_push}
 use Rattle.nl_check.proofs.Meets.{meet_left, meet_right, meet_both, true_or_not, not_both, none_left, some_left, everyone_allowed}
-
-de_morgan : (a b : Bool) → (not a && b) ≡ not (a || not b)
-de_morgan true b = refl
-de_morgan false true = refl
-de_morgan false false = refl
-
-or_none : (a : Bool) → a ≡ (a || false)
-or_none true = refl
-or_none false = refl
 
 not_true : {b : Bool} → b ≡ false → IsTrue b → ⊥
 not_true is h = let bad : true ≡ false = sym h ∙ is in cc
 
--- the tests of a use are those of the word
-
-settable_is : (m : Manner) (o : Option Term) (table : List Term) (w : List ℕ) → term_named table w ≡ o → settable_by m o w ≡ not (is_not_settable table m w)
-settable_is Run o table w is = refl
-settable_is Set o table w is = refl
-settable_is Spread o table w is = de_morgan (is_fixed w) (is_on_patches o) ∙ sym (ap (λ x. not (is_fixed w || not (is_on_patches x))) is)
-
-by_name : (w : List ℕ) (reporter inner a b : Bool) → bytes_eq w (codes "report") ≡ a → bytes_eq w (codes "stop") ≡ b
-    → misplaced reporter inner (leaving_of w) ≡ has_no_report reporter inner w
-by_name w reporter inner true b is_report is_stop =
-    let it = (bytes_eq-Decides w (codes "report")).0 is_report in
-    subst (λ x. misplaced reporter inner (leaving_of x) ≡ has_no_report reporter inner x) (sym it) (or_none (not reporter || inner))
-by_name w reporter inner false true is_report is_stop = rw is_report (rw is_stop refl)
-by_name w reporter inner false false is_report is_stop = rw is_report (rw is_stop refl)
-
-misplaced_is : (w : List ℕ) (reporter inner : Bool) → misplaced reporter inner (leaving_of w) ≡ has_no_report reporter inner w
-misplaced_is w reporter inner = by_name w reporter inner (bytes_eq w (codes "report")) (bytes_eq w (codes "stop")) refl refl
+-- the test of a use is that of the word
+unsettable_is : (table : List Term) (m : Manner) (w : List ℕ) → unsettable_by m (term_named table w) ≡ is_not_settable table m w
+unsettable_is table Run w = refl
+unsettable_is table Set w = refl
+unsettable_is table Spread w = refl
 
 module _ (table : List Term) (bodies : List Node) (reporter : Bool) (called : List Kinds)
     (may : (j : ℕ) (kind : Kind) → IsTrue (allows (called_kinds called (Some j)) kind) ↔ (Leads table bodies kind j → ⊥)) where
@@ -119,23 +99,23 @@ module _ (table : List Term) (bodies : List Node) (reporter : Bool) (called : Li
   -- what is told of one word
   abbrev Told : Use → Option CheckKind → Type 0
   Told u None = Right u
-  Told u (Some k) = IsFaultAt table bodies reporter u (fault_of k)
+  Told u (Some k) = IsFaultAt table bodies reporter u k
 
   module _ (u : Use) (left : Kinds) (remain : Remain u.first u.so_far left) (unsettable misplaced_there : Bool)
-      (is_unsettable : is_not_settable table u.manner u.name ≡ unsettable) (is_misplaced : has_no_report reporter u.in_block u.name ≡ misplaced_there) where
+      (is_unsettable : is_not_settable table u.manner u.name ≡ unsettable) (is_misplaced : has_no_report table reporter u.in_block u.name ≡ misplaced_there) where
     wrong_there : is_none left ≡ true → IsWrongContext table bodies u
     wrong_there nothing kind is_left = none_left left nothing kind ((remain kind).1 is_left)
 
     not_wrong : is_none left ≡ false → IsWrongContext table bodies u → ⊥
     not_wrong some wrong = let (kind, h) = some_left left some in wrong kind ((remain kind).0 h)
 
-  none_told : (u : Use) (left : Kinds) → Remain u.first u.so_far left → is_none left ≡ false → is_not_settable table u.manner u.name ≡ false → has_no_report reporter u.in_block u.name ≡ false → Right u
+  none_told : (u : Use) (left : Kinds) → Remain u.first u.so_far left → is_none left ≡ false → is_not_settable table u.manner u.name ≡ false → has_no_report table reporter u.in_block u.name ≡ false → Right u
   none_told u left remain is_a is_b is_c WrongContext h = not_wrong u left remain false false is_b is_c is_a h
   none_told u left remain is_a is_b is_c NotSettable h = not_true is_b h.1
   none_told u left remain is_a is_b is_c NoReport h = not_true is_c h.2
 
-  tell : (u : Use) (left : Kinds) → Remain u.first u.so_far left → (a b c : Bool) → is_none left ≡ a → is_not_settable table u.manner u.name ≡ b → has_no_report reporter u.in_block u.name ≡ c
-      → Told u (cond a (Some kind.WrongContext) (cond b (Some kind.NotSettable) (cond c (Some kind.NoReport) None)))
+  tell : (u : Use) (left : Kinds) → Remain u.first u.so_far left → (a b c : Bool) → is_none left ≡ a → is_not_settable table u.manner u.name ≡ b → has_no_report table reporter u.in_block u.name ≡ c
+      → Told u (cond a (Some WrongContext) (cond b (Some NotSettable) (cond c (Some NoReport) None)))
   tell u left remain true b c is_a is_b is_c = wrong_there u left remain b c is_b is_c is_a
   tell u left remain false true c is_a is_b is_c = (not_wrong u left remain true c is_b is_c is_a, is_b)
   tell u left remain false false true is_a is_b is_c = (not_wrong u left remain false true is_b is_c is_a, ap not is_b, is_c)
@@ -148,24 +128,18 @@ module _ (table : List Term) (bodies : List Node) (reporter : Bool) (called : Li
   abbrev Seen : List Use → List Kinds → Kinds → List Step → List Step → (Kinds → Type 0) → Type 0
   Seen us around left ss rest P =
       (All Right us × ((next : Kinds) × (P next × (first_in around left (ss ++ rest) ≡ first_in around next rest))))
-      ⊎ ((k : Wrong) × (IsFirstFault table bodies reporter us (fault_of k.kind) k.span × (first_in around left (ss ++ rest) ≡ Some k)))
+      ⊎ ((k : Wrong) × (IsFirstFault table bodies reporter us k.kind k.span × (first_in around left (ss ++ rest) ≡ Some k)))
 
   abbrev use_at : Kinds → Bool → List (List ℕ) → List ℕ → Span → Manner → Use
   use_at first inner ws w s m = record { name = w; span = s; manner = m; so_far = with_word m w ws; first = first; in_block = inner }
 
   abbrev step_at : Bool → List ℕ → Span → Manner → StepUse
-  step_at inner w s m = used_as (term_named table w) inner w s m
-
-  not_not : (b : Bool) → not (not b) ≡ b
-  not_not true = refl
-  not_not false = refl
+  step_at inner w s m = used_as (term_named table w) inner s m
 
   kind_is : (left : Kinds) (inner : Bool) (w : List ℕ) (s : Span) (m : Manner) →
-      kind_at reporter left (step_at inner w s m) ≡ cond (is_none left) (Some kind.WrongContext) (cond (is_not_settable table m w) (Some kind.NotSettable) (cond (has_no_report reporter inner w) (Some kind.NoReport) None))
+      kind_at reporter left (step_at inner w s m) ≡ cond (is_none left) (Some WrongContext) (cond (is_not_settable table m w) (Some NotSettable) (cond (has_no_report table reporter inner w) (Some NoReport) None))
   kind_is left inner w s m =
-      let settable = ap not (settable_is m (term_named table w) table w refl) ∙ not_not (is_not_settable table m w) in
-      ap (λ b. cond (is_none left) (Some kind.WrongContext) (cond b (Some kind.NotSettable) (cond (misplaced reporter inner (leaving_of w)) (Some kind.NoReport) None))) settable
-      ∙ ap (λ b. cond (is_none left) (Some kind.WrongContext) (cond (is_not_settable table m w) (Some kind.NotSettable) (cond b (Some kind.NoReport) None))) (misplaced_is w reporter inner)
+      ap (λ b. cond (is_none left) (Some WrongContext) (cond b (Some NotSettable) (cond (has_no_report table reporter inner w) (Some NoReport) None))) (unsettable_is table m w)
 
   abbrev next_left : Bool → List ℕ → Span → Manner → Kinds → Kinds
   next_left inner w s m left = meet left (allowed called (step_at inner w s m))
@@ -184,13 +158,13 @@ module _ (table : List Term) (bodies : List Node) (reporter : Bool) (called : Li
       let next = next_left inner w s m left in
       let remain = remain_use m first ws left w before in
       let u = use_at first inner ws w s m in
-      seen_as first inner ws w s m around left rest _ (kind_is next inner w s m) (tell u next remain (is_none next) (is_not_settable table m w) (has_no_report reporter inner w) refl refl refl) remain
+      seen_as first inner ws w s m around left rest _ (kind_is next inner w s m) (tell u next remain (is_none next) (is_not_settable table m w) (has_no_report table reporter inner w) refl refl refl) remain
 
-  later_fault : (us vs : List Use) (fault : ContextFault) (place : Span) → All Right us → IsFirstFault table bodies reporter vs fault place → IsFirstFault table bodies reporter (us ++ vs) fault place
+  later_fault : (us vs : List Use) (fault : CheckKind) (place : Span) → All Right us → IsFirstFault table bodies reporter vs fault place → IsFirstFault table bodies reporter (us ++ vs) fault place
   later_fault us vs fault place right (before, u, rest, (is, all, at, where_it)) =
       (us ++ before, u, rest, (ap (λ xs. us ++ xs) is ∙ sym (append_assoc us before (u ∷ rest)), All-append Right us before right all, at, where_it))
 
-  earlier_fault : (us vs : List Use) (fault : ContextFault) (place : Span) → IsFirstFault table bodies reporter us fault place → IsFirstFault table bodies reporter (us ++ vs) fault place
+  earlier_fault : (us vs : List Use) (fault : CheckKind) (place : Span) → IsFirstFault table bodies reporter us fault place → IsFirstFault table bodies reporter (us ++ vs) fault place
   earlier_fault us vs fault place (before, u, rest, (is, all, at, where_it)) =
       (before, u, rest ++ vs, (ap (λ xs. xs ++ vs) is ∙ append_assoc before (u ∷ rest) vs, all, at, where_it))
 
@@ -217,10 +191,10 @@ module _ (table : List Term) (bodies : List Node) (reporter : Bool) (called : Li
         let more = pieces_steps table inner ps in
         let parted = ap (first_in around left) (append_assoc one more rest) in
         elim (piece_seen p first inner ws around left (more ++ rest) before) [
-          | inr (k, (fault, same)) ↦ inr (k, (earlier_fault (uses_in first inner ws p) (uses_among first inner (with_piece ws p) ps) (fault_of k.kind) k.span fault, parted ∙ same))
+          | inr (k, (fault, same)) ↦ inr (k, (earlier_fault (uses_in first inner ws p) (uses_among first inner (with_piece ws p) ps) k.kind k.span fault, parted ∙ same))
           | inl (right, (next, (remain, same))) ↦ elim (pieces_seen ps first inner (with_piece ws p) around next rest remain) [
             | inl (all, (last, (_, again))) ↦ inl (All-append Right (uses_in first inner ws p) (uses_among first inner (with_piece ws p) ps) right all, (last, (tt, parted ∙ same ∙ again)))
-            | inr (k, (fault, again)) ↦ inr (k, (later_fault (uses_in first inner ws p) (uses_among first inner (with_piece ws p) ps) (fault_of k.kind) k.span right fault, parted ∙ same ∙ again))
+            | inr (k, (fault, again)) ↦ inr (k, (later_fault (uses_in first inner ws p) (uses_among first inner (with_piece ws p) ps) k.kind k.span right fault, parted ∙ same ∙ again))
           ]
         ]
 
@@ -234,8 +208,8 @@ module _ (table : List Term) (bodies : List Node) (reporter : Bool) (called : Li
       | inr (k, (fault, same)) ↦ let bad : Some k ≡ None = sym same ∙ whole ∙ nothing in cc
     ]
 
-    pub some_found : (k : Wrong) → found ≡ Some k → IsFirstFault table bodies reporter (uses_among first false [] ps) (fault_of k.kind) k.span
+    pub some_found : (k : Wrong) → found ≡ Some k → IsFirstFault table bodies reporter (uses_among first false [] ps) k.kind k.span
     some_found k here = elim (pieces_seen ps first false [] [] first [] (begin first)) [
       | inl (right, (next, (_, same))) ↦ let bad : None ≡ Some k = sym same ∙ whole ∙ here in cc
-      | inr (l, (fault, same)) ↦ let it : Some l ≡ Some k = sym same ∙ whole ∙ here in let one : l ≡ k = cc in subst (λ (x : Wrong). IsFirstFault table bodies reporter (uses_among first false [] ps) (fault_of x.kind) x.span) one fault
+      | inr (l, (fault, same)) ↦ let it : Some l ≡ Some k = sym same ∙ whole ∙ here in let one : l ≡ k = cc in subst (λ (x : Wrong). IsFirstFault table bodies reporter (uses_among first false [] ps) x.kind x.span) one fault
     ]

@@ -1,11 +1,3 @@
 pub mod Answers
-pub mod Bodies
-pub mod Calls
-pub mod Faults
-pub mod Given
-pub mod Kinds
 pub mod Laws
-pub mod Reach
-pub mod Steps
-pub mod Tables
-pub mod Samples
+pub mod inner

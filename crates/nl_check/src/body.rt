@@ -1,23 +1,18 @@
 //! The steps of a text, from its tree.
-ghost use Rattle.std.specs.Prelude.{◌≡◌, ◌++◌, ◌∷◌, [], ◌+◌, Some, None, false, IfOk, OnOk, drop, slice_get, bytes_eq, codes, if◌then◌else◌};
-ghost use Rattle.std.specs.Option.{option_map};
+ghost use Rattle.std.specs.Prelude.{◌≡◌, ◌++◌, ◌∷◌, [], IfOk, OnOk};
 ghost use Rattle.nl_tree.specs.Names.{IsDeclared};
 ghost use Rattle.nl_tree.specs.Views.{plain};
-ghost use Rattle.nl_tree.specs.Tree.{span, parts, nodes};
-ghost use Rattle.nl_tree.specs.Vocabulary.{terms, term_named};
-ghost use Rattle.nl_tree.specs.Tokens.{inputs_of};
-ghost use Rattle.nl_tree.specs.Context.{Run, Set, Spread, use_of, pieces, flat, subs, word_pieces, part_pieces, inner_pieces, is_block, text_of};
-ghost use Rattle.nl_decl.specs.Words.{named};
-ghost use Rattle.nl_check.specs.Steps.{steps_of, used_as, manner_of};
-ghost use Rattle.nl_check.specs.Bodies.{or_value, sub_of, first_of, pieces_from, flat_from, variable_pieces, word_step};
+ghost use Rattle.nl_tree.specs.Vocabulary.{terms};
+ghost use Rattle.nl_tree.specs.Context.{is_block, text_of};
+ghost use Rattle.nl_check.specs.inner.Calls.{body_steps};
+ghost use Rattle.nl_check.specs.inner.Bodies.{PutsSteps, HasRow, node_at, flat_at, word_at, parts_at, part_at, inner_at, variable_at, own_step, word_step};
 
 use crate::given::block_kinds;
-use crate::step::{Manner, Step, Use, use_of};
-use crate::words::{input_at, is_operator, runs_itself};
-use nl_decl::{Word, word};
+use crate::step::{Step, Use, use_of};
+use crate::words::{input_at, is_operator, manner, runs_itself};
 use nl_fixed::{NoMemory, Span};
-use nl_tree::{Declared, Label, Tree};
-use nl_words::Input;
+use nl_tree::{Declared, Label, Tree, Word, word};
+use nl_words::{Input, Manner};
 use std::alloc::Global;
 
 /// The steps of a text.
@@ -27,7 +22,8 @@ pub(crate) fn steps_of(
     tree: &Tree,
 ) -> Result<Vec<Step>, NoMemory>
     requires { IsDeclared declared.now }
-    ensures { IfOk result (λ steps. steps.items ≡ steps_of (terms declared.now) false (pieces (terms declared.now) (plain tree.now))) }
+    ensures { IfOk result
+        (λ steps. steps.items ≡ body_steps (terms declared.now) (plain tree.now)) }
 {
     let mut steps = Vec::new(alloc);
     let text = Site {
@@ -59,7 +55,8 @@ impl<'a> Site<'a> {
     #[cycle(put)]
     fn put(&self, tree: &Tree, steps: &mut Vec<Step>) -> Result<(), NoMemory>
         requires { IsDeclared self.now.declared.now }
-        ensures { OnOk result (steps.new.items ≡ steps.old.items ++ steps_of (terms self.now.declared.now) self.now.inner (pieces (terms self.now.declared.now) (plain tree.now))) }
+        ensures { OnOk result
+            (PutsSteps self.now steps.old.items steps.new.items (node_at self.now tree.now)) }
     {
         match tree.label() {
             Label::Named(name) => match word(self.declared, name.as_bytes()) {
@@ -71,10 +68,7 @@ impl<'a> Site<'a> {
                     };
                     self.put_word(&node, steps)
                 }
-                None => put_use(
-                    use_of(None, name.as_bytes(), tree.span(), Manner::Run, self.inner),
-                    steps,
-                ),
+                None => put_use(use_of(None, tree.span(), Manner::Run, self.inner), steps),
             },
             _ => self.put_plain(tree, steps),
         }
@@ -84,7 +78,8 @@ impl<'a> Site<'a> {
     #[cycle(put)]
     fn put_plain(&self, tree: &Tree, steps: &mut Vec<Step>) -> Result<(), NoMemory>
         requires { IsDeclared self.now.declared.now }
-        ensures { OnOk result (steps.new.items ≡ steps.old.items ++ steps_of (terms self.now.declared.now) self.now.inner (flat_from (terms self.now.declared.now) 0 (parts (plain tree.now)))) }
+        ensures { OnOk result
+            (PutsSteps self.now steps.old.items steps.new.items (flat_at self.now tree.now)) }
     {
         for at in 0..tree.len() {
             let Some(part) = tree.part(at) else {
@@ -99,8 +94,9 @@ impl<'a> Site<'a> {
     #[cycle(put)]
     fn put_word(&self, node: &WordNode, steps: &mut Vec<Step>) -> Result<(), NoMemory>
         requires model { IsDeclared self.now.declared.now }
-        requires row { Some (named node.now.name.now node.now.word) ≡ term_named (terms self.now.declared.now) node.now.name.now }
-        ensures { OnOk result (steps.new.items ≡ steps.old.items ++ steps_of (terms self.now.declared.now) self.now.inner (word_pieces (Some (named node.now.name.now node.now.word)) (use_of node.now.name.now (span (plain node.now.tree.now)) Run) (subs (terms self.now.declared.now) (nodes (parts (plain node.now.tree.now)))))) }
+        requires row { HasRow self.now node.now }
+        ensures { OnOk result
+            (PutsSteps self.now steps.old.items steps.new.items (word_at self.now node.now)) }
     {
         if !is_operator(node.word.role) {
             self.put_name(node, steps)?;
@@ -116,16 +112,11 @@ impl<'a> Site<'a> {
 
     // Appends the use of the word itself.
     fn put_name(&self, node: &WordNode, steps: &mut Vec<Step>) -> Result<(), NoMemory>
-        ensures { OnOk result (steps.new.items ≡ steps.old.items ++ word_step (used_as (Some (named node.now.name.now node.now.word)) self.now.inner node.now.name.now (span (plain node.now.tree.now)) Run) ∷ []) }
+        ensures { OnOk result
+            (steps.new.items ≡ steps.old.items ++ own_step self.now node.now ∷ []) }
     {
         put_use(
-            use_of(
-                Some(node.word),
-                node.name,
-                node.tree.span(),
-                Manner::Run,
-                self.inner,
-            ),
+            use_of(Some(node.word), node.tree.span(), Manner::Run, self.inner),
             steps,
         )
     }
@@ -134,7 +125,9 @@ impl<'a> Site<'a> {
     #[cycle(put)]
     fn put_parts(&self, node: &WordNode, from: usize, steps: &mut Vec<Step>) -> Result<(), NoMemory>
         requires { IsDeclared self.now.declared.now }
-        ensures { OnOk result (steps.new.items ≡ steps.old.items ++ steps_of (terms self.now.declared.now) self.now.inner (pieces_from (terms self.now.declared.now) (named node.now.name.now node.now.word) (first_of (terms self.now.declared.now) (named node.now.name.now node.now.word) (parts (plain node.now.tree.now))) from (parts (plain node.now.tree.now)))) }
+        ensures { OnOk result
+            (PutsSteps self.now steps.old.items steps.new.items
+            (parts_at self.now node.now from)) }
     {
         for at in from..node.tree.len() {
             let Some(part) = node.tree.part(at) else {
@@ -155,10 +148,12 @@ impl<'a> Site<'a> {
         steps: &mut Vec<Step>,
     ) -> Result<(), NoMemory>
         requires { IsDeclared self.now.declared.now }
-        ensures { OnOk result (steps.new.items ≡ steps.old.items ++ steps_of (terms self.now.declared.now) self.now.inner (part_pieces (named node.now.name.now node.now.word) (first_of (terms self.now.declared.now) (named node.now.name.now node.now.word) (parts (plain node.now.tree.now))) (or_value (slice_get (inputs_of (named node.now.name.now node.now.word)) at)) (sub_of (terms self.now.declared.now) (plain part.now)))) }
+        ensures { OnOk result
+            (PutsSteps self.now steps.old.items steps.new.items
+            (part_at self.now node.now at part.now)) }
     {
         match input_at(&node.word, at) {
-            Some(Input::Variable) => self.put_variable(node.name, part, steps),
+            Some(Input::Variable) => self.put_variable(node, part, steps),
             Some(Input::Fresh) => Ok(()),
             _ => self.put_inner(node, part, steps),
         }
@@ -168,9 +163,11 @@ impl<'a> Site<'a> {
     #[cycle(put)]
     fn put_inner(&self, node: &WordNode, part: &Tree, steps: &mut Vec<Step>) -> Result<(), NoMemory>
         requires { IsDeclared self.now.declared.now }
-        ensures { OnOk result (steps.new.items ≡ steps.old.items ++ steps_of (terms self.now.declared.now) self.now.inner (inner_pieces (named [] node.now.word) (first_of (terms self.now.declared.now) (named [] node.now.word) (parts (plain node.now.tree.now))) (sub_of (terms self.now.declared.now) (plain part.now)))) }
+        ensures { OnOk result
+            (PutsSteps self.now steps.old.items steps.new.items
+            (inner_at self.now node.now part.now)) }
     {
-        if is_block(part.label()) && !runs_itself(&node.word) {
+        if is_block(part.label()) && !runs_itself(node.word.what) {
             let first = block_kinds(self.declared, &node.word, node.tree);
             let block = Site {
                 declared: self.declared,
@@ -184,17 +181,22 @@ impl<'a> Site<'a> {
         self.put(part, steps)
     }
 
-    // Appends the use of the variable of `set`, or of a word of this name that reads or writes it on patches.
-    fn put_variable(&self, name: &[u8], part: &Tree, steps: &mut Vec<Step>) -> Result<(), NoMemory>
+    // Appends the use of the variable that the word names, as that of `set`.
+    fn put_variable(
+        &self,
+        node: &WordNode,
+        part: &Tree,
+        steps: &mut Vec<Step>,
+    ) -> Result<(), NoMemory>
         requires { IsDeclared self.now.declared.now }
-        ensures { OnOk result (steps.new.items ≡ steps.old.items ++ steps_of (terms self.now.declared.now) self.now.inner (variable_pieces name.now (sub_of (terms self.now.declared.now) (plain part.now)))) }
+        ensures { OnOk result
+            (PutsSteps self.now steps.old.items steps.new.items
+            (variable_at self.now node.now part.now)) }
     {
         let variable = text_of(part.label());
         let row = word(self.declared, variable);
-        put_use(
-            use_of(row, variable, part.span(), manner_in(name), self.inner),
-            steps,
-        )
+        let manner = manner(node.word.what);
+        put_use(use_of(row, part.span(), manner, self.inner), steps)
     }
 }
 
@@ -202,17 +204,6 @@ fn is_block(label: &Label) -> bool
     ensures { result ≡ is_block label.now }
 {
     matches!(label, Label::Commands | Label::Reporter)
-}
-
-// How the variable of a word of this name stands there.
-fn manner_in(name: &[u8]) -> Manner
-    ensures { manner_of result ≡ (if bytes_eq name.now (codes "set") then Set else Spread) }
-{
-    if name == b"set".as_slice() {
-        Manner::Set
-    } else {
-        Manner::Spread
-    }
 }
 
 fn text_of(label: &Label) -> &[u8]

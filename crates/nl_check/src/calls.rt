@@ -1,8 +1,8 @@
 //! Which kinds the words of a body's own text allow, and which procedures they call.
 ghost use Rattle.std.specs.Prelude.{◌≡◌, ◌∷◌, [], ◌++◌, ◌<◌, ℕ, All, IfOk, OnOk, OnErr, length};
-ghost use Rattle.nl_check.specs.Calls.{runs_at, runs_in, callee_at, call_to, calls_in, with_caller, reversed, nobody};
+ghost use Rattle.nl_check.specs.inner.Calls.{runs_at, runs_in, callee_at, call_to, calls_in, with_caller, reversed, nobody};
 
-use crate::kinds::{kinds, meet};
+use crate::kinds::{everyone, meet};
 use crate::step::Step;
 use nl_fixed::NoMemory;
 use nl_words::Kinds;
@@ -61,7 +61,7 @@ impl Places {
 pub(crate) fn runs_in(steps: &[Step]) -> Kinds
     ensures { result ≡ runs_in steps.now }
 {
-    let mut all = kinds(true, true, true, true);
+    let mut all = everyone();
     for step in steps {
         all = meet(all, runs_at(step));
     }
@@ -73,7 +73,7 @@ fn runs_at(step: &Step) -> Kinds
 {
     match step {
         Step::Word(word) if !word.inner => word.runs,
-        _ => kinds(true, true, true, true),
+        _ => everyone(),
     }
 }
 

@@ -1,20 +1,20 @@
 //! The check of a program, and of a lone text.
-ghost use Rattle.std.specs.Prelude.{◌≡◌, ◌<◌, ◌+◌, ℕ, [], IfOk, IfErr, OnOk, Some, length, slice_get};
-ghost use Rattle.nl_tree.specs.declared.declared.Procedure.{Procedure};
+ghost use Rattle.std.specs.Prelude.{◌≡◌, ◌<◌, [], IfOk, IfErr, OnOk, length};
 ghost use Rattle.nl_tree.specs.BodyFault.{Fits};
-ghost use Rattle.nl_tree.specs.Checked.{BodiesFit, BodiesAreRight, KindsAreLeft};
-ghost use Rattle.nl_tree.specs.Context.{IsRightBody, IsRightText};
+ghost use Rattle.nl_tree.specs.Checked.{BodiesFit, BodiesAreRight};
+ghost use Rattle.nl_tree.specs.Context.{IsRightText};
 ghost use Rattle.nl_tree.specs.Names.{IsDeclared};
-ghost use Rattle.nl_tree.specs.Tree.{Node};
+ghost use Rattle.nl_tree.specs.Slots.{NamesHaveSlots};
 ghost use Rattle.nl_tree.specs.Views.{plain};
 ghost use Rattle.nl_tree.specs.Vocabulary.{terms};
-ghost use Rattle.nl_check.specs.Answers.{IsModelRefusal, IsTextRefusal, IsBodyFault, answered};
+ghost use Rattle.nl_check.specs.Answers.{IsModelRefusal, IsTextRefusal};
+ghost use Rattle.nl_check.specs.inner.Judged.{IsKindsOf, IsJudged, AreJudged, answered};
 
 use crate::body::steps_of;
 use crate::calls::reversed;
 use crate::faults::{Wrong, first_wrong};
 use crate::gather::gather_all;
-use crate::kinds::kinds;
+use crate::kinds::{everyone, observers};
 use crate::reach::settle;
 use crate::refusal::CheckRefusal;
 use crate::rows::rows_of;
@@ -44,7 +44,8 @@ pub fn check(alloc: Global, declared: Declared, bodies: Trees) -> Result<Program
     Ok(program)
 }
 
-/// Checks a lone text of this form that the observer runs. It is told as body 0.
+/// Checks a lone text of this form that the observer runs. It is told as body 0. Each name in a text that is right has a slot or is made there
+/// by `let`, so a run meets no other name.
 pub fn check_text(
     alloc: Global,
     program: &Program,
@@ -52,13 +53,16 @@ pub fn check_text(
     form: Form,
 ) -> Result<(), CheckRefusal>
     requires { Fits form [] (terms program.now.declared) (plain tree.now) }
-    ensures right { OnOk result (IsRightText (terms program.now.declared) program.now.bodies (plain tree.now)) }
-    ensures refused { IfErr result (λ e. IsTextRefusal program.now.declared program.now.bodies (plain tree.now) e) }
+    ensures right { OnOk result
+        (IsRightText (terms program.now.declared) program.now.bodies (plain tree.now)) }
+    ensures slots { OnOk result (NamesHaveSlots program.now.declared [] (plain tree.now)) }
+    ensures refused { IfErr result
+        (IsTextRefusal program.now.declared program.now.bodies (plain tree.now)) }
 {
     let called = kinds_in(alloc, program)?;
     let steps = steps_of(alloc, program.declared(), tree)?;
-    let observer = kinds(true, false, false, false);
-    let found = first_wrong(alloc, steps.as_slice(), observer, called.as_slice(), false)?;
+    let first = observers();
+    let found = first_wrong(alloc, steps.as_slice(), first, called.as_slice(), false)?;
     accept(found, 0)
 }
 
@@ -70,8 +74,7 @@ pub(crate) fn kinds_of(
 ) -> Result<KindsList, NoMemory>
     requires names { IsDeclared declared.now }
     requires many { length bodies.now ≡ length declared.now.procedures }
-    ensures many { IfOk result (λ ks. length ks ≡ length bodies.now) }
-    ensures left { IfOk result (λ ks. KindsAreLeft declared.now bodies.now ks) }
+    ensures { IfOk result (λ ks. IsKindsOf declared.now bodies.now ks) }
 {
     let all = gather_all(alloc, declared, bodies)?;
     let callers = reversed(alloc, bodies.len(), all.calls.as_slice())?;
@@ -96,12 +99,8 @@ pub(crate) fn check_bodies(
     bodies: &Trees,
     called: &[Kinds],
 ) -> Result<(), CheckRefusal>
-    requires names { IsDeclared declared.now }
-    requires bodies { length bodies.now ≡ length declared.now.procedures }
-    requires many { length called.now ≡ length bodies.now }
-    requires left { KindsAreLeft declared.now bodies.now called.now }
-    ensures right { OnOk result (BodiesAreRight declared.now bodies.now) }
-    ensures refused { IfErr result (λ e. IsModelRefusal declared.now bodies.now e) }
+    requires { IsKindsOf declared.now bodies.now called.now }
+    ensures { AreJudged declared.now bodies.now result }
 {
     for at in 0..declared.procedures.as_slice().len() {
         check_body(alloc, declared, bodies, called, at)?;
@@ -117,27 +116,17 @@ fn check_body(
     called: &[Kinds],
     at: usize,
 ) -> Result<(), CheckRefusal>
-    requires names { IsDeclared declared.now }
-    requires bodies { length bodies.now ≡ length declared.now.procedures }
-    requires many { length called.now ≡ length bodies.now }
-    requires left { KindsAreLeft declared.now bodies.now called.now }
+    requires kinds { IsKindsOf declared.now bodies.now called.now }
     requires within { at < length declared.now.procedures }
-    ensures right { OnOk result ((p : Procedure) (t : Node) → slice_get declared.now.procedures at ≡ Some p → slice_get bodies.now at ≡ Some t → IsRightBody (terms declared.now) bodies.now p.reporter t) }
-    ensures refused { IfErr result (λ e. IsBodyFault declared.now bodies.now at e) }
+    ensures { IsJudged declared.now bodies.now at result }
 {
     let procedure = &declared.procedures.as_slice()[at];
     let Some(body) = bodies.get(at) else {
         unreachable!()
     };
     let steps = steps_of(alloc, declared, body)?;
-    let everyone = kinds(true, true, true, true);
-    let found = first_wrong(
-        alloc,
-        steps.as_slice(),
-        everyone,
-        called,
-        procedure.reporter,
-    )?;
+    let first = everyone();
+    let found = first_wrong(alloc, steps.as_slice(), first, called, procedure.reporter)?;
     accept(found, at + 1)
 }
 

@@ -1,12 +1,13 @@
 //! The first fault of a text, from its steps.
 ghost use Rattle.std.specs.Prelude.{◌≡◌, [], ◌∷◌, ◌++◌, IfOk, OnOk};
-ghost use Rattle.nl_check.specs.Faults.{called_kinds, allowed, misplaced, kind_at, placed, wrong_by, left_after, around_after, first_wrong, last_or, front};
+ghost use Rattle.nl_tree.specs.Context.{is_misplaced};
+ghost use Rattle.nl_check.specs.inner.Faults.{called_kinds, allowed, kind_at, placed, wrong_by, left_after, around_after, first_wrong, last_or, front};
 
-use crate::kinds::{is_none, kinds, meet};
-use crate::refusal::CheckKind;
-use crate::step::{Leaving, Step, Use};
+use crate::kinds::{everyone, is_none, meet};
+use crate::step::{Step, Use};
 use nl_fixed::{NoMemory, Span};
-use nl_words::Kinds;
+use nl_tree::CheckKind;
+use nl_words::{Kinds, Leaving};
 use std::alloc::Global;
 
 /// A fault and where it stands.
@@ -46,8 +47,10 @@ fn take_step(
     around: &mut Vec<Kinds>,
 ) -> Result<Option<Wrong>, NoMemory>
     ensures found { IfOk result (λ found. found ≡ wrong_by called.now reporter left.old step.now) }
-    ensures left { OnOk result (left.new ≡ left_after called.now around.old.items left.old step.now) }
-    ensures around { OnOk result (around.new.items ≡ around_after around.old.items left.old step.now) }
+    ensures left { OnOk result
+        (left.new ≡ left_after called.now around.old.items left.old step.now) }
+    ensures around { OnOk result
+        (around.new.items ≡ around_after around.old.items left.old step.now) }
 {
     match step {
         Step::Word(word) => {
@@ -98,11 +101,11 @@ fn called_kinds(called: &[Kinds], place: Option<u32>) -> Kinds
     ensures { result ≡ called_kinds called.now place }
 {
     let Some(place) = place else {
-        return kinds(true, true, true, true);
+        return everyone();
     };
     match called.get(place as usize) {
         Some(kinds) => *kinds,
-        None => kinds(true, true, true, true),
+        None => everyone(),
     }
 }
 
@@ -113,22 +116,22 @@ fn kind_at(reporter: bool, left: Kinds, word: &Use) -> Option<CheckKind>
     if is_none(left) {
         return Some(CheckKind::WrongContext);
     }
-    if !word.settable {
+    if word.unsettable {
         return Some(CheckKind::NotSettable);
     }
-    if misplaced(reporter, word.inner, word.leaving) {
+    if is_misplaced(reporter, word.inner, word.leaving) {
         return Some(CheckKind::NoReport);
     }
     None
 }
 
-// Whether a word that ends its procedure may not stand there.
-fn misplaced(reporter: bool, inner: bool, leaving: Leaving) -> bool
-    ensures { result ≡ misplaced reporter inner leaving }
+// Whether a word with which an agent leaves its procedure may not stand there.
+fn is_misplaced(reporter: bool, inner: bool, leaving: Leaving) -> bool
+    ensures { result ≡ is_misplaced reporter inner leaving }
 {
     match leaving {
-        Leaving::No => false,
-        Leaving::Report => !reporter || inner,
-        Leaving::Stop => reporter && !inner,
+        Leaving::Stays => false,
+        Leaving::Reports => !reporter || inner,
+        Leaving::Stops => reporter && !inner,
     }
 }

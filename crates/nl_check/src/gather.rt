@@ -3,7 +3,7 @@ ghost use Rattle.std.specs.Prelude.{◌≡◌, ◌∷◌, [], ◌++◌, IfOk, On
 ghost use Rattle.nl_tree.specs.Names.{IsDeclared};
 ghost use Rattle.nl_tree.specs.Views.{plain};
 ghost use Rattle.nl_tree.specs.Vocabulary.{terms};
-ghost use Rattle.nl_check.specs.Calls.{own_of, calls_from, runs_in, calls_in, body_steps};
+ghost use Rattle.nl_check.specs.inner.Calls.{own_of, calls_from, runs_in, calls_in, body_steps};
 
 use crate::body::steps_of;
 use crate::calls::{Call, put_calls, runs_in};
@@ -27,7 +27,8 @@ pub(crate) fn gather_all(
 ) -> Result<Gathered, NoMemory>
     requires { IsDeclared declared.now }
     ensures own { IfOk result (λ all. all.own.items ≡ own_of (terms declared.now) bodies.now) }
-    ensures calls { IfOk result (λ all. all.calls.items ≡ calls_from (terms declared.now) 0 bodies.now) }
+    ensures calls { IfOk result
+        (λ all. all.calls.items ≡ calls_from (terms declared.now) 0 bodies.now) }
 {
     let mut own = Vec::new(alloc);
     let mut calls = Vec::new(alloc);
@@ -47,8 +48,12 @@ fn put_body(
     calls: &mut Vec<Call>,
 ) -> Result<(), NoMemory>
     requires { IsDeclared declared.now }
-    ensures own { OnOk result (own.new.items ≡ own.old.items ++ runs_in (body_steps (terms declared.now) (plain body.now)) ∷ []) }
-    ensures calls { OnOk result (calls.new.items ≡ calls.old.items ++ calls_in at (body_steps (terms declared.now) (plain body.now))) }
+    ensures own { OnOk result
+        (own.new.items
+        ≡ own.old.items ++ runs_in (body_steps (terms declared.now) (plain body.now)) ∷ []) }
+    ensures calls { OnOk result
+        (calls.new.items
+        ≡ calls.old.items ++ calls_in at (body_steps (terms declared.now) (plain body.now))) }
 {
     let steps = steps_of(alloc, declared, body)?;
     own.push(runs_in(steps.as_slice()))?;

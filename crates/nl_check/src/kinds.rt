@@ -1,9 +1,44 @@
 //! Sets of kinds of agents.
 ghost use Rattle.std.specs.Prelude.{◌≡◌};
 ghost use Rattle.nl_words.specs.Kinds.{everyone, observers, turtles, links, agents};
-ghost use Rattle.nl_check.specs.Kinds.{meet, is_none, count};
+ghost use Rattle.nl_check.specs.inner.Kinds.{meet, is_none, count};
 
 use nl_words::Kinds;
+
+/// All kinds.
+pub(crate) fn everyone() -> Kinds
+    ensures { result ≡ everyone }
+{
+    kinds(true, true, true, true)
+}
+
+/// The observer.
+pub(crate) fn observers() -> Kinds
+    ensures { result ≡ observers }
+{
+    kinds(true, false, false, false)
+}
+
+/// Turtles.
+pub(crate) fn turtles() -> Kinds
+    ensures { result ≡ turtles }
+{
+    kinds(false, true, false, false)
+}
+
+/// Links.
+pub(crate) fn links() -> Kinds
+    ensures { result ≡ links }
+{
+    kinds(false, false, false, true)
+}
+
+/// Turtles, patches and links.
+pub(crate) fn agents() -> Kinds
+    ensures { result ≡ agents }
+{
+    kinds(false, true, true, true)
+}
 
 /// The set of these kinds.
 pub(crate) fn kinds(observer: bool, turtle: bool, patch: bool, link: bool) -> Kinds

@@ -16,7 +16,8 @@ mod step;
 mod words;
 
 pub use checking::{check, check_text};
-pub use refusal::{CheckKind, CheckRefusal};
+pub use nl_tree::CheckKind;
+pub use refusal::CheckRefusal;
 
 #[cfg(test)]
 mod tests;

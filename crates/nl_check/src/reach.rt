@@ -1,8 +1,7 @@
 //! Which kinds may run each procedure: a fixed point over who calls whom.
-ghost use Rattle.std.specs.Prelude.{◌≡◌, ◌∷◌, [], ◌++◌, ◌<◌, ℕ, All, IfOk, OnOk, length, if◌then◌else◌};
-ghost use Rattle.std.specs.List.{slice_index_or};
-ghost use Rattle.nl_check.specs.Kinds.{count};
-ghost use Rattle.nl_check.specs.Reach.{ArePlaces, AreSettled, passed_kinds, passed_work};
+ghost use Rattle.std.specs.Prelude.{◌≡◌, ◌∷◌, [], ◌++◌, ◌<◌, All, IfOk, OnOk, length, if◌then◌else◌};
+ghost use Rattle.nl_check.specs.inner.Kinds.{count};
+ghost use Rattle.nl_check.specs.inner.Reach.{ArePlaces, AreSettled, CountUp, passed_kinds, passed_work};
 
 use crate::calls::Places;
 use crate::kinds::{count, meet};
@@ -35,7 +34,7 @@ pub(crate) fn settle(
 // The places below a number.
 fn all_places(alloc: Global, count: usize) -> Result<Vec<usize>, NoMemory>
     ensures many { IfOk result (λ places. length places.items ≡ count) }
-    ensures each { IfOk result (λ places. (k : ℕ) (d : ℕ) → k < count → slice_index_or places.items k d ≡ k) }
+    ensures each { IfOk result (λ places. CountUp places.items count) }
 {
     let mut places = Vec::new(alloc);
     for place in 0..count {
@@ -46,7 +45,8 @@ fn all_places(alloc: Global, count: usize) -> Result<Vec<usize>, NoMemory>
 
 // Appends a place where it has changed.
 fn put_if(changed: bool, place: usize, work: &mut Vec<usize>) -> Result<(), NoMemory>
-    ensures { OnOk result (work.new.items ≡ (if changed then work.old.items ++ place ∷ [] else work.old.items)) }
+    ensures { OnOk result
+        (work.new.items ≡ (if changed then work.old.items ++ place ∷ [] else work.old.items)) }
 {
     if changed {
         work.push(place)?;
@@ -62,7 +62,10 @@ fn pass_on(
     work: &mut Vec<usize>,
 ) -> Result<(), NoMemory>
     requires { All (λ i. i < length kinds.old.items) callers.now }
-    ensures { OnOk result ((kinds.new.items ≡ passed_kinds given callers.now kinds.old.items) × (work.new.items ≡ passed_work given callers.now kinds.old.items work.old.items)) }
+    ensures kinds { OnOk result
+        (kinds.new.items ≡ passed_kinds given callers.now kinds.old.items) }
+    ensures work { OnOk result
+        (work.new.items ≡ passed_work given callers.now kinds.old.items work.old.items) }
 {
     for caller in callers {
         let old = kinds[*caller];

@@ -2,25 +2,14 @@
 ghost use Rattle.std.specs.Prelude.{◌≡◌};
 
 use nl_fixed::{NoMemory, Span};
+use nl_tree::CheckKind;
 use thiserror::Error;
-
-/// What is wrong with a word in its place. At one word the first of these counts.
-#[derive(Clone, Copy, Debug, PartialEq, Eq)]
-pub enum CheckKind {
-    /// No kind of agents is left that may run the word there.
-    WrongContext,
-    /// The name stands where a variable is set, or read and written on patches, and can't be.
-    NotSettable,
-    /// A `report` outside of a reporter procedure or in a block that other agents run, or a `stop` in a reporter procedure and in no such
-    /// block.
-    NoReport,
-}
 
 /// Why a program or a text is refused.
 #[derive(Clone, Copy, Debug, PartialEq, Eq, Error)]
 pub enum CheckRefusal {
     /// The first fault by the order of the text. The body of the procedure at place i has the number i + 1, and a lone text 0.
-    #[error("{kind:?} in body {body}")]
+    #[error("{kind} in body {body}")]
     Fault {
         kind: CheckKind,
         body: usize,

@@ -4,7 +4,7 @@ ghost use Rattle.nl_words.specs.Rows.{rows};
 ghost use Rattle.nl_tree.specs.Names.{IsDeclared};
 ghost use Rattle.nl_tree.specs.Checked.{AreRows};
 ghost use Rattle.nl_tree.specs.Vocabulary.{named_what};
-ghost use Rattle.nl_check.specs.Tables.{base_whats};
+ghost use Rattle.nl_check.specs.inner.Tables.{base_whats};
 
 use nl_fixed::{NoMemory, Str};
 use nl_tree::{Declared, NamedWhat, NamedWhats, NamedWords, What};

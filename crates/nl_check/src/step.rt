@@ -1,34 +1,16 @@
 //! A text as a row of steps: its words and, each in its place, where the blocks begin and end that other agents run.
 ghost use Rattle.std.specs.Prelude.{◌≡◌, []};
 ghost use Rattle.std.specs.Option.{option_map};
-ghost use Rattle.nl_tree.specs.Context.{is_on_patches};
-ghost use Rattle.nl_decl.specs.Words.{named};
-ghost use Rattle.nl_check.specs.Steps.{leaving_of, runs_of, calls_of, settable_by, used_as, manner_of};
+ghost use Rattle.nl_fixed.specs.Nouns.{Name};
+ghost use Rattle.nl_tree.specs.Context.{is_on_patches, row_of_term, fixed_by, leaving_by};
+ghost use Rattle.nl_tree.specs.Index.{named};
+ghost use Rattle.nl_check.specs.inner.Steps.{runs_of, calls_of, unsettable_by, used_as};
 
-use crate::kinds::kinds;
-use crate::words::is_fixed;
-use nl_decl::Word;
+use crate::kinds::everyone;
+use crate::words::{is_fixed, leaving};
 use nl_fixed::Span;
-use nl_tree::What;
-use nl_words::{Kinds, Role};
-
-/// Whether a word ends its procedure.
-#[derive(Clone, Copy, Debug, PartialEq, Eq)]
-pub(crate) enum Leaving {
-    No,
-    Report,
-    Stop,
-}
-
-/// How a word stands there.
-#[derive(Clone, Copy, Debug, PartialEq, Eq)]
-pub(crate) enum Manner {
-    Run,
-    /// The variable of `set`.
-    Set,
-    /// The variable of a word that reads or writes it on patches.
-    Spread,
-}
+use nl_tree::{What, Word};
+use nl_words::{Kinds, Leaving, Manner, Role};
 
 /// A word in its place.
 #[derive(Clone, Copy, Debug)]
@@ -38,8 +20,8 @@ pub(crate) struct Use {
     pub runs: Kinds,
     /// The place of the procedure that it calls.
     pub calls: Option<u32>,
-    /// Whether the variable there may stand there.
-    pub settable: bool,
+    /// Whether it is a variable that may not stand there.
+    pub unsettable: bool,
     pub leaving: Leaving,
     /// Whether it stands in a block that other agents run.
     pub inner: bool,
@@ -54,15 +36,9 @@ pub(crate) enum Step {
     Close,
 }
 
-/// The use of a word of this name and row.
-pub(crate) fn use_of(
-    word: Option<Word>,
-    name: &[u8],
-    span: Span,
-    manner: Manner,
-    inner: bool,
-) -> Use
-    ensures { result ≡ used_as (option_map (named name.now) word) inner name.now span (manner_of manner) }
+/// The use of a word of this row, whatever its name.
+pub(crate) fn use_of(word: Option<Word>, span: Span, manner: Manner, inner: bool) -> Use
+    ensures { (n : Name) → result ≡ used_as (option_map (named n) word) inner span manner }
 {
     let counted = match manner {
         Manner::Run | Manner::Set => word,
@@ -72,8 +48,8 @@ pub(crate) fn use_of(
         span,
         runs: runs_of(counted),
         calls: called(counted),
-        settable: is_settable(word, name, manner),
-        leaving: leaving_of(name),
+        unsettable: is_unsettable(word, manner),
+        leaving: leaving_of(word),
         inner,
     }
 }
@@ -83,7 +59,7 @@ fn runs_of(word: Option<Word>) -> Kinds
 {
     match word {
         Some(word) => word.runs,
-        None => kinds(true, true, true, true),
+        None => everyone(),
     }
 }
 
@@ -99,26 +75,32 @@ fn called(word: Option<Word>) -> Option<u32>
     }
 }
 
-fn leaving_of(name: &[u8]) -> Leaving
-    ensures { result ≡ leaving_of name.now }
+fn leaving_of(word: Option<Word>) -> Leaving
+    ensures { result ≡ leaving_by (row_of_term (option_map (named []) word)) }
 {
-    if name == b"report".as_slice() {
-        Leaving::Report
-    } else if name == b"stop".as_slice() {
-        Leaving::Stop
-    } else {
-        Leaving::No
+    match word {
+        Some(word) => leaving(word.what),
+        None => Leaving::Stays,
     }
 }
 
-// Whether the variable may stand there: it isn't fixed and, where it is one of patches that is wanted, is such a one.
-fn is_settable(word: Option<Word>, name: &[u8], manner: Manner) -> bool
-    ensures { result ≡ settable_by (manner_of manner) (option_map (named []) word) name.now }
+// Whether the variable may not stand there: it is fixed or, where one of patches is wanted, it isn't such a one.
+fn is_unsettable(word: Option<Word>, manner: Manner) -> bool
+    ensures { result ≡ unsettable_by manner (option_map (named []) word) }
 {
     match manner {
-        Manner::Run => true,
-        Manner::Set => !is_fixed(name),
-        Manner::Spread => !is_fixed(name) && is_on_patches(word),
+        Manner::Run => false,
+        Manner::Set => is_fixed_row(word),
+        Manner::Spread => is_fixed_row(word) || !is_on_patches(word),
+    }
+}
+
+fn is_fixed_row(word: Option<Word>) -> bool
+    ensures { result ≡ fixed_by (row_of_term (option_map (named []) word)) }
+{
+    match word {
+        Some(word) => is_fixed(word.what),
+        None => false,
     }
 }
 

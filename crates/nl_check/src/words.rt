@@ -1,85 +1,69 @@
-//! What a word is, by its built-in word and its row.
-ghost use Rattle.std.specs.Prelude.{◌≡◌, ◌<◌, [], Bool, map, length, None, bytes_eq, codes, slice_get};
-ghost use Rattle.std.specs.List.{list_any};
-ghost use Rattle.std.specs.Option.{option_copied, option_map};
-ghost use Rattle.nl_tree.specs.Context.{name_of_row, base_name, runs_itself, makes_turtles, makes_links, is_operator, is_nearest, is_fixed, is_variable};
-ghost use Rattle.nl_words.specs.Row.{row_at};
-ghost use Rattle.nl_words.specs.Rows.{rows};
+//! What the table of built-in words says of a word of a model.
+ghost use Rattle.std.specs.Prelude.{◌≡◌, ◌<◌, [], None, option_map, slice_get};
+ghost use Rattle.nl_words.specs.Row.{row_of};
+ghost use Rattle.nl_tree.specs.Context.{row_of_what, runner_by, manner_by, fixed_by, leaving_by, is_same, is_operator, is_nearest};
+ghost use Rattle.nl_tree.specs.Index.{named};
 ghost use Rattle.nl_tree.specs.Tokens.{inputs_of};
-ghost use Rattle.nl_decl.specs.Words.{named};
 
 use nl_tree::{What, Word};
-use nl_words::{Input, Role, base_words};
+use nl_words::{Entry, Input, Leaving, Manner, Role, Runner, base_words};
 
-/// The name of the built-in word whose rule a word has: its own, or that of a breed's word without the breed. Any other has no such name.
-pub(crate) fn base_name(what: What) -> &'static str
-    ensures { result.now ≡ base_name what }
+// The entry of the built-in word whose rule a word has: its own, or that of a breed's word without the breed. Any other word has none.
+fn rule(what: What) -> Option<Entry>
+    ensures { option_map row_of result ≡ row_of_what what }
 {
+    let words = base_words();
     match what {
-        What::Base(code) | What::Made(_, code) => name_of(code),
-        What::Global(_) | What::Own(_) | What::Procedure(_) => "",
+        What::Base(code) | What::Made(_, code) => words.row(code).copied(),
+        What::Global(_) | What::Own(_) | What::Procedure(_) => None,
     }
 }
 
-// The built-in word with this code.
-fn name_of(code: u16) -> &'static str
-    ensures { result.now ≡ name_of_row (row_at rows code) }
+/// Who runs the word's blocks.
+pub(crate) fn runner(what: What) -> Runner
+    ensures { result ≡ runner_by (row_of_what what) }
 {
-    match base_words().row(code) {
-        Some(entry) => entry.name,
-        None => "",
+    match rule(what) {
+        Some(entry) => entry.blocks,
+        None => Runner::NoBlock,
     }
 }
 
-// Whether the name is one of these.
-fn is_among(name: &str, names: &[&str]) -> bool
-    ensures { result ≡ list_any (λ n. bytes_eq n.now name.now) names.now }
+/// Whether the agent that runs the word runs its blocks too.
+pub(crate) fn runs_itself(what: What) -> bool
+    ensures { result ≡ is_same (runner_by (row_of_what what)) }
 {
-    names.iter().any(|n| *n == name)
+    matches!(runner(what), Runner::Same)
 }
 
-/// Whether the same agent runs the word's blocks.
-pub(crate) fn runs_itself(word: &Word) -> bool
-    ensures { result ≡ runs_itself (named [] word.now) }
+/// How the variable stands there that the word names.
+pub(crate) fn manner(what: What) -> Manner
+    ensures { result ≡ manner_by (row_of_what what) }
 {
-    is_among(
-        base_name(word.what),
-        &["if", "ifelse", "ifelse-value", "loop", "repeat", "while"],
-    )
+    match rule(what) {
+        Some(entry) => entry.manner,
+        None => Manner::Run,
+    }
 }
 
-/// Whether new turtles run the word's block.
-pub(crate) fn makes_turtles(word: &Word) -> bool
-    ensures { result ≡ makes_turtles (named [] word.now) }
+/// Whether the word is a variable that no text sets.
+pub(crate) fn is_fixed(what: What) -> bool
+    ensures { result ≡ fixed_by (row_of_what what) }
 {
-    is_among(
-        base_name(word.what),
-        &[
-            "create-turtles",
-            "crt",
-            "create-ordered-turtles",
-            "cro",
-            "hatch",
-            "sprout",
-        ],
-    )
+    match rule(what) {
+        Some(entry) => entry.fixed,
+        None => false,
+    }
 }
 
-/// Whether new links run the word's block.
-pub(crate) fn makes_links(word: &Word) -> bool
-    ensures { result ≡ makes_links (named [] word.now) }
+/// Whether an agent leaves its procedure with the word.
+pub(crate) fn leaving(what: What) -> Leaving
+    ensures { result ≡ leaving_by (row_of_what what) }
 {
-    is_among(
-        base_name(word.what),
-        &[
-            "create-link-with",
-            "create-links-with",
-            "create-link-to",
-            "create-links-to",
-            "create-link-from",
-            "create-links-from",
-        ],
-    )
+    match rule(what) {
+        Some(entry) => entry.leaving,
+        None => Leaving::Stays,
+    }
 }
 
 /// Whether the word stands between its inputs.
@@ -94,29 +78,6 @@ pub(crate) fn is_nearest(role: Role) -> bool
     ensures { result ≡ is_nearest role }
 {
     matches!(role, Role::Operator(1))
-}
-
-/// Whether no text sets the variable of this name.
-pub(crate) fn is_fixed(name: &[u8]) -> bool
-    ensures { result ≡ is_fixed name.now }
-{
-    is_any(
-        name,
-        &[
-            b"who".as_slice(),
-            b"pxcor".as_slice(),
-            b"pycor".as_slice(),
-            b"end1".as_slice(),
-            b"end2".as_slice(),
-        ],
-    )
-}
-
-// Whether the bytes are those of one of these names.
-fn is_any(name: &[u8], names: &[&[u8]]) -> bool
-    ensures { result ≡ list_any (λ n. bytes_eq n.now name.now) names.now }
-{
-    names.iter().any(|n| *n == name)
 }
 
 /// What the word reads at a place: an input of its row or, after these, one of its further values; nothing past them.

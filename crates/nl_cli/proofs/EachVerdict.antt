@@ -3,35 +3,29 @@ use Rattle.std.proofs.Common.{◌≡◌, ◌⊎◌, inl, inr, ℕ, ◌+◌, Bool
 use Rattle.nl_scan.specs.declared.token.Token.{Token}
 use Rattle.nl_scan.specs.declared.token.ScanKind.{ScanKind}
 use Rattle.nl_scan.specs.CodePart.{code_of}
-use Rattle.nl_scan.specs.Tokens.{ScanFault, tokens_of}
+use Rattle.nl_scan.specs.Tokens.{start_of, ScanFault, tokens_of}
 use Rattle.nl_tree.specs.declared.declared.Declared.{Declared}
 use Rattle.nl_tree.specs.declared.declared.Form.TheVariants as form
 use Rattle.nl_tree.specs.declared.declared.Procedure.{Procedure}
-use Rattle.nl_tree.specs.BodyFault.{IsTextFault, TextFault, UnknownName, Unexpected, TooDeep}
-use Rattle.nl_tree.specs.Checked.{IsModelFault}
-use Rattle.nl_tree.specs.Context.{ContextFault, WrongContext, NotSettable, NoReport}
 use Rattle.nl_tree.specs.Tokens.{Lexeme}
 use Rattle.nl_tree.specs.Tree.{Node}
 use Rattle.nl_tree.specs.Vocabulary.{terms}
-use Rattle.nl_decl.specs.declared.declaration.Declaration.{Declaration}
-use Rattle.nl_decl.specs.declared.declaration.Mode.{Mode}
-use Rattle.nl_decl.specs.declared.declaration.Mode.TheVariants.{Between, Awaiting, Listing, Titling, Heading, Inside}
-use Rattle.nl_decl.specs.declared.declaration.Owner.TheVariants as owner
+use Rattle.nl_outline.specs.declared.declaration.Declaration.{Declaration}
+use Rattle.nl_outline.specs.declared.mode.Mode.{Mode}
+use Rattle.nl_outline.specs.declared.mode.Mode.TheVariants.{Between, Awaiting, Listing, Titling, Heading, Inside}
+use Rattle.nl_outline.specs.declared.declaration.Owner.TheVariants as owner
 use Rattle.nl_decl.specs.declared.refusal.DeclKind.{DeclKind}
 use Rattle.nl_decl.specs.Claims.{duplicate_in}
-use Rattle.nl_decl.specs.Declarations.{AreDeclarations, IsBadPlace}
+use Rattle.nl_outline.specs.Declarations.{AreDeclarations, IsBadPlace}
 use Rattle.nl_decl.specs.Gathered.{Gathers, breeds_in, globals_in, owned_in, procedures_in}
 use Rattle.nl_decl.specs.Outcome.{Declares}
-use Rattle.nl_decl.specs.Reading.{State, run}
-use Rattle.nl_decl.specs.Texts.{lexemes_of, plain_tokens}
-use Rattle.nl_decl.proofs.Begins.{bad_end}
-use Rattle.nl_decl.proofs.Lawful.{are_taken, or_place}
+use Rattle.nl_outline.specs.inner.Reading.{State, run}
+use Rattle.nl_text.specs.Texts.{lexemes_of, plain_tokens}
+use Rattle.nl_outline.proofs.Begins.{bad_end}
+use Rattle.nl_outline.proofs.Lawful.{are_taken, or_place}
 use Rattle.nl_grammar.proofs.Ends.{texts_are_good_or_faulty}
 use Rattle.nl_grammar.proofs.Good.{models_have_words}
-use Rattle.nl_parse.specs.Outcome.{kind_of}
-use Rattle.nl_parse.specs.declared.body.BodyKind.{BodyKind}
-use Rattle.nl_check.specs.Faults.{fault_of}
-use Rattle.nl_check.specs.declared.refusal.CheckKind.{CheckKind}
+use Rattle.nl_tree.specs.declared.faults.BodyKind.{BodyKind}
 use Rattle.nl_check.proofs.Either.{bodies_are_right_or_faulty}
 use Rattle.nl_cli.specs.Steps.{Goes, with_fault}
 use Rattle.nl_cli.specs.Limits.{file_limit}
@@ -40,8 +34,8 @@ use Rattle.nl_cli.specs.declared.words.Role.{Role}
 use Rattle.nl_cli.specs.declared.ends.End.{End}
 use Rattle.nl_cli.specs.declared.ends.Status.{Status}
 use Rattle.nl_cli.specs.declared.job.Job.{Job}
-use Rattle.nl_cli.specs.Words.{Names, names_of}
-use Rattle.nl_cli.specs.ModelFault.{AreBodies, IsAccepted, IsBody, IsCodeFault, IsFaultOfBodies, IsFaultOfBody, IsRead, body_of, span_by, start_at, text_of_body}
+use Rattle.nl_cli.specs.Words.{Paths, paths_of}
+use Rattle.nl_cli.specs.ModelFault.{AreBodies, IsAccepted, IsBody, IsCodeFault, IsFaultOfBodies, IsFaultOfBody, IsRead, body_of, span_by, text_of_body}
 use Rattle.nl_cli.specs.ModelForm.{FileSays, IsVerdict, ScannedSay, TokensSay, Verdict, fault_at, form as the_form, misfit, model_of_tokens}
 use Rattle.nl_cli.specs.ExperimentFile.{experiment_says}
 use Rattle.nl_cli.specs.Answer.{Answer, AnswersTo, Found, IsJob, answer_to, found_in, job_with, read, usage_line}
@@ -88,19 +82,12 @@ gathered_is ds = (refl, refl, refl, refl, refl, refl, refl)
 
 -- ---- bodies
 
-kind_for : (kind : TextFault) → (told : BodyKind) × (kind ≡ kind_of told)
-kind_for UnknownName = (BodyKind.UnknownName, refl)
-kind_for Unexpected = (BodyKind.Unexpected, refl)
-kind_for TooDeep = (BodyKind.TooDeep, refl)
-
 module _ (text : List ℕ) (tokens : List Token) (d : Declared) where
   body_or_fault : (p : Procedure) → ((tree : Node) × IsBody text tokens (terms d) p tree) ⊎ ((kind : BodyKind) × (place : ℕ) × IsFaultOfBody text tokens (terms d) p kind place)
   body_or_fault p =
       elim (texts_are_good_or_faulty form.Commands p.inputs (terms d) (plain_tokens text (body_of tokens p)) (span_by (slice_get tokens p.after)) (models_have_words d)) [
         | inl good ↦ inl good
-        | inr (k, kind, fault) ↦
-            let (told, same) = kind_for kind in
-            inr (told, start_at text tokens (p.first + k), (k, (subst (IsTextFault form.Commands p.inputs (terms d) (text_of_body text tokens p) k) same fault, refl)))
+        | inr (k, kind, fault) ↦ inr (kind, start_of text tokens (p.first + k), (k, (fault, refl)))
       ]
 
   bodies_or_fault : (ps : List Procedure) → ((trees : List Node) × AreBodies text tokens (terms d) ps trees) ⊎ ((kind : BodyKind) × (place : ℕ) × IsFaultOfBodies text tokens (terms d) ps kind place)
@@ -113,13 +100,6 @@ module _ (text : List ℕ) (tokens : List Token) (d : Declared) where
     ]
   ]
 
--- ---- who may run them
-
-check_for : (kind : ContextFault) → (told : CheckKind) × (kind ≡ fault_of told)
-check_for WrongContext = (CheckKind.WrongContext, refl)
-check_for NotSettable = (CheckKind.NotSettable, refl)
-check_for NoReport = (CheckKind.NoReport, refl)
-
 -- ---- code
 
 module _ (text : List ℕ) (tokens : List Token) where
@@ -129,9 +109,7 @@ module _ (text : List ℕ) (tokens : List Token) where
   by_check : (d : Declared) (bodies : List Node) → IsRead text tokens d bodies → AcceptedOrFaulty
   by_check d bodies read = elim (bodies_are_right_or_faulty d bodies (bodies_many text tokens (terms d) d.procedures bodies read.trees)) [
     | inl right ↦ inl (record { declared = d; bodies = bodies; read = read; right = right })
-    | inr (i, kind, span, fault) ↦
-        let (told, same) = check_for kind in
-        inr (ModelKind.Check told, span.start, (d, bodies, i, span, (read, subst (λ x. IsModelFault d bodies i x span) same fault, refl)))
+    | inr (i, kind, span, fault) ↦ inr (ModelKind.Check kind, span.start, (d, bodies, i, span, (read, fault, refl)))
   ]
 
   by_bodies : (d : Declared) → Declares (lexemes_of text tokens) [] d → AcceptedOrFaulty
@@ -142,12 +120,12 @@ module _ (text : List ℕ) (tokens : List Token) where
 
   by_duplicate : (ds : List Declaration) → AreDeclarations (lexemes_of text tokens) ds → (found : Option ℕ) → duplicate_in [] ds ≡ found → AcceptedOrFaulty
   by_duplicate ds are None is = by_bodies (gathered ds) (ds, (are, is, gathered_is ds))
-  by_duplicate ds are (Some k) is = inr (ModelKind.Declaration DeclKind.Duplicate, start_at text tokens k, (k, ((ds, (are, is)), refl)))
+  by_duplicate ds are (Some k) is = inr (ModelKind.Declaration DeclKind.Duplicate, start_of text tokens k, (k, ((ds, (are, is)), refl)))
 
 pub code_is_accepted_or_faulty : CodeIsAcceptedOrFaulty
 code_is_accepted_or_faulty text tokens = elim (by_run (lexemes_of text tokens) (run (lexemes_of text tokens)) refl) [
   | inl (ds, are) ↦ by_duplicate text tokens ds are (duplicate_in [] ds) refl
-  | inr (k, bad) ↦ inr (ModelKind.Declaration DeclKind.BadDeclaration, start_at text tokens k, (k, (bad, refl)))
+  | inr (k, bad) ↦ inr (ModelKind.Declaration DeclKind.BadDeclaration, start_of text tokens k, (k, (bad, refl)))
 ]
 
 -- ---- verdicts
@@ -185,9 +163,9 @@ jobs_are_there found =
     goes (with_fault End.Plan (experiment_says text)) (λ job. model_said model_text job) (λ fields.
     let (verdict, said) = files_have_verdicts model_text in (job_with fields verdict, (verdict, (said, refl))))))
 
-answers_to : (found : Names → Found) (names : Option Names) → (answer : Answer) × AnswersTo names found answer
+answers_to : (found : Paths → Found) (paths : Option Paths) → (answer : Answer) × AnswersTo paths found answer
 answers_to found None = (record { status = Status.Usage; bytes = []; line = usage_line }, refl)
-answers_to found (Some names) = let (job, is) = jobs_are_there (found names) in (answer_to names job, (job, (is, refl)))
+answers_to found (Some paths) = let (job, is) = jobs_are_there (found paths) in (answer_to paths job, (job, (is, refl)))
 
 pub words_have_answers : WordsHaveAnswers
-words_have_answers words folder = answers_to (λ names. found_in names folder) (names_of words)
+words_have_answers words folder = answers_to (λ paths. found_in paths folder) (paths_of words)

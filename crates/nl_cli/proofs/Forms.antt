@@ -1,12 +1,15 @@
 -- The tokens of a text against the form of a model.
-use Rattle.std.proofs.Common.{◌≡◌, ℕ, zero, suc, ◌+◌, ◌≤◌, ◌<◌, Bool, true, false, List, [], ◌∷◌, length, drop, map, get_or, Option, Some, None, slice_get, refl, sym, ap, ◌∙◌, arith, subst}
+use Rattle.std.proofs.Common.{◌≡◌, ℕ, zero, suc, ◌+◌, ◌≤◌, ◌<◌, Bool, true, false, List, [], ◌∷◌, length, drop, map, get_or, Option, Some, None, slice_get, Result, Ok, refl, sym, ap, ◌∙◌, arith, subst}
 use Rattle.std.proofs.lemmas.List.{drop_more, drop_all}
 use Rattle.std.proofs.lemmas.Option.{slice_get_within, get_or_from_slice_get}
 use Rattle.nl_scan.specs.declared.token.Token.{Token}
-use Rattle.nl_scan.specs.Tokens.{AreInOrder}
+use Rattle.nl_scan.specs.Texts.{bytes_of}
+use Rattle.nl_scan.specs.Tokens.{AreInOrder, tokens_of}
 use Rattle.nl_scan.proofs.Order.{AreInOrder-at}
 use Rattle.nl_cli.specs.declared.modelling.Slot.{Slot as CodeSlot}
-use Rattle.nl_cli.specs.ModelForm.{bytes_of, fits, misfit, slot_of}
+use Rattle.nl_cli.specs.declared.modelling.Walkers.{Walkers}
+use Rattle.nl_cli.specs.declared.fault.ModelRefusal.{ModelRefusal}
+use Rattle.nl_cli.specs.ModelForm.{CodeSays, ModelGives, ScannedSay, TokensSay, fits, misfit, slot_of}
 
 -- a token that is there lies in the text
 pub token_within : (text : List ℕ) (tokens : List Token) (at : ℕ) (token : Token) → AreInOrder 0 (length text) tokens
@@ -70,3 +73,13 @@ pub tokens_over : (text : List ℕ) (slots : List CodeSlot) (tokens : List Token
     → left_from text slots tokens at ≡ all → None ≡ all
 tokens_over text slots tokens at end all same over none so_far =
     let here = rw (same, slots_over slots end (omega arith), none_at tokens end none) at so_far in here
+
+-- ---- code
+
+-- what tokens say, the code says whose they are
+pub says_of_tokens : (code text : List ℕ) (tokens ts : List Token) (result : Result Walkers ModelRefusal) → tokens_of code ≡ Ok tokens → text ≡ code → ts ≡ tokens
+    → ModelGives (TokensSay text ts) result → ModelGives (CodeSays code) result
+says_of_tokens code text tokens ts result scanned same all says =
+    let of_code = subst (λ t. ModelGives (TokensSay t ts) result) same says in
+    let of_tokens = subst (λ xs. ModelGives (TokensSay code xs) result) all of_code in
+    subst (λ read. ModelGives (ScannedSay code read) result) (sym scanned) of_tokens

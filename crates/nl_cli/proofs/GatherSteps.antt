@@ -1,6 +1,7 @@
 -- Where the reading of the inputs ends, and what it gives.
-use Rattle.std.proofs.Common.{◌≡◌, ℕ, ◌≤◌, List, Option, Some, Result, Ok, Err, sym, ap, ◌∙◌, subst, arith}
+use Rattle.std.proofs.Common.{◌≡◌, ℕ, List, Option, Some, Result, Ok, Err, sym, ap, ◌∙◌, subst}
 use Rattle.std.specs.Option.{ForSome}
+use Rattle.nl_outer.specs.Faults.{Rose}
 use Rattle.nl_outer.specs.Folder.{Folder, read_of}
 use Rattle.nl_cli.specs.Limits.{file_limit}
 use Rattle.nl_cli.specs.declared.modelling.Walkers.{Walkers}
@@ -10,10 +11,10 @@ use Rattle.nl_cli.specs.declared.words.Role.{Role}
 use Rattle.nl_cli.specs.declared.ends.End.{End}
 use Rattle.nl_cli.specs.ModelForm.{Verdict, IsVerdict}
 use Rattle.nl_cli.specs.ExperimentFile.{experiment_says}
-use Rattle.nl_cli.specs.Words.{Names}
+use Rattle.nl_cli.specs.Words.{Paths}
 use Rattle.nl_cli.specs.Answer.{found_in, job_with, IsJob}
 use Rattle.nl_cli.specs.Outcome.{Asked}
-use Rattle.nl_cli.specs.Stages.{ExperimentSays, Gathers, ModelSays, Reads}
+use Rattle.nl_cli.specs.inner.Stages.{ExperimentSays, Gathers, ModelSays, Reads}
 use Rattle.nl_cli.proofs.CourseSteps.{all_said, experiment_bad, experiment_missing, model_missing}
 use Rattle.nl_cli.proofs.Reading.{IsRead-read_of, IsVerdict-take, experiment_says-take}
 
@@ -38,66 +39,70 @@ experiment_whole_says path bytes folder r read says =
     sym (experiment_says-take got.whole) ∙ sym (ap experiment_says got.first) ∙ says
 
 -- the model's read stops
-pub model_read_stops : (names : Names) (files : Asked) (end : End) → Reads Role.Model names.model files (Err end) → Gathers names files (Err end)
-model_read_stops names files (End.Read at) stopped =
-    rw stopped.0 (record { rose = stopped.1; named = sym stopped.2; turn = λ folder is. model_missing (found_in names folder) })
-model_read_stops names files End.Memory stopped = tt
-model_read_stops names files (End.Model _) stopped = absurd stopped
-model_read_stops names files (End.Plan _) stopped = absurd stopped
-model_read_stops names files End.Write stopped = absurd stopped
+pub model_read_stops : (paths : Paths) (files : Asked) (end : End) → Reads Role.Model paths.model files (Err end) → Gathers paths files (Err end)
+model_read_stops paths files (End.Read at) stopped =
+    rw stopped.0 (record { rose = stopped.1; named = sym stopped.2; turn = λ folder is. model_missing (found_in paths folder) })
+model_read_stops paths files End.Memory stopped = stopped
+model_read_stops paths files (End.Model _) stopped = absurd stopped
+model_read_stops paths files (End.Plan _) stopped = absurd stopped
+model_read_stops paths files End.Write stopped = absurd stopped
 
 -- the experiment's read stops
-pub experiment_read_stops : (names : Names) (before between after : ℕ) (last : List ℕ) (known now : Option Folder) (model : List ℕ) (end : End)
-    → before ≤ between → now ≡ known → Got names.model known model
-    → Reads Role.Experiment names.experiment (record { faults_before = between; faults_after = after; last_fault = last; folder = now }) (Err end)
-    → Gathers names (record { faults_before = before; faults_after = after; last_fault = last; folder = known }) (Err end)
-experiment_read_stops names before between after last known now model (End.Read at) later same got stopped =
+pub experiment_read_stops : (paths : Paths) (before between after : ℕ) (last : List ℕ) (known now : Option Folder) (model : List ℕ) (end : End)
+    → between ≡ before → now ≡ known → Got paths.model known model
+    → Reads Role.Experiment paths.experiment (record { faults_before = between; faults_after = after; last_fault = last; folder = now }) (Err end)
+    → Gathers paths (record { faults_before = before; faults_after = after; last_fault = last; folder = known }) (Err end)
+experiment_read_stops paths before between after last known now model (End.Read at) sound same got stopped =
     rw stopped.0 (record {
-      rose = omega (arith, stopped.1);
+      rose = subst (λ n. Rose n after) sound stopped.1;
       named = sym stopped.2;
-      turn = λ folder is. let read = IsRead-read_of names.model file_limit folder model (got folder is) in experiment_missing (found_in names folder) read.whole read.there;
+      turn = λ folder is. let read = IsRead-read_of paths.model file_limit folder model (got folder is) in experiment_missing (found_in paths folder) read.whole read.there;
     })
-experiment_read_stops names before between after last known now model End.Memory later same got stopped = tt
-experiment_read_stops names before between after last known now model (End.Model _) later same got stopped = absurd stopped
-experiment_read_stops names before between after last known now model (End.Plan _) later same got stopped = absurd stopped
-experiment_read_stops names before between after last known now model End.Write later same got stopped = absurd stopped
+experiment_read_stops paths before between after last known now model End.Memory sound same got stopped = stopped ∙ sound
+experiment_read_stops paths before between after last known now model (End.Model _) sound same got stopped = absurd stopped
+experiment_read_stops paths before between after last known now model (End.Plan _) sound same got stopped = absurd stopped
+experiment_read_stops paths before between after last known now model End.Write sound same got stopped = absurd stopped
 
 -- the experiment has a fault
-pub experiment_stops : (names : Names) (files : Asked) (model text : List ℕ) (end : End)
-    → Got names.model files.folder model → Got names.experiment files.folder text
-    → ExperimentSays text (Err end) → Gathers names files (Err end)
-experiment_stops names files model text (End.Plan fault) got_model got_text says = λ folder is.
-    let read_model = IsRead-read_of names.model file_limit folder model (got_model folder is) in
-    let read_text = IsRead-read_of names.experiment file_limit folder text (got_text folder is) in
-    experiment_bad (found_in names folder) read_model.whole read_text.whole fault read_model.there read_text.there (experiment_whole_says names.experiment text folder (Err fault) (got_text folder is) says)
-experiment_stops names files model text End.Memory got_model got_text says = tt
-experiment_stops names files model text (End.Read _) got_model got_text says = absurd says
-experiment_stops names files model text (End.Model _) got_model got_text says = absurd says
-experiment_stops names files model text End.Write got_model got_text says = absurd says
+pub experiment_stops : (paths : Paths) (files : Asked) (model text : List ℕ) (end : End) → files.faults_after ≡ files.faults_before
+    → Got paths.model files.folder model → Got paths.experiment files.folder text
+    → ExperimentSays text (Err end) → Gathers paths files (Err end)
+experiment_stops paths files model text (End.Plan fault) sound got_model got_text says = (
+  sound,
+  λ folder is.
+      let read_model = IsRead-read_of paths.model file_limit folder model (got_model folder is) in
+      let read_text = IsRead-read_of paths.experiment file_limit folder text (got_text folder is) in
+      experiment_bad (found_in paths folder) read_model.whole read_text.whole fault read_model.there read_text.there (experiment_whole_says paths.experiment text folder (Err fault) (got_text folder is) says),
+)
+experiment_stops paths files model text End.Memory sound got_model got_text says = sound
+experiment_stops paths files model text (End.Read _) sound got_model got_text says = absurd says
+experiment_stops paths files model text (End.Model _) sound got_model got_text says = absurd says
+experiment_stops paths files model text End.Write sound got_model got_text says = absurd says
 
 -- both inputs have said what they say
-both_said : (names : Names) (known : Option Folder) (model text : List ℕ) (fields : Fields) (verdict : Verdict)
-    → Got names.model known model → Got names.experiment known text
-    → experiment_says text ≡ Ok fields → IsVerdict model verdict → ForSome known (λ folder. IsJob (found_in names folder) (job_with fields verdict))
-both_said names known model text fields verdict got_model got_text said says folder is =
-    let read_model = IsRead-read_of names.model file_limit folder model (got_model folder is) in
-    let read_text = IsRead-read_of names.experiment file_limit folder text (got_text folder is) in
-    all_said (found_in names folder) read_model.whole read_text.whole fields verdict read_model.there read_text.there
-    (experiment_whole_says names.experiment text folder (Ok fields) (got_text folder is) said) (model_whole_says names.model model folder verdict (got_model folder is) says)
+both_said : (paths : Paths) (known : Option Folder) (model text : List ℕ) (fields : Fields) (verdict : Verdict)
+    → Got paths.model known model → Got paths.experiment known text
+    → experiment_says text ≡ Ok fields → IsVerdict model verdict → ForSome known (λ folder. IsJob (found_in paths folder) (job_with fields verdict))
+both_said paths known model text fields verdict got_model got_text said says folder is =
+    let read_model = IsRead-read_of paths.model file_limit folder model (got_model folder is) in
+    let read_text = IsRead-read_of paths.experiment file_limit folder text (got_text folder is) in
+    all_said (found_in paths folder) read_model.whole read_text.whole fields verdict read_model.there read_text.there
+    (experiment_whole_says paths.experiment text folder (Ok fields) (got_text folder is) said) (model_whole_says paths.model model folder verdict (got_model folder is) says)
 
 -- the model has a fault
-pub model_stops : (names : Names) (files : Asked) (model text : List ℕ) (fields : Fields) (end : End)
-    → Got names.model files.folder model → Got names.experiment files.folder text
-    → experiment_says text ≡ Ok fields → ModelSays model (Err end) → Gathers names files (Err end)
-model_stops names files model text fields (End.Model fault) got_model got_text said says = both_said names files.folder model text fields (Err fault) got_model got_text said says
-model_stops names files model text fields End.Memory got_model got_text said says = tt
-model_stops names files model text fields (End.Read _) got_model got_text said says = absurd says
-model_stops names files model text fields (End.Plan _) got_model got_text said says = absurd says
-model_stops names files model text fields End.Write got_model got_text said says = absurd says
+pub model_stops : (paths : Paths) (files : Asked) (model text : List ℕ) (fields : Fields) (end : End) → files.faults_after ≡ files.faults_before
+    → Got paths.model files.folder model → Got paths.experiment files.folder text
+    → experiment_says text ≡ Ok fields → ModelSays model (Err end) → Gathers paths files (Err end)
+model_stops paths files model text fields (End.Model fault) sound got_model got_text said says =
+    (sound, both_said paths files.folder model text fields (Err fault) got_model got_text said says)
+model_stops paths files model text fields End.Memory sound got_model got_text said says = sound
+model_stops paths files model text fields (End.Read _) sound got_model got_text said says = absurd says
+model_stops paths files model text fields (End.Plan _) sound got_model got_text said says = absurd says
+model_stops paths files model text fields End.Write sound got_model got_text said says = absurd says
 
 -- there is a job
-pub inputs_said : (names : Names) (known : Option Folder) (model text : List ℕ) (fields : Fields) (walkers : Walkers)
-    → Got names.model known model → Got names.experiment known text
+pub inputs_said : (paths : Paths) (known : Option Folder) (model text : List ℕ) (fields : Fields) (walkers : Walkers)
+    → Got paths.model known model → Got paths.experiment known text
     → experiment_says text ≡ Ok fields → IsVerdict model (Ok walkers)
-    → ForSome known (λ folder. IsJob (found_in names folder) (Ok (record { fields = fields; model = walkers })))
-inputs_said names known model text fields walkers got_model got_text said walks = both_said names known model text fields (Ok walkers) got_model got_text said walks
+    → ForSome known (λ folder. IsJob (found_in paths folder) (Ok (record { fields = fields; model = walkers })))
+inputs_said paths known model text fields walkers got_model got_text said walks = both_said paths known model text fields (Ok walkers) got_model got_text said walks

@@ -8,7 +8,7 @@ use Rattle.nl_cli.specs.Limits.{file_limit}
 use Rattle.nl_cli.specs.declared.words.Role.{Role}
 use Rattle.nl_cli.specs.declared.ends.End.{End}
 use Rattle.nl_cli.specs.declared.job.Job.{Job}
-use Rattle.nl_cli.specs.Words.{Names, names_of}
+use Rattle.nl_cli.specs.Words.{Paths, paths_of}
 use Rattle.nl_cli.specs.ModelForm.{FileSays, IsVerdict, ScannedSay, TokensSay, Verdict, fault_at}
 use Rattle.nl_cli.specs.ExperimentFile.{experiment_says}
 use Rattle.nl_cli.specs.Answer.{Answer, AnswersTo, Found, IsJob, answer_to, found_in, job_with, read}
@@ -44,9 +44,9 @@ jobs_are_unique found r s a b =
     (λ text is h k. goes_once (with_fault End.Plan (experiment_says text)) r s (model_said model_text r) (model_said model_text s)
     (λ fields is h k. h.1.1 ∙ ap (job_with fields) (verdicts_are_unique model_text h.0 k.0 h.1.0 k.1.0) ∙ sym k.1.1) h k) h k) a b
 
-answers_once : (found : Names → Found) (o : Option Names) (a b : Answer) → AnswersTo o found a → AnswersTo o found b → a ≡ b
+answers_once : (found : Paths → Found) (o : Option Paths) (a b : Answer) → AnswersTo o found a → AnswersTo o found b → a ≡ b
 answers_once found None a b h k = h ∙ sym k
-answers_once found (Some names) a b h k = h.1.1 ∙ ap (answer_to names) (jobs_are_unique (found names) h.0 k.0 h.1.0 k.1.0) ∙ sym k.1.1
+answers_once found (Some paths) a b h k = h.1.1 ∙ ap (answer_to paths) (jobs_are_unique (found paths) h.0 k.0 h.1.0 k.1.0) ∙ sym k.1.1
 
 pub answers_are_unique : AnswersAreUnique
-answers_are_unique words folder a b h k = answers_once (λ names. found_in names folder) (names_of words) a b h k
+answers_are_unique words folder a b h k = answers_once (λ paths. found_in paths folder) (paths_of words) a b h k

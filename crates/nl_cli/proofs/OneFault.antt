@@ -2,6 +2,7 @@
 use Rattle.std.proofs.Common.{◌≡◌, inl, inr, ℕ, ◌+◌, List, [], ◌∷◌, All, refl, sym, ap, ◌∙◌, subst}
 use Rattle.std.proofs.lemmas.List.Elements.{All-append, All-cons, All-nil}
 use Rattle.nl_scan.specs.declared.token.Token.{Token}
+use Rattle.nl_scan.specs.Tokens.{start_of}
 use Rattle.nl_tree.specs.declared.declared.Breed.{Breed}
 use Rattle.nl_tree.specs.declared.declared.Declared.{Declared}
 use Rattle.nl_tree.specs.declared.declared.Form.TheVariants as form
@@ -16,19 +17,17 @@ use Rattle.nl_decl.specs.declared.refusal.DeclKind.{DeclKind}
 use Rattle.nl_decl.specs.Claims.{duplicate_in}
 use Rattle.nl_decl.specs.Gathered.{Gathers}
 use Rattle.nl_decl.specs.Outcome.{Declares, IsFaultOf}
-use Rattle.nl_decl.specs.Texts.{lexemes_of, plain_tokens}
-use Rattle.nl_decl.proofs.Lawful.{one_place, or_place, unique}
-use Rattle.nl_decl.proofs.Meant.{tokens_are_plain}
-use Rattle.nl_parse.specs.Outcome.{kind_of}
-use Rattle.nl_parse.specs.declared.body.BodyKind.{BodyKind}
+use Rattle.nl_text.specs.Texts.{lexemes_of, plain_tokens}
+use Rattle.nl_outline.proofs.Lawful.{one_place, or_place, unique}
+use Rattle.nl_text.proofs.Meant.{tokens_are_plain}
+use Rattle.nl_tree.specs.declared.faults.BodyKind.{BodyKind}
 use Rattle.nl_grammar.proofs.Ends.{faults_are_unique, good_has_no_fault}
 use Rattle.nl_grammar.proofs.Taken.{trees_are_unique}
-use Rattle.nl_check.specs.Faults.{fault_of}
-use Rattle.nl_check.specs.declared.refusal.CheckKind.{CheckKind}
+use Rattle.nl_tree.specs.declared.faults.CheckKind.{CheckKind}
 use Rattle.nl_check.proofs.Firsts.{model_faults_are_unique, right_bodies_have_no_fault}
 use Rattle.nl_cli.specs.declared.fault.ModelKind.{ModelKind}
 use Rattle.nl_cli.specs.Laws.{AcceptedHasNoFault, CodeFaultsAreUnique}
-use Rattle.nl_cli.specs.ModelFault.{AreBodies, IsBody, IsCodeFault, IsFaultOfBodies, IsRead, body_of, start_at, text_of_body}
+use Rattle.nl_cli.specs.ModelFault.{AreBodies, IsBody, IsCodeFault, IsFaultOfBodies, IsRead, body_of, text_of_body}
 use Rattle.nl_cli.proofs.Programs.{tokens_of_body}
 
 -- ---- declarations
@@ -69,26 +68,15 @@ declared_once ls widgets d e h k =
 
 -- ---- bodies
 
-kind_of_same : (x y : BodyKind) → kind_of x ≡ kind_of y → x ≡ y
-kind_of_same BodyKind.UnknownName BodyKind.UnknownName h = refl
-kind_of_same BodyKind.UnknownName BodyKind.Unexpected h = cc
-kind_of_same BodyKind.UnknownName BodyKind.TooDeep h = cc
-kind_of_same BodyKind.Unexpected BodyKind.UnknownName h = cc
-kind_of_same BodyKind.Unexpected BodyKind.Unexpected h = refl
-kind_of_same BodyKind.Unexpected BodyKind.TooDeep h = cc
-kind_of_same BodyKind.TooDeep BodyKind.UnknownName h = cc
-kind_of_same BodyKind.TooDeep BodyKind.Unexpected h = cc
-kind_of_same BodyKind.TooDeep BodyKind.TooDeep h = refl
-
 -- the tokens of a body and its `end`
 all_of_body : (text : List ℕ) (tokens : List Token) (p : Procedure) → All plain.IsToken (plain_tokens text tokens) → All plain.IsToken (text_of_body text tokens p)
 all_of_body text tokens p all =
     All-append plain.IsToken (plain_tokens text (body_of tokens p)) _ (tokens_of_body text tokens p all) (All-cons plain.IsToken _ [] tt (All-nil plain.IsToken))
 
 good_body : (text : List ℕ) (tokens : List Token) (table : List Term) (p : Procedure) (tree : Node) (k : ℕ) (kind : BodyKind) → All plain.IsToken (plain_tokens text tokens)
-    → IsBody text tokens table p tree → IsTextFault form.Commands p.inputs table (text_of_body text tokens p) k (kind_of kind) → ⊥
+    → IsBody text tokens table p tree → IsTextFault form.Commands p.inputs table (text_of_body text tokens p) k kind → ⊥
 good_body text tokens table p tree k kind all good fault =
-    good_has_no_fault form.Commands p.inputs table (text_of_body text tokens p) tree k (kind_of kind) (all_of_body text tokens p all) good fault
+    good_has_no_fault form.Commands p.inputs table (text_of_body text tokens p) tree k kind (all_of_body text tokens p all) good fault
 
 -- each body has one tree
 bodies_unique : (text : List ℕ) (tokens : List Token) (table : List Term) (ps : List Procedure) (xs ys : List Node)
@@ -114,24 +102,13 @@ body_faults_unique : (text : List ℕ) (tokens : List Token) (table : List Term)
     → IsFaultOfBodies text tokens table ps x a → IsFaultOfBodies text tokens table ps y b → (x ≡ y) × (a ≡ b)
 body_faults_unique text tokens table [] x y a b all h k = absurd h
 body_faults_unique text tokens table (p ∷ ps) x y a b all (inl h) (inl k) =
-    let same = faults_are_unique form.Commands p.inputs table (text_of_body text tokens p) h.0 k.0 (kind_of x) (kind_of y) h.1.0 k.1.0 in
-    (kind_of_same x y same.1, h.1.1 ∙ ap (λ n. start_at text tokens (p.first + n)) same.0 ∙ sym k.1.1)
+    let same = faults_are_unique form.Commands p.inputs table (text_of_body text tokens p) h.0 k.0 x y h.1.0 k.1.0 in
+    (same.1, h.1.1 ∙ ap (λ n. start_of text tokens (p.first + n)) same.0 ∙ sym k.1.1)
 body_faults_unique text tokens table (p ∷ ps) x y a b all (inl h) (inr k) = absurd (good_body text tokens table p k.0.0 h.0 x all k.0.1 h.1.0)
 body_faults_unique text tokens table (p ∷ ps) x y a b all (inr h) (inl k) = absurd (good_body text tokens table p h.0.0 k.0 y all h.0.1 k.1.0)
 body_faults_unique text tokens table (p ∷ ps) x y a b all (inr h) (inr k) = body_faults_unique text tokens table ps x y a b all h.1 k.1
 
 -- ---- who may run them
-
-fault_of_same : (x y : CheckKind) → fault_of x ≡ fault_of y → x ≡ y
-fault_of_same CheckKind.WrongContext CheckKind.WrongContext h = refl
-fault_of_same CheckKind.WrongContext CheckKind.NotSettable h = cc
-fault_of_same CheckKind.WrongContext CheckKind.NoReport h = cc
-fault_of_same CheckKind.NotSettable CheckKind.WrongContext h = cc
-fault_of_same CheckKind.NotSettable CheckKind.NotSettable h = refl
-fault_of_same CheckKind.NotSettable CheckKind.NoReport h = cc
-fault_of_same CheckKind.NoReport CheckKind.WrongContext h = cc
-fault_of_same CheckKind.NoReport CheckKind.NotSettable h = cc
-fault_of_same CheckKind.NoReport CheckKind.NoReport h = refl
 
 -- two readings of code have the same bodies, and are both those of the first
 same_bodies : (text : List ℕ) (tokens : List Token) (d e : Declared) (xs ys : List Node) → IsRead text tokens d xs → IsRead text tokens e ys → ys ≡ xs
@@ -146,9 +123,9 @@ unfolding with_index made_of
 check_faults_unique text tokens x y p q (d, xs, i, a, (h, fault, at)) (e, ys, j, b, (k, other, there)) =
     let same = declared_once (lexemes_of text tokens) [] d e h.declares k.declares in
     let bodies = same_bodies text tokens d e xs ys h k in
-    let second : IsModelFault d xs j (fault_of y) b = subst (λ zs. IsModelFault d zs j (fault_of y) b) bodies (subst (λ (m : Declared). IsModelFault m ys j (fault_of y) b) same other) in
-    let found = model_faults_are_unique d xs i j (fault_of x) (fault_of y) a b fault second in
-    (fault_of_same x y found.1, at ∙ ap (λ s. s.start) found.2 ∙ sym there)
+    let second : IsModelFault d xs j y b = subst (λ zs. IsModelFault d zs j y b) bodies (subst (λ (m : Declared). IsModelFault m ys j y b) same other) in
+    let found = model_faults_are_unique d xs i j x y a b fault second in
+    (found.1, at ∙ ap (λ s. s.start) found.2 ∙ sym there)
 
 -- ---- code
 
@@ -173,7 +150,7 @@ no_declarations text tokens d kind place h fault = declared_has_no_fault (lexeme
 pub code_faults_are_unique : CodeFaultsAreUnique
 code_faults_are_unique text tokens scanned (ModelKind.Declaration x) (ModelKind.Declaration y) p q a b =
     let same = decl_faults_unique (lexemes_of text tokens) [] x y a.0 b.0 a.1.0 b.1.0 in
-    (ap ModelKind.Declaration same.0, a.1.1 ∙ ap (start_at text tokens) same.1 ∙ sym b.1.1)
+    (ap ModelKind.Declaration same.0, a.1.1 ∙ ap (start_of text tokens) same.1 ∙ sym b.1.1)
 code_faults_are_unique text tokens scanned (ModelKind.Body x) (ModelKind.Body y) p q a b =
     let same = bodies_faults_unique text tokens x y p q (tokens_are_plain text tokens scanned) a b in (ap ModelKind.Body same.0, same.1)
 code_faults_are_unique text tokens scanned (ModelKind.Check x) (ModelKind.Check y) p q a b =
@@ -200,7 +177,7 @@ accepted_has_no_fault text tokens scanned (ModelKind.Body kind) place h fault = 
 accepted_has_no_fault text tokens scanned (ModelKind.Check kind) place h (e, ys, i, span, (k, fault, at)) =
     let same = declared_once (lexemes_of text tokens) [] h.declared e h.read.declares k.declares in
     let bodies = same_bodies text tokens h.declared e h.bodies ys h.read k in
-    right_bodies_have_no_fault h.declared h.bodies i (fault_of kind) span h.right
-    (subst (λ zs. IsModelFault h.declared zs i (fault_of kind) span) bodies (subst (λ (m : Declared). IsModelFault m ys i (fault_of kind) span) same fault))
+    right_bodies_have_no_fault h.declared h.bodies i kind span h.right
+    (subst (λ zs. IsModelFault h.declared zs i kind span) bodies (subst (λ (m : Declared). IsModelFault m ys i kind span) same fault))
 accepted_has_no_fault text tokens scanned (ModelKind.Scan kind) place h fault = fault
 accepted_has_no_fault text tokens scanned ModelKind.NotBuilt place h fault = fault

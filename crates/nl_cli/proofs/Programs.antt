@@ -2,8 +2,9 @@
 use Rattle.std.proofs.Common.{◌≡◌, Result, Ok, Err, IfOk, OnOk, inl, inr, ℕ, zero, suc, ◌+◌, ◌-◌, ◌≤◌, ◌<◌, List, [], ◌∷◌, ◌++◌, length, take, drop, get_or, map, Some, slice_get, All, refl, sym, ap, ◌∙◌, subst, arith, codes}
 use Rattle.std.proofs.lemmas.List.{drop-map, drop_more, length-map, take-append-drop, take-map, take_all, take_more}
 use Rattle.std.proofs.lemmas.List.Elements.{All-drop, All-take}
-use Rattle.std.proofs.lemmas.Option.{get_or_from_slice_get, slice_get_read, slice_get_within}
+use Rattle.std.proofs.lemmas.Option.{get_or_from_slice_get, slice_get-get_or, slice_get_read, slice_get_within}
 use Rattle.nl_scan.specs.declared.token.Token.{Token}
+use Rattle.nl_scan.specs.Tokens.{IsTokenOf, tokens_of}
 use Rattle.nl_tree.specs.declared.declared.Declared.{Declared}
 use Rattle.nl_tree.specs.declared.declared.Procedure.{Procedure}
 use Rattle.nl_tree.specs.Checked.{BodiesFit, Checked}
@@ -13,12 +14,16 @@ use Rattle.nl_tree.specs.Tree.{Node}
 use Rattle.nl_tree.specs.Vocabulary.{terms}
 use Rattle.nl_decl.specs.Bodies.{LieFrom, place_of}
 use Rattle.nl_decl.specs.Outcome.{Declares}
-use Rattle.nl_decl.specs.Texts.{lexeme_of, lexemes_of, plain_token, plain_tokens}
-use Rattle.nl_parse.specs.declared.body.BodyKind.{BodyKind}
+use Rattle.nl_text.specs.Texts.{lexeme_of, lexemes_of, plain_token, plain_tokens}
+use Rattle.nl_tree.specs.declared.faults.BodyKind.{BodyKind}
 use Rattle.nl_cli.specs.declared.fault.ModelKind.{ModelKind}
 use Rattle.nl_cli.specs.declared.fault.ModelRefusal.{ModelRefusal}
 use Rattle.nl_cli.specs.ModelFault.{AreBodies, IsBody, IsFaultOfBodies, IsFaultOfBody, IsRead, body_of, span_by}
-use Rattle.nl_cli.specs.ProgramParts.{IsBodiesRefusal, IsBodyRefusal, IsCheckRefusal, IsCodeRefusal}
+use Rattle.nl_cli.specs.inner.ProgramParts.{IsBodiesRefusal, IsBodyRefusal, IsCheckRefusal, IsCodeRefusal}
+
+-- the tokens of a text are tokens of it
+pub tokens_of_text : (text : List ℕ) (tokens : List Token) → tokens_of text ≡ Ok tokens → All (IsTokenOf text) tokens
+tokens_of_text text tokens is = λ k d below. (tokens, k, is, slice_get-get_or tokens k d below)
 
 -- the tokens of a body are some of the text's
 pub tokens_of_body : (text : List ℕ) (tokens : List Token) (p : Procedure) → All plain.IsToken (plain_tokens text tokens) → All plain.IsToken (plain_tokens text (body_of tokens p))

@@ -1,9 +1,10 @@
 -- Puts, one after another.
-use Rattle.std.proofs.Common.{ℕ, List, [], ◌++◌, Option, Some, None, Result, Ok, Err, refl, ap, sym, arith, append_assoc, append-nil}
+use Rattle.std.proofs.Common.{ℕ, List, [], ◌++◌, Option, Some, None, Result, Ok, Err, refl, ap, sym, ◌∙◌, subst, append_assoc, append-nil}
 use Rattle.nl_outer.specs.Bytes.{Appended, PartAppended}
+use Rattle.nl_outer.specs.Faults.{Rose}
 use Rattle.nl_cli.specs.declared.ends.End.{End}
 use Rattle.nl_cli.specs.Outcome.{Given}
-use Rattle.nl_cli.specs.Stages.{Puts}
+use Rattle.nl_cli.specs.inner.Stages.{Puts}
 
 -- nothing was appended
 pub Appended-nothing : (a : Option (List ℕ)) → Appended a a []
@@ -39,7 +40,7 @@ PartAppended-nothing a x = record { kept = []; rest = x; whole = refl; appended 
 -- what stops a put stops what would follow
 pub Puts-stops : (sink : Given) (x y : List ℕ) (end : End) → Puts x sink (Err end) → Puts (x ++ y) sink (Err end)
 Puts-stops sink x y End.Write p = (p.0, PartAppended-less _ _ x y p.1)
-Puts-stops sink x y End.Memory p = PartAppended-less _ _ x y p
+Puts-stops sink x y End.Memory p = (p.0, PartAppended-less _ _ x y p.1)
 Puts-stops sink x y (End.Model _) p = p
 Puts-stops sink x y (End.Plan _) p = p
 Puts-stops sink x y (End.Read _) p = p
@@ -49,9 +50,9 @@ pub Puts-then : (f g h : ℕ) (a b c : Option (List ℕ)) (x y : List ℕ) (r : 
     → Puts x (record { faults_before = f; faults_after = g; before = a; after = b }) (Ok tt)
     → Puts y (record { faults_before = g; faults_after = h; before = b; after = c }) r
     → Puts (x ++ y) (record { faults_before = f; faults_after = h; before = a; after = c }) r
-Puts-then f g h a b c x y (Ok _) p q = (omega arith, Appended-more a b c x y p.1 q.1)
-Puts-then f g h a b c x y (Err End.Write) p q = (omega arith, PartAppended-more a b c x y p.1 q.1)
-Puts-then f g h a b c x y (Err End.Memory) p q = PartAppended-more a b c x y p.1 q
+Puts-then f g h a b c x y (Ok _) p q = (q.0 ∙ p.0, Appended-more a b c x y p.1 q.1)
+Puts-then f g h a b c x y (Err End.Write) p q = (subst (λ n. Rose n h) p.0 q.0, PartAppended-more a b c x y p.1 q.1)
+Puts-then f g h a b c x y (Err End.Memory) p q = (q.0 ∙ p.0, PartAppended-more a b c x y p.1 q.1)
 Puts-then f g h a b c x y (Err (End.Model _)) p q = q
 Puts-then f g h a b c x y (Err (End.Plan _)) p q = q
 Puts-then f g h a b c x y (Err (End.Read _)) p q = q

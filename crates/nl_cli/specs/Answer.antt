@@ -2,10 +2,9 @@
 use Rattle.std.specs.Prelude.{◌≡◌, ℕ, List, [], ◌∷◌, ◌++◌, codes, Option, Some, None, Result, Ok, Err}
 use Rattle.std.specs.Fmt.{decimal}
 use Rattle.nl_outer.specs.Folder.{Folder, content_of}
-use Rattle.nl_scan.specs.declared.token.ScanKind.{ScanKind}
-use Rattle.nl_decl.specs.declared.refusal.DeclKind.{DeclKind}
-use Rattle.nl_parse.specs.declared.body.BodyKind.{BodyKind}
-use Rattle.nl_check.specs.declared.refusal.CheckKind.{CheckKind}
+use Rattle.nl_scan.specs.Faults.{scan_kind_text}
+use Rattle.nl_tree.specs.FaultText.{body_kind_text, check_kind_text}
+use Rattle.nl_decl.specs.FaultText.{decl_kind_text}
 use Rattle.nl_cli.specs.Steps.{Goes, or_else, with_fault}
 use Rattle.nl_cli.specs.declared.words.Role.{Role}
 use Rattle.nl_cli.specs.declared.ends.End.{End}
@@ -16,7 +15,7 @@ use Rattle.nl_cli.specs.declared.fault.ModelFault.{ModelFault}
 use Rattle.nl_cli.specs.declared.planning.PlanKind.{PlanKind}
 use Rattle.nl_cli.specs.declared.planning.PlanFault.{PlanFault}
 use Rattle.nl_cli.specs.declared.planning.Fields.{Fields}
-use Rattle.nl_cli.specs.Words.{Names, names_of, path_of}
+use Rattle.nl_cli.specs.Words.{Paths, paths_of, path_of}
 use Rattle.nl_cli.specs.ModelForm.{Verdict, IsVerdict}
 use Rattle.nl_cli.specs.ExperimentFile.{experiment_says}
 use Rattle.nl_cli.specs.Course.{row_of}
@@ -26,8 +25,8 @@ use Rattle.nl_cli.specs.TableText.{header_text, row_text}
 abbrev pub Found : Type 0
 Found = Role → Option (List ℕ)
 
-abbrev pub found_in : Names → Folder → Found
-found_in names folder role = content_of (path_of names role) folder
+abbrev pub found_in : Paths → Folder → Found
+found_in paths folder role = content_of (path_of paths role) folder
 
 -- the same, but the read of this role fails
 abbrev pub without : Role → Found → Found
@@ -56,29 +55,20 @@ abbrev pub rows_text : ℕ → Job → List ℕ
 rows_text number job = row_text number (row_of job.model job.fields.steps job.fields.budget)
 
 -- the table of a job: the header, and the rows of its one run
-abbrev pub table_text : Names → Job → List ℕ
-table_text names job = header_text names.model job.fields.name ++ rows_text 1 job
+abbrev pub table_text : Paths → Job → List ℕ
+table_text paths job = header_text paths.model job.fields.name ++ rows_text 1 job
 
 -- pieces, one after another
 abbrev pub joined_text : List (List ℕ) → List ℕ
 joined_text [] = []
 joined_text (piece ∷ pieces) = piece ++ joined_text pieces
 
+-- the word of a kind, which is that of what was wrong
 abbrev pub model_kind_text : ModelKind → List ℕ
-model_kind_text (ModelKind.Scan ScanKind.TooLong) = codes "TooLong"
-model_kind_text (ModelKind.Scan ScanKind.NotText) = codes "NotText"
-model_kind_text (ModelKind.Scan ScanKind.BadChar) = codes "BadChar"
-model_kind_text (ModelKind.Scan ScanKind.OpenText) = codes "OpenText"
-model_kind_text (ModelKind.Scan ScanKind.BadEscape) = codes "BadEscape"
-model_kind_text (ModelKind.Scan ScanKind.BadNumber) = codes "BadNumber"
-model_kind_text (ModelKind.Declaration DeclKind.Duplicate) = codes "Duplicate"
-model_kind_text (ModelKind.Declaration DeclKind.BadDeclaration) = codes "BadDeclaration"
-model_kind_text (ModelKind.Body BodyKind.UnknownName) = codes "UnknownName"
-model_kind_text (ModelKind.Body BodyKind.Unexpected) = codes "Unexpected"
-model_kind_text (ModelKind.Body BodyKind.TooDeep) = codes "TooDeep"
-model_kind_text (ModelKind.Check CheckKind.WrongContext) = codes "WrongContext"
-model_kind_text (ModelKind.Check CheckKind.NotSettable) = codes "NotSettable"
-model_kind_text (ModelKind.Check CheckKind.NoReport) = codes "NoReport"
+model_kind_text (ModelKind.Scan kind) = scan_kind_text kind
+model_kind_text (ModelKind.Declaration kind) = decl_kind_text kind
+model_kind_text (ModelKind.Body kind) = body_kind_text kind
+model_kind_text (ModelKind.Check kind) = check_kind_text kind
 model_kind_text ModelKind.NotBuilt = codes "NotBuilt"
 
 -- `MODEL:L:C: KIND`
@@ -108,12 +98,12 @@ abbrev pub cannot_read : List ℕ → List ℕ
 cannot_read path = joined_text (codes "cannot read " ∷ path ∷ codes "\n" ∷ [])
 
 -- the line for an end
-abbrev pub line_of : Names → End → List ℕ
-line_of names (End.Model fault) = model_line names.model fault
-line_of names (End.Plan fault) = plan_line names.experiment fault
-line_of names (End.Read role) = cannot_read (path_of names role)
-line_of names End.Write = write_line
-line_of names End.Memory = memory_line
+abbrev pub line_of : Paths → End → List ℕ
+line_of paths (End.Model fault) = model_line paths.model fault
+line_of paths (End.Plan fault) = plan_line paths.experiment fault
+line_of paths (End.Read role) = cannot_read (path_of paths role)
+line_of paths End.Write = write_line
+line_of paths End.Memory = memory_line
 
 abbrev pub status_of : End → Status
 status_of (End.Model fault) = Status.Model
@@ -143,18 +133,18 @@ pub record Answer : Type 0 where
 abbrev pub read_answer : List ℕ → Answer
 read_answer path = record { status = Status.Read; bytes = []; line = cannot_read path }
 
-abbrev pub answer_to : Names → Result Job End → Answer
-answer_to names (Ok job) = record { status = Status.Done; bytes = table_text names job; line = [] }
-answer_to names (Err end) = record { status = status_of end; bytes = []; line = line_of names end }
+abbrev pub answer_to : Paths → Result Job End → Answer
+answer_to paths (Ok job) = record { status = Status.Done; bytes = table_text paths job; line = [] }
+answer_to paths (Err end) = record { status = status_of end; bytes = []; line = line_of paths end }
 
-abbrev pub AnswersTo : Option Names → (Names → Found) → Answer → Type 0
+abbrev pub AnswersTo : Option Paths → (Paths → Found) → Answer → Type 0
 AnswersTo None found answer = answer ≡ record { status = Status.Usage; bytes = []; line = usage_line }
-AnswersTo (Some names) found answer = (job : Result Job End) × (IsJob (found names) job × (answer ≡ answer_to names job))
+AnswersTo (Some paths) found answer = (job : Result Job End) × (IsJob (found paths) job × (answer ≡ answer_to paths job))
 
 -- the answer of a list of words over a folder, of which there is one at most
 abbrev pub IsAnswer : List (List ℕ) → Folder → Answer → Type 0
-IsAnswer words folder answer = AnswersTo (names_of words) (λ names. found_in names folder) answer
+IsAnswer words folder answer = AnswersTo (paths_of words) (λ paths. found_in paths folder) answer
 
 -- the same, where the read of one role fails
 abbrev pub IsAnswerWithout : Role → List (List ℕ) → Folder → Answer → Type 0
-IsAnswerWithout role words folder answer = AnswersTo (names_of words) (λ names. without role (found_in names folder)) answer
+IsAnswerWithout role words folder answer = AnswersTo (paths_of words) (λ paths. without role (found_in paths folder)) answer

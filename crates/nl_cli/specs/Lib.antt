@@ -3,11 +3,10 @@ pub mod Steps
 pub mod Words
 pub mod ModelFault
 pub mod ModelForm
-pub mod ProgramParts
 pub mod ExperimentFile
 pub mod Course
 pub mod TableText
 pub mod Answer
 pub mod Outcome
 pub mod Laws
-pub mod Stages
+pub mod inner

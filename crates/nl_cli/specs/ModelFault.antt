@@ -3,6 +3,7 @@
 use Rattle.std.specs.Prelude.{◌≡◌, ◌⊎◌, ℕ, ◌+◌, ◌-◌, List, [], ◌∷◌, ◌++◌, length, take, drop, Option, Some, None, slice_get}
 use Rattle.nl_fixed.specs.declared.span.Span.{Span}
 use Rattle.nl_scan.specs.declared.token.Token.{Token}
+use Rattle.nl_scan.specs.Tokens.{start_of}
 use Rattle.nl_tree.specs.declared.declared.Declared.{Declared}
 use Rattle.nl_tree.specs.declared.declared.Form.TheVariants as form
 use Rattle.nl_tree.specs.declared.declared.Procedure.{Procedure}
@@ -13,19 +14,9 @@ use Rattle.nl_tree.specs.Tokens as plain
 use Rattle.nl_tree.specs.Tree.{Node}
 use Rattle.nl_tree.specs.Vocabulary.{terms}
 use Rattle.nl_decl.specs.Outcome.{Declares, IsFaultOf}
-use Rattle.nl_decl.specs.Texts.{lexemes_of, plain_tokens}
-use Rattle.nl_parse.specs.Outcome.{kind_of}
-use Rattle.nl_parse.specs.declared.body.BodyKind.{BodyKind}
-use Rattle.nl_check.specs.Faults.{fault_of}
+use Rattle.nl_text.specs.Texts.{lexemes_of, plain_tokens}
+use Rattle.nl_tree.specs.declared.faults.BodyKind.{BodyKind}
 use Rattle.nl_cli.specs.declared.fault.ModelKind.{ModelKind}
-
--- the byte at which the token at a place begins, or where there is none, the text's end
-abbrev pub start_by : List ℕ → Option Token → ℕ
-start_by text (Some token) = token.span.start
-start_by text None = length text
-
-abbrev pub start_at : List ℕ → List Token → ℕ → ℕ
-start_at text tokens at = start_by text (slice_get tokens at)
 
 -- the tokens of a procedure's body
 abbrev pub body_of : List Token → Procedure → List Token
@@ -46,7 +37,7 @@ IsBody text tokens table p tree = IsGood form.Commands p.inputs table (text_of_b
 -- the first fault of a procedure's body, and the byte at which it stands
 abbrev pub IsFaultOfBody : List ℕ → List Token → List Term → Procedure → BodyKind → ℕ → Type 0
 IsFaultOfBody text tokens table p kind place =
-    (k : ℕ) × (IsTextFault form.Commands p.inputs table (text_of_body text tokens p) k (kind_of kind) × (place ≡ start_at text tokens (p.first + k)))
+    (k : ℕ) × (IsTextFault form.Commands p.inputs table (text_of_body text tokens p) k kind × (place ≡ start_of text tokens (p.first + k)))
 
 -- these trees are those of the procedures' bodies, in the order of the text
 abbrev pub AreBodies : List ℕ → List Token → List Term → List Procedure → List Node → Type 0
@@ -70,12 +61,12 @@ pub record IsRead (text : List ℕ) (tokens : List Token) (declared : Declared) 
 -- and where they can all be read, that of who may run them, what they set, and where they report and stop.
 abbrev pub IsCodeFault : List ℕ → List Token → ModelKind → ℕ → Type 0
 IsCodeFault text tokens (ModelKind.Declaration kind) place =
-    (k : ℕ) × (IsFaultOf (lexemes_of text tokens) [] kind k × (place ≡ start_at text tokens k))
+    (k : ℕ) × (IsFaultOf (lexemes_of text tokens) [] kind k × (place ≡ start_of text tokens k))
 IsCodeFault text tokens (ModelKind.Body kind) place =
     (d : Declared) × (Declares (lexemes_of text tokens) [] d × IsFaultOfBodies text tokens (terms d) d.procedures kind place)
 IsCodeFault text tokens (ModelKind.Check kind) place =
     (d : Declared) × (bodies : List Node) × (i : ℕ) × (span : Span)
-    × (IsRead text tokens d bodies × IsModelFault d bodies i (fault_of kind) span × (place ≡ span.start))
+    × (IsRead text tokens d bodies × IsModelFault d bodies i kind span × (place ≡ span.start))
 IsCodeFault text tokens (ModelKind.Scan kind) place = ⊥
 IsCodeFault text tokens ModelKind.NotBuilt place = ⊥
 

@@ -8,7 +8,9 @@ use Rattle.nl_scan.specs.declared.token.Token.{Token}
 use Rattle.nl_scan.specs.declared.token.ScanKind.{ScanKind}
 use Rattle.nl_scan.specs.CodePart.{code_of}
 use Rattle.nl_scan.specs.Place.{line_and_column}
-use Rattle.nl_scan.specs.Tokens.{ScanFault, tokens_of}
+use Rattle.nl_scan.specs.Faults.{ScanFault}
+use Rattle.nl_scan.specs.Texts.{bytes_of}
+use Rattle.nl_scan.specs.Tokens.{tokens_of}
 use Rattle.nl_cli.specs.declared.modelling.Walkers.{Walkers}
 use Rattle.nl_cli.specs.declared.fault.ModelKind.{ModelKind}
 use Rattle.nl_cli.specs.declared.fault.ModelFault.{ModelFault}
@@ -63,10 +65,6 @@ number_of bytes =
 abbrev pub is_some_number : Option ℕ → Bool
 is_some_number (Some n) = true
 is_some_number None = false
-
--- the bytes of a token
-abbrev pub bytes_of : List ℕ → Token → List ℕ
-bytes_of text token = take token.span.len (drop token.span.start text)
 
 -- the same word in lower case
 abbrev pub is_word_in_any_case : List ℕ → List ℕ → Bool

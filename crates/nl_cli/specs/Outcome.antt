@@ -1,22 +1,24 @@
 -- What a call of the program did, by the status that it ended with.
-use Rattle.std.specs.Prelude.{◌≡◌, ◌⊎◌, ℕ, List, [], Option, Some, None}
+use Rattle.std.specs.Prelude.{◌≡◌, ◌⊎◌, ℕ, [], Option, Some, None}
 use Rattle.std.specs.Option.{ForSome, option_map}
 use Rattle.nl_outer.specs.Bytes.{Appended, PartAppended}
 use Rattle.nl_outer.specs.Faults.{Rose}
+use Rattle.nl_fixed.specs.Nouns.{Bytes}
 use Rattle.nl_outer.specs.Folder.{Folder}
+use Rattle.nl_outer.specs.Nouns.{Path, Words}
 use Rattle.nl_cli.specs.declared.words.Role.{Role}
 use Rattle.nl_cli.specs.declared.ends.Status.{Status}
-use Rattle.nl_cli.specs.Words.{names_of, path_of}
+use Rattle.nl_cli.specs.Words.{paths_of, path_of}
 use Rattle.nl_cli.specs.Answer.{Answer, IsAnswer, IsAnswerWithout, read_answer, cannot_read, usage_line, memory_line, write_line}
 
 -- what a call left of the files that it was handed
 pub record Asked : Type 0 where
   pub faults_before : ℕ
   pub faults_after : ℕ
-  pub last_fault : List ℕ
+  pub last_fault : Path
   pub folder : Option Folder
 
-abbrev pub asked : {F : Type 0} → (F → ℕ) → (F → List ℕ) → (F → Option Folder) → F → F → Asked
+abbrev pub asked : {F : Type 0} → (F → ℕ) → (F → Path) → (F → Option Folder) → F → F → Asked
 asked faults last_fault folder old new =
     record { faults_before = faults old; faults_after = faults new; last_fault = last_fault new; folder = folder old }
 
@@ -24,63 +26,72 @@ asked faults last_fault folder old new =
 pub record Given : Type 0 where
   pub faults_before : ℕ
   pub faults_after : ℕ
-  pub before : Option (List ℕ)
-  pub after : Option (List ℕ)
+  pub before : Option Bytes
+  pub after : Option Bytes
 
-abbrev pub given : {S : Type 0} → (S → ℕ) → (S → Option (List ℕ)) → S → S → Given
+abbrev pub given : {S : Type 0} → (S → ℕ) → (S → Option Bytes) → S → S → Given
 given faults written old new =
     record { faults_before = faults old; faults_after = faults new; before = written old; after = written new }
 
 -- the sink was given these bytes, or a prefix of them where its count of faults rose
-abbrev pub Gets : List ℕ → Given → Type 0
+abbrev pub Gets : Bytes → Given → Type 0
 Gets line sink = Appended sink.before sink.after line
     ⊎ (Rose sink.faults_before sink.faults_after × PartAppended sink.before sink.after line)
 
 -- the status, the bytes and the line are those of the answer
-pub record Answered (words : List (List ℕ)) (folder : Folder) (out err : Given) (status : Status) : Type 0 where
+pub record Answered (words : Words) (folder : Folder) (out err : Given) (status : Status) : Type 0 where
   pub answer : Answer
   pub is_answer : IsAnswer words folder answer
   pub same_status : status ≡ answer.status
   pub bytes : Appended out.before out.after answer.bytes
   pub line : Gets answer.line err
 
--- a read failed at a file whose turn had come: were that read to fail, the answer would be this one
-pub record ReadFailed (words : List (List ℕ)) (files : Asked) (out err : Given) : Type 0 where
+-- a read failed of the file of a role whose turn had come: were that read to fail, the answer would be this one
+pub record FailedInTurn (words : Words) (files : Asked) : Type 0 where
   pub rose : Rose files.faults_before files.faults_after
-  pub nothing : Appended out.before out.after []
   pub role : Role
-  pub named : option_map (λ names. path_of names role) (names_of words) ≡ Some files.last_fault
+  pub named : option_map (λ paths. path_of paths role) (paths_of words) ≡ Some files.last_fault
   pub turn : ForSome files.folder (λ folder. IsAnswerWithout role words folder (read_answer files.last_fault))
+
+-- such a read ended the call
+pub record ReadFailed (words : Words) (files : Asked) (out err : Given) : Type 0 where
+  pub read : FailedInTurn words files
+  pub nothing : Appended out.before out.after []
   pub line : Gets (cannot_read files.last_fault) err
 
 -- a part of the answer's bytes was put
-pub record Begun (words : List (List ℕ)) (folder : Folder) (out : Given) : Type 0 where
+pub record Begun (words : Words) (folder : Folder) (out : Given) : Type 0 where
   pub answer : Answer
   pub is_answer : IsAnswer words folder answer
   pub is_done : answer.status ≡ Status.Done
   pub part : PartAppended out.before out.after answer.bytes
 
 -- a write failed, at a table that is defined
-pub record WriteFailed (words : List (List ℕ)) (files : Asked) (out err : Given) : Type 0 where
+pub record WriteFailed (words : Words) (files : Asked) (out err : Given) : Type 0 where
   pub rose : Rose out.faults_before out.faults_after
   pub bytes : ForSome files.folder (λ folder. Begun words folder out)
   pub line : Gets write_line err
 
--- memory was refused, before anything was put or behind a part of a table that is defined
-pub record MemoryWanted (words : List (List ℕ)) (files : Asked) (out err : Given) : Type 0 where
+-- Memory was refused, before anything was put or behind a part of a table that is defined. No put had failed, and no read, but where it was
+-- refused for the line that tells of one.
+pub record MemoryWanted (words : Words) (files : Asked) (out err : Given) : Type 0 where
+  pub read : (files.faults_after ≡ files.faults_before) ⊎ FailedInTurn words files
+  pub put : out.faults_after ≡ out.faults_before
   pub bytes : ForSome files.folder (λ folder. Appended out.before out.after [] ⊎ Begun words folder out)
   pub line : Gets memory_line err
 
 -- what the call did, by its status
-abbrev pub Outcome : List (List ℕ) → Asked → Given → Given → Status → Type 0
+abbrev pub Outcome : Words → Asked → Given → Given → Status → Type 0
 Outcome words files out err Status.Read = ReadFailed words files out err
 Outcome words files out err Status.Write = WriteFailed words files out err
 Outcome words files out err Status.Memory = MemoryWanted words files out err
-Outcome words files out err Status.Usage = (names_of words ≡ None) × Appended out.before out.after [] × Gets usage_line err
-Outcome words files out err status = ForSome files.folder (λ folder. Answered words folder out err status)
+Outcome words files out err Status.Usage = (paths_of words ≡ None) × Appended out.before out.after [] × Gets usage_line err
+Outcome words files out err Status.Done = ForSome files.folder (λ folder. Answered words folder out err Status.Done)
+Outcome words files out err status =
+    Appended out.before out.after [] × ForSome files.folder (λ folder. Answered words folder out err status)
 
 -- where an answer over the folder is Done and neither reads nor writes fail, the status is Done, or memory was refused
-abbrev pub Complete : List (List ℕ) → Asked → Given → Status → Type 0
+abbrev pub Complete : Words → Asked → Given → Status → Type 0
 Complete words files out status = ForSome files.folder (λ folder. (answer : Answer) → IsAnswer words folder answer → answer.status ≡ Status.Done
     → ¬ Rose files.faults_before files.faults_after → ¬ Rose out.faults_before out.faults_after
     → (status ≡ Status.Done) ⊎ (status ≡ Status.Memory))

@@ -63,20 +63,10 @@ impl fmt::Display for ModelKind {
 
     fn fmt<W: fmt::Write>(&self, f: &mut fmt::Formatter<W>) -> fmt::Result {
         match self {
-            ModelKind::Scan(ScanKind::TooLong) => write!(f, "TooLong"),
-            ModelKind::Scan(ScanKind::NotText) => write!(f, "NotText"),
-            ModelKind::Scan(ScanKind::BadChar) => write!(f, "BadChar"),
-            ModelKind::Scan(ScanKind::OpenText) => write!(f, "OpenText"),
-            ModelKind::Scan(ScanKind::BadEscape) => write!(f, "BadEscape"),
-            ModelKind::Scan(ScanKind::BadNumber) => write!(f, "BadNumber"),
-            ModelKind::Declaration(DeclKind::Duplicate) => write!(f, "Duplicate"),
-            ModelKind::Declaration(DeclKind::BadDeclaration) => write!(f, "BadDeclaration"),
-            ModelKind::Body(BodyKind::UnknownName) => write!(f, "UnknownName"),
-            ModelKind::Body(BodyKind::Unexpected) => write!(f, "Unexpected"),
-            ModelKind::Body(BodyKind::TooDeep) => write!(f, "TooDeep"),
-            ModelKind::Check(CheckKind::WrongContext) => write!(f, "WrongContext"),
-            ModelKind::Check(CheckKind::NotSettable) => write!(f, "NotSettable"),
-            ModelKind::Check(CheckKind::NoReport) => write!(f, "NoReport"),
+            ModelKind::Scan(kind) => write!(f, "{kind}"),
+            ModelKind::Declaration(kind) => write!(f, "{kind}"),
+            ModelKind::Body(kind) => write!(f, "{kind}"),
+            ModelKind::Check(kind) => write!(f, "{kind}"),
             ModelKind::NotBuilt => write!(f, "NotBuilt"),
         }
     }

@@ -2,15 +2,15 @@
 ghost use Rattle.std.specs.Prelude.{◌≡◌, ◌≤◌, ◌+◌, length, true, IfOk};
 ghost use Rattle.nl_cli.specs.Limits.{file_limit};
 ghost use Rattle.nl_cli.specs.Outcome.{asked};
-ghost use Rattle.nl_cli.specs.Stages.{ExperimentSays, Gathers, IsSmall, ModelSays, Reads};
-ghost use Rattle.nl_cli.specs.Words.{AllServed, names_in};
+ghost use Rattle.nl_cli.specs.inner.Stages.{ExperimentSays, Gathers, IsSmall, ModelSays, Reads};
+ghost use Rattle.nl_cli.specs.Words.{AllServed, paths_in};
 
 use crate::FILE_LIMIT;
 use crate::ends::End;
 use crate::fault::ModelRefusal;
 use crate::modelling::{Walkers, read_model};
 use crate::planning::{Fields, PlanRefusal, read_experiment};
-use crate::words::{Named, Role};
+use crate::words::{Paths, Role};
 use nl_outer::{Files, ReadFail};
 use std::alloc::Global;
 
@@ -29,7 +29,8 @@ pub(crate) fn read_input<F: Files>(
     path: &str,
 ) -> Result<Vec<u8>, End>
     requires { F.serves files.old path.now ≡ true }
-    ensures outcome { Reads role path.now (asked F.faults F.last_fault F.folder files.old files.new) result }
+    ensures outcome { Reads role path.now
+        (asked F.faults F.last_fault F.folder files.old files.new) result }
     ensures later { F.faults files.old ≤ F.faults files.new }
     ensures same_folder { F.folder files.new ≡ F.folder files.old }
     ensures same_paths { F.serves files.new ≡ F.serves files.old }
@@ -64,12 +65,13 @@ fn model_of(alloc: Global, text: &[u8]) -> Result<Walkers, End>
 }
 
 /// Reads the inputs, and says what they say.
-pub fn gather<F: Files>(alloc: Global, named: &Named<'_>, files: &mut F) -> Result<Job, End>
-    requires { AllServed (F.serves files.old) (names_in named.now) }
-    ensures { Gathers (names_in named.now) (asked F.faults F.last_fault F.folder files.old files.new) result }
+pub fn gather<F: Files>(alloc: Global, paths: &Paths<'_>, files: &mut F) -> Result<Job, End>
+    requires { AllServed (F.serves files.old) (paths_in paths.now) }
+    ensures { Gathers (paths_in paths.now)
+        (asked F.faults F.last_fault F.folder files.old files.new) result }
 {
-    let model_text = read_input(alloc, files, Role::Model, named.model)?;
-    let experiment_text = read_input(alloc, files, Role::Experiment, named.experiment)?;
+    let model_text = read_input(alloc, files, Role::Model, paths.model)?;
+    let experiment_text = read_input(alloc, files, Role::Experiment, paths.experiment)?;
     let fields = fields_of(alloc, experiment_text.as_slice())?;
     let model = model_of(alloc, model_text.as_slice())?;
     Ok(Job { fields, model })

@@ -15,7 +15,9 @@ mod top;
 mod words;
 
 pub use ends::Status;
+pub use fault::{ModelFault, ModelKind, ModelRefusal};
 use nl_scan::TEXT_LIMIT;
+pub use program::read_program;
 pub use top::run;
 
 /// A model or an experiment of more bytes is refused.

@@ -1,13 +1,12 @@
 //! The form of a model that runs today.
-ghost use Rattle.std.specs.Prelude.{◌≡◌, ◌≤◌, ◌+◌, ◌<◌, Ok, length, IfSome, IfOk, slice_get, map};
-ghost use Rattle.nl_scan.specs.Tokens.{AreInOrder, tokens_of};
+ghost use Rattle.std.specs.Prelude.{◌≡◌, ◌≤◌, ◌+◌, ◌<◌, length, IfSome, IfOk, slice_get, map};
 ghost use Rattle.nl_cli.specs.Limits.{file_limit};
-ghost use Rattle.nl_cli.specs.ModelForm.{CodeSays, IsVerdict, ModelGives, TokensSay, bytes_of, fits, form, misfit, model_of_tokens, number_at, number_of, slot_of, is_word_in_any_case};
+ghost use Rattle.nl_cli.specs.ModelForm.{CodeSays, IsVerdict, ModelGives, TokensSay, fits, form, is_word_in_any_case, misfit, model_of_tokens, number_at, number_of, slot_of};
 
 use crate::FILE_LIMIT;
 use crate::fault::{ModelKind, ModelRefusal, refusal_at};
 use crate::program::read_program;
-use nl_scan::{Lexeme, ScanKind, ScanRefusal, Token, Tokens, code_part, scan};
+use nl_scan::{Lexeme, ScanKind, ScanRefusal, Source, Token, bytes_of, code_part, scan};
 use std::alloc::Global;
 
 /// A model of the form: how many turtles `setup` makes, and how far `go` moves each.
@@ -58,15 +57,6 @@ fn token_at(tokens: &[Token], at: usize) -> Option<Token>
     tokens.get(at).copied()
 }
 
-// The bytes of a token.
-fn token_bytes<'a>(text: &'a [u8], token: &Token) -> &'a [u8]
-    requires { token.now.span.start + token.now.span.len ≤ length text.now }
-    ensures { result.now ≡ bytes_of text.now token.now }
-{
-    let start = token.span.start as usize;
-    &text[start..start + token.span.len as usize]
-}
-
 // The number of a word of one to four digits, where it is at most 1,000.
 fn word_number(bytes: &[u8]) -> Option<u64>
     ensures is { result ≡ number_of bytes.now }
@@ -106,75 +96,67 @@ fn is_fitting(slot: &Slot, lexeme: Lexeme, bytes: &[u8]) -> bool
 }
 
 // The byte at which the first token stands that the slots have no place for, or of none the text's end.
-fn misfit_in(slots: &[Slot], text: &[u8], tokens: &[Token]) -> Option<u32>
-    requires few { length slots.now < 100 }
-    requires short { length text.now ≤ file_limit + 1 }
-    requires order { AreInOrder 0 (length text.now) tokens.now }
-    ensures { result ≡ misfit text.now (map slot_of slots.now) tokens.now }
+fn misfit_in(slots: &[Slot], source: &Source<'_>) -> Option<u32>
+    requires { length slots.now < 100 }
+    ensures { result ≡ misfit source.now.text.now (map slot_of slots.now) source.now.tokens.now }
 {
     'slots: for (at, slot) in slots.iter().enumerate() {
-        let Some(token) = token_at(tokens, at) else {
-            return Some(text.len() as u32);
+        let Some(token) = token_at(source.tokens, at) else {
+            return Some(source.text.len() as u32);
         };
-        if !is_fitting(slot, token.lexeme, token_bytes(text, &token)) {
+        if !is_fitting(slot, token.lexeme, bytes_of(source.text, &token)) {
             return Some(token.span.start);
         }
     }
-    match token_at(tokens, slots.len()) {
+    match token_at(source.tokens, slots.len()) {
         Some(token) => Some(token.span.start),
         None => None,
     }
 }
 
 // The same against the form.
-fn first_misfit(text: &[u8], tokens: &[Token]) -> Option<u32>
-    requires short { length text.now ≤ file_limit + 1 }
-    requires order { AreInOrder 0 (length text.now) tokens.now }
-    ensures { result ≡ misfit text.now form tokens.now }
+fn first_misfit(source: &Source<'_>) -> Option<u32>
+    ensures { result ≡ misfit source.now.text.now form source.now.tokens.now }
 {
-    misfit_in(&FORM, text, tokens)
+    misfit_in(&FORM, source)
 }
 
 // The number at a place of the form.
-fn number_in(text: &[u8], tokens: &[Token], at: usize) -> u64
-    requires { AreInOrder 0 (length text.now) tokens.now }
-    ensures is { result ≡ number_at text.now tokens.now at }
+fn number_in(source: &Source<'_>, at: usize) -> u64
+    ensures is { result ≡ number_at source.now.text.now source.now.tokens.now at }
     ensures small { result ≤ 1000 }
 {
-    match token_at(tokens, at) {
-        Some(token) => word_number(token_bytes(text, &token)).unwrap_or(0),
+    match token_at(source.tokens, at) {
+        Some(token) => word_number(bytes_of(source.text, &token)).unwrap_or(0),
         None => 0,
     }
 }
 
-// The model that tokens of the form are, or where they leave it.
-fn read_form(text: &[u8], tokens: &[Token]) -> Result<Walkers, ModelRefusal>
-    requires short { length text.now ≤ file_limit + 1 }
-    requires order { AreInOrder 0 (length text.now) tokens.now }
-    ensures says { ModelGives (λ verdict. verdict ≡ model_of_tokens text.now tokens.now (misfit text.now form tokens.now)) result }
+// The model that a code of the form is, or where it leaves the form.
+fn read_form(source: &Source<'_>) -> Result<Walkers, ModelRefusal>
+    ensures says { ModelGives (λ verdict.
+        verdict ≡ model_of_tokens source.now.text.now source.now.tokens.now
+        (misfit source.now.text.now form source.now.tokens.now)) result }
     ensures few { IfOk result (λ model. model.births ≤ 1000) }
     ensures near { IfOk result (λ model. model.distance ≤ 1000) }
 {
-    match first_misfit(text, tokens) {
-        Some(place) => Err(refusal_at(text, ModelKind::NotBuilt, place)),
+    match first_misfit(source) {
+        Some(place) => Err(refusal_at(source.text, ModelKind::NotBuilt, place)),
         None => Ok(Walkers {
-            births: number_in(text, tokens, BIRTHS_AT),
-            distance: number_in(text, tokens, DISTANCE_AT),
+            births: number_in(source, BIRTHS_AT),
+            distance: number_in(source, DISTANCE_AT),
         }),
     }
 }
 
-// The model that the code of a file is, by its tokens.
-fn read_tokens(alloc: Global, code: &[u8], tokens: &Tokens) -> Result<Walkers, ModelRefusal>
-    requires short { length code.now ≤ file_limit + 1 }
-    requires scanned { tokens_of code.now ≡ Ok tokens.now }
-    requires order { AreInOrder 0 (length code.now) tokens.now }
-    ensures says { ModelGives (TokensSay code.now tokens.now) result }
+// The model that a code is, by its tokens.
+fn read_source(alloc: Global, source: &Source<'_>) -> Result<Walkers, ModelRefusal>
+    ensures says { ModelGives (TokensSay source.now.text.now source.now.tokens.now) result }
     ensures few { IfOk result (λ model. model.births ≤ 1000) }
     ensures near { IfOk result (λ model. model.distance ≤ 1000) }
 {
-    match read_program(alloc, code, tokens) {
-        Ok(_program) => read_form(code, tokens.as_slice()),
+    match read_program(alloc, source) {
+        Ok(_program) => read_form(source),
         Err(refusal) => Err(refusal),
     }
 }
@@ -187,7 +169,7 @@ fn read_code(alloc: Global, code: &[u8]) -> Result<Walkers, ModelRefusal>
     ensures near { IfOk result (λ model. model.distance ≤ 1000) }
 {
     match scan(alloc, code) {
-        Ok(tokens) => read_tokens(alloc, code, &tokens),
+        Ok(tokens) => read_source(alloc, &Source::new(code, tokens.as_slice())),
         Err(ScanRefusal::Fault { kind, place }) => {
             Err(refusal_at(code, ModelKind::Scan(kind), place))
         }

@@ -110,7 +110,8 @@ fn unknown_key(table: &Table) -> Option<&str>
 
 // The text at a key.
 fn text_at(alloc: Global, key: &str, value: Option<&Value>) -> Result<Str, PlanRefusal>
-    ensures { PlanGives (or_else (not_built key.now) (text_of (option_map (λ v. view v.now) value.entry))) result }
+    ensures { PlanGives
+        (or_else (not_built key.now) (text_of (option_map (λ v. view v.now) value.entry))) result }
 {
     match value.and_then(|value| value.as_str()) {
         Some(text) => Ok(Str::of(alloc, text.as_bytes())?),
@@ -173,7 +174,9 @@ fn number_at(
     usual: u64,
     table: &Table,
 ) -> Result<u64, PlanRefusal>
-    ensures says { PlanGives (or_else (not_built key.now) (number_within least most usual (get_member key.now (table_view table.now)))) result }
+    ensures says { PlanGives
+        (or_else (not_built key.now)
+        (number_within least most usual (get_member key.now (table_view table.now)))) result }
     ensures few { IfOk result (λ number. usual ≤ most → number ≤ most) }
 {
     match whole_number(least, most, usual, value_at(table, key)) {
@@ -184,7 +187,9 @@ fn number_at(
 
 // The document that a text is.
 fn table_of(alloc: Global, text: &[u8]) -> Result<Table, PlanRefusal>
-    ensures { PlanGives (or_else (file_fault PlanKind.NotToml) (document text.now)) (result_map_both table_view (λ refusal. refusal) result) }
+    ensures { PlanGives
+        (or_else (file_fault PlanKind.NotToml) (document text.now))
+        (result_map_both table_view (λ refusal. refusal) result) }
 {
     let Ok(text) = str::from_utf8(text) else {
         return Err(whole_fault(alloc, PlanKind::NotToml));

@@ -1,56 +1,49 @@
 //! The checked program that the tokens of a model are, or its first fault.
-ghost use Rattle.std.specs.Prelude.{◌≡◌, ◌≤◌, ◌<◌, ◌+◌, [], Ok, All, IfOk, IfErr, OnOk, length, map};
-ghost use Rattle.nl_scan.specs.Tokens.{AreInOrder, IsTokenOf, tokens_of};
+ghost use Rattle.std.specs.Prelude.{◌≡◌, ◌≤◌, ◌<◌, [], IfOk, IfErr, OnOk, length};
 ghost use Rattle.nl_tree.specs.Names.{IsDeclared};
 ghost use Rattle.nl_tree.specs.Checked.{BodiesAreRight, BodiesFit};
 ghost use Rattle.nl_tree.specs.Views.{plain};
 ghost use Rattle.nl_tree.specs.Vocabulary.{terms};
-ghost use Rattle.nl_decl.specs.Bodies.{LieFrom, place_of};
+ghost use Rattle.nl_decl.specs.Bodies.{BodiesLieIn};
 ghost use Rattle.nl_decl.specs.Outcome.{Declares};
-ghost use Rattle.nl_decl.specs.Texts.{lexemes_of};
-ghost use Rattle.nl_cli.specs.Limits.{file_limit};
-ghost use Rattle.nl_cli.specs.ModelFault.{AreBodies, IsBody, IsRead, start_at};
-ghost use Rattle.nl_cli.specs.ProgramParts.{IsBodiesRefusal, IsBodyRefusal, IsCheckRefusal, IsCodeRefusal};
+ghost use Rattle.nl_text.specs.Texts.{lexemes_of};
+ghost use Rattle.nl_cli.specs.ModelFault.{AreBodies, IsBody, IsRead};
+ghost use Rattle.nl_cli.specs.inner.ProgramParts.{IsBodiesRefusal, IsBodyRefusal, IsCheckRefusal, IsCodeRefusal};
 
 use crate::fault::{ModelKind, ModelRefusal, refusal_at};
 use nl_check::{CheckRefusal, check};
 use nl_decl::{DeclRefusal, declare};
 use nl_fixed::Names;
 use nl_parse::{BodyRefusal, read_body};
-use nl_scan::{Token, Tokens};
+use nl_scan::Source;
 use nl_tree::{Declared, Form, Procedure, Program, Tree, Trees};
 use std::alloc::Global;
 
-/// The checked program that the tokens of a code are, with no widgets, or its first fault: that of its declarations, then that of its
+/// The checked program that a code is, with no widgets, or its first fault: that of its declarations, then that of its
 /// bodies in the order of the text, then that of who may run them.
-pub fn read_program(alloc: Global, code: &[u8], tokens: &Tokens) -> Result<Program, ModelRefusal>
-    requires short { length code.now ≤ file_limit + 1 }
-    requires scanned { tokens_of code.now ≡ Ok tokens.now }
-    requires order { AreInOrder 0 (length code.now) tokens.now }
-    ensures read { IfOk result (λ program. IsRead code.now tokens.now program.declared program.bodies) }
+pub fn read_program(alloc: Global, source: &Source<'_>) -> Result<Program, ModelRefusal>
+    ensures read { IfOk result (λ program.
+        IsRead source.now.text.now source.now.tokens.now program.declared program.bodies) }
     ensures right { IfOk result (λ program. BodiesAreRight program.declared program.bodies) }
-    ensures fault { IfErr result (IsCodeRefusal code.now tokens.now) }
+    ensures fault { IfErr result (IsCodeRefusal source.now.text.now source.now.tokens.now) }
 {
-    let declared = read_declarations(alloc, code, tokens)?;
-    let bodies = read_bodies(alloc, code, tokens.as_slice(), &declared)?;
-    checked(alloc, code, declared, bodies)
+    let declared = read_declarations(alloc, source)?;
+    let bodies = read_bodies(alloc, source, &declared)?;
+    checked(alloc, source.text, declared, bodies)
 }
 
-// What the tokens declare, with no widgets.
-fn read_declarations(alloc: Global, code: &[u8], tokens: &Tokens) -> Result<Declared, ModelRefusal>
-    requires short { length code.now ≤ file_limit + 1 }
-    requires scanned { tokens_of code.now ≡ Ok tokens.now }
-    requires order { AreInOrder 0 (length code.now) tokens.now }
-    ensures declared { IfOk result (Declares (lexemes_of code.now tokens.now) []) }
+// What a code declares, with no widgets.
+fn read_declarations(alloc: Global, source: &Source<'_>) -> Result<Declared, ModelRefusal>
+    ensures declared { IfOk result (Declares (lexemes_of source.now.text.now source.now.tokens.now) []) }
     ensures accepted { IfOk result IsDeclared }
-    ensures bodies { IfOk result (λ d. LieFrom (lexemes_of code.now tokens.now) 0 (map place_of d.procedures)) }
-    ensures fault { IfErr result (IsCodeRefusal code.now tokens.now) }
+    ensures bodies { IfOk result (BodiesLieIn (lexemes_of source.now.text.now source.now.tokens.now)) }
+    ensures fault { IfErr result (IsCodeRefusal source.now.text.now source.now.tokens.now) }
 {
-    match declare(alloc, code, tokens, Names::empty(alloc)) {
+    match declare(alloc, source, Names::empty(alloc)) {
         Ok(declared) => Ok(declared),
         Err(DeclRefusal::Fault { kind, place }) => {
-            let start = start_of(code, tokens.as_slice(), place);
-            Err(refusal_at(code, ModelKind::Declaration(kind), start))
+            let start = source.start_of(place);
+            Err(refusal_at(source.text, ModelKind::Declaration(kind), start))
         }
         Err(DeclRefusal::NoMemory) => Err(ModelRefusal::NoMemory),
     }
@@ -59,21 +52,20 @@ fn read_declarations(alloc: Global, code: &[u8], tokens: &Tokens) -> Result<Decl
 // The trees of the bodies of all procedures, in the order of the text.
 fn read_bodies(
     alloc: Global,
-    code: &[u8],
-    tokens: &[Token],
+    source: &Source<'_>,
     declared: &Declared,
 ) -> Result<Trees, ModelRefusal>
-    requires short { length code.now ≤ file_limit + 1 }
-    requires tokens { All (IsTokenOf code.now) tokens.now }
-    requires order { AreInOrder 0 (length code.now) tokens.now }
     requires declared { IsDeclared declared.now }
-    requires bodies { LieFrom (lexemes_of code.now tokens.now) 0 (map place_of declared.now.procedures) }
-    ensures ok { IfOk result (AreBodies code.now tokens.now (terms declared.now) declared.now.procedures) }
-    ensures fault { IfErr result (IsBodiesRefusal code.now tokens.now (terms declared.now) declared.now.procedures) }
+    requires bodies { BodiesLieIn (lexemes_of source.now.text.now source.now.tokens.now) declared.now }
+    ensures ok { IfOk result
+        (AreBodies source.now.text.now source.now.tokens.now (terms declared.now) declared.now.procedures) }
+    ensures fault { IfErr result
+        (IsBodiesRefusal source.now.text.now source.now.tokens.now
+        (terms declared.now) declared.now.procedures) }
 {
     let mut bodies = Trees::empty(alloc);
     'procedures: for procedure in declared.procedures.as_slice() {
-        let body = read_procedure(alloc, code, tokens, declared, procedure)?;
+        let body = read_procedure(alloc, source, declared, procedure)?;
         bodies.push(alloc, body)?;
     }
     Ok(bodies)
@@ -82,25 +74,23 @@ fn read_bodies(
 // The tree of the body of a procedure.
 fn read_procedure(
     alloc: Global,
-    code: &[u8],
-    tokens: &[Token],
+    source: &Source<'_>,
     declared: &Declared,
     procedure: &Procedure,
 ) -> Result<Tree, ModelRefusal>
-    requires short { length code.now ≤ file_limit + 1 }
-    requires tokens { All (IsTokenOf code.now) tokens.now }
-    requires order { AreInOrder 0 (length code.now) tokens.now }
     requires declared { IsDeclared declared.now }
     requires from { procedure.now.first ≤ procedure.now.after }
-    requires to { procedure.now.after < length tokens.now }
-    ensures ok { IfOk result (λ tree. IsBody code.now tokens.now (terms declared.now) procedure.now (plain tree)) }
-    ensures fault { IfErr result (IsBodyRefusal code.now tokens.now (terms declared.now) procedure.now) }
+    requires to { procedure.now.after < length source.now.tokens.now }
+    ensures ok { IfOk result (λ tree.
+        IsBody source.now.text.now source.now.tokens.now (terms declared.now) procedure.now (plain tree)) }
+    ensures fault { IfErr result
+        (IsBodyRefusal source.now.text.now source.now.tokens.now (terms declared.now) procedure.now) }
 {
-    let body = &tokens[procedure.first..procedure.after];
-    let end = tokens[procedure.after].span;
+    let body = &source.tokens[procedure.first..procedure.after];
+    let end = source.tokens[procedure.after].span;
     match read_body(
         alloc,
-        code,
+        source.text,
         body,
         end,
         Form::Commands,
@@ -109,8 +99,8 @@ fn read_procedure(
     ) {
         Ok(tree) => Ok(tree),
         Err(BodyRefusal::Fault { kind, place }) => {
-            let start = start_of(code, tokens, procedure.first + place);
-            Err(refusal_at(code, ModelKind::Body(kind), start))
+            let start = source.start_of(procedure.first + place);
+            Err(refusal_at(source.text, ModelKind::Body(kind), start))
         }
         Err(BodyRefusal::NoMemory) => Err(ModelRefusal::NoMemory),
     }
@@ -137,16 +127,5 @@ fn checked(
             Err(refusal_at(code, ModelKind::Check(kind), span.start))
         }
         Err(CheckRefusal::NoMemory) => Err(ModelRefusal::NoMemory),
-    }
-}
-
-// The byte at which the token at a place begins, or where there is none, the text's end.
-fn start_of(code: &[u8], tokens: &[Token], at: usize) -> u32
-    requires { length code.now ≤ file_limit + 1 }
-    ensures { result ≡ start_at code.now tokens.now at }
-{
-    match tokens.get(at) {
-        Some(token) => token.span.start,
-        None => code.len() as u32,
     }
 }

@@ -3,15 +3,15 @@ ghost use Rattle.std.specs.Prelude.{◌≡◌, ◌∷◌, ◌++◌, [], map, len
 ghost use Rattle.std.specs.Fmt.{decimal};
 ghost use Rattle.csv.specs.Writing.{row_text as csv_text};
 ghost use Rattle.nl_cli.specs.Outcome.{given};
-ghost use Rattle.nl_cli.specs.Stages.{IsSmall, Puts};
+ghost use Rattle.nl_cli.specs.inner.Stages.{IsSmall, Puts};
 ghost use Rattle.nl_cli.specs.TableText.{always_quoted, end_text, header_text, line_text, lines_text, metric_text, row_text};
 ghost use Rattle.nl_cli.specs.Answer.{rows_text, table_text};
-ghost use Rattle.nl_cli.specs.Words.{names_in};
+ghost use Rattle.nl_cli.specs.Words.{paths_in};
 
 use crate::ends::End;
 use crate::job::Job;
 use crate::running::{Row, RunEnd, run_form};
-use crate::words::Named;
+use crate::words::Paths;
 use csv::{QuoteStyle, WriterBuilder};
 use nl_fixed::{NoMemory, Str};
 use nl_outer::{Sink, WriteFail};
@@ -19,7 +19,8 @@ use std::alloc::Global;
 
 // The bytes of one record, as the crate `csv` writes them.
 fn record_bytes(alloc: Global, cells: &[&[u8]]) -> Result<Vec<u8>, NoMemory>
-    ensures { IfOk result (λ bytes. bytes.items ≡ csv_text always_quoted (map (λ cell. cell.now) cells.now)) }
+    ensures { IfOk result (λ bytes.
+        bytes.items ≡ csv_text always_quoted (map (λ cell. cell.now) cells.now)) }
 {
     let mut writer = WriterBuilder::new()
         .quote_style(QuoteStyle::Always)
@@ -133,7 +134,8 @@ fn put<O: Sink>(out: &mut O, piece: &[u8]) -> Result<(), End>
 
 #[tactic(auto, using(crate::proofs::PutSteps::put_steps))]
 fn put_header<O: Sink>(alloc: Global, model: &str, name: &Str, out: &mut O) -> Result<(), End>
-    ensures { Puts (header_text model.now name.now) (given O.faults O.written out.old out.new) result }
+    ensures { Puts (header_text model.now name.now)
+        (given O.faults O.written out.old out.new) result }
 {
     match header(alloc, model.as_bytes(), name.as_bytes()) {
         Ok(header) => put(out, header.as_bytes()),
@@ -157,13 +159,14 @@ fn put_run<O: Sink>(alloc: Global, number: u64, job: &Job, out: &mut O) -> Resul
 /// Puts the table of a job: its header, and the rows of its one run.
 pub fn put_table<O: Sink>(
     alloc: Global,
-    named: &Named<'_>,
+    paths: &Paths<'_>,
     job: &Job,
     out: &mut O,
 ) -> Result<(), End>
     requires { IsSmall job.now }
-    ensures { Puts (table_text (names_in named.now) job.now) (given O.faults O.written out.old out.new) result }
+    ensures { Puts (table_text (paths_in paths.now) job.now)
+        (given O.faults O.written out.old out.new) result }
 {
-    put_header(alloc, named.model, &job.fields.name, out)?;
+    put_header(alloc, paths.model, &job.fields.name, out)?;
     put_run(alloc, 1, job, out)
 }

@@ -3,13 +3,13 @@ ghost use Rattle.std.specs.Prelude.{◌≡◌, map, IfOk};
 ghost use Rattle.nl_cli.specs.Answer as spec;
 ghost use Rattle.nl_cli.specs.Answer.{joined_text};
 ghost use Rattle.nl_cli.specs.Outcome.{Gets, given};
-ghost use Rattle.nl_cli.specs.Stages.{Tells};
-ghost use Rattle.nl_cli.specs.Words.{names_in, path_of};
+ghost use Rattle.nl_cli.specs.inner.Stages.{Tells};
+ghost use Rattle.nl_cli.specs.Words.{paths_in, path_of};
 
 use crate::ends::{End, Status};
 use crate::fault::ModelFault;
 use crate::planning::{PlanFault, PlanKind};
-use crate::words::{Named, Role, path_for};
+use crate::words::{Paths, Role, path_for};
 use nl_fixed::{NoMemory, Str};
 use nl_outer::Sink;
 use std::alloc::Global;
@@ -71,10 +71,10 @@ fn plan_line(alloc: Global, path: &str, fault: &PlanFault) -> Result<Str, NoMemo
     }
 }
 
-fn read_line(alloc: Global, named: &Named<'_>, role: Role) -> Result<Str, NoMemory>
-    ensures { IfOk result (λ line. line ≡ spec.cannot_read (path_of (names_in named.now) role)) }
+fn read_line(alloc: Global, paths: &Paths<'_>, role: Role) -> Result<Str, NoMemory>
+    ensures { IfOk result (λ line. line ≡ spec.cannot_read (path_of (paths_in paths.now) role)) }
 {
-    let path = path_for(named, role);
+    let path = path_for(paths, role);
     joined(alloc, &[b"cannot read ", path.as_bytes(), b"\n"])
 }
 
@@ -86,13 +86,13 @@ pub fn say<E: Sink>(err: &mut E, line: &[u8])
 }
 
 /// Tells an end, and gives the status. Where the end comes of memory or of `out`, this takes no memory.
-pub fn tell<E: Sink>(alloc: Global, named: &Named<'_>, end: &End, err: &mut E) -> Status
-    ensures { Tells (names_in named.now) end.now (given E.faults E.written err.old err.new) result }
+pub fn tell<E: Sink>(alloc: Global, paths: &Paths<'_>, end: &End, err: &mut E) -> Status
+    ensures { Tells (paths_in paths.now) end.now (given E.faults E.written err.old err.new) result }
 {
     let line = match end {
-        End::Model(fault) => model_line(alloc, named.model, fault),
-        End::Plan(fault) => plan_line(alloc, named.experiment, fault),
-        End::Read(role) => read_line(alloc, named, *role),
+        End::Model(fault) => model_line(alloc, paths.model, fault),
+        End::Plan(fault) => plan_line(alloc, paths.experiment, fault),
+        End::Read(role) => read_line(alloc, paths, *role),
         End::Write => {
             say(err, WRITE_LINE);
             return Status::Write;

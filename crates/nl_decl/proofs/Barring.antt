@@ -9,8 +9,8 @@ use Rattle.nl_decl.specs.declared.claims.Claimed.{Claimed}
 use Rattle.nl_decl.specs.declared.marks.Mark.{Mark}
 use Rattle.nl_decl.specs.declared.marks.Marked.{Marked}
 use Rattle.nl_decl.specs.Claims.{may_share, clashes}
-use Rattle.nl_decl.specs.Marks.{own_mark, own_marks, barring_marks}
-use Rattle.nl_decl.specs.Ledger.{leaves, leaves_on, Holds, TellsBarred}
+use Rattle.nl_decl.specs.inner.Marks.{own_mark, own_marks, barring_marks}
+use Rattle.nl_decl.specs.inner.Ledger.{leaves, leaves_on, Holds, TellsBarred}
 
 abbrev pub asked : Claim → List Mark
 asked c = barring_marks c ++ own_marks (own_mark c)

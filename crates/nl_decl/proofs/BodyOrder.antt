@@ -2,15 +2,16 @@
 use Rattle.std.proofs.Common.{◌≡◌, ℕ, zero, suc, ◌+◌, ◌<◌, ◌≤◌, Bool, not, List, [], ◌∷◌, ◌++◌, map, Option, Some, None, length, refl, sym, ◌∙◌, ap, subst, IsTrue, arith, append_assoc, length-append}
 use Rattle.std.specs.Prelude.{codes, slice_get}
 use Rattle.std.specs.List.{list_all}
-use Rattle.nl_decl.specs.declared.declaration.Declaration.{Declaration}
-use Rattle.nl_decl.specs.declared.declaration.Declaration.TheVariants.{Globals, Own, Breed, Procedure}
+use Rattle.nl_outline.specs.declared.declaration.Declaration.{Declaration}
+use Rattle.nl_outline.specs.declared.declaration.Declaration.TheVariants.{Globals, Own, Breed, Procedure}
 use Rattle.nl_tree.specs.Tokens.{Lexeme, Word, Close}
-use Rattle.nl_decl.specs.Declarations.{AreDeclarations, words, listed, listed_or_none, word_of_procedure, is_end, begins_open, is_body, Spells, SpellAll}
-use Rattle.nl_decl.specs.Claims.{inputs_length, length_of}
+use Rattle.nl_outline.specs.Declarations.{AreDeclarations, words, listed, listed_or_none, word_of_procedure, is_end, begins_open, is_body, Spells, SpellAll}
+use Rattle.nl_outline.specs.Lengths.{inputs_length, length_of}
 use Rattle.nl_decl.specs.Gathered.{procedure_at, procedures_from}
 use Rattle.nl_decl.specs.Bodies.{place_of, places_from, LieFrom}
 use Rattle.nl_decl.specs.Laws.{BodiesLieInOrder}
-use Rattle.nl_decl.proofs.Taken.{and_left, and_right}
+use Rattle.nl_outline.proofs.Lengths.{inputs_long, size}
+use Rattle.nl_outline.proofs.Taken.{and_left, and_right}
 
 pub get_behind : {A : Type 0} (xs ys : List A) (y : A) → slice_get (xs ++ y ∷ ys) (length xs) ≡ Some y
 get_behind [] ys y = refl
@@ -31,28 +32,9 @@ none_inside [] body ys k h below good e = none_ends body ys k (omega (arith, bel
 none_inside (x ∷ xs) body ys zero h below good e = omega (arith, h)
 none_inside (x ∷ xs) body ys (suc k) h below good e = none_inside xs body ys k (omega (arith, h)) (omega (arith, below)) good e
 
-words_length : (names : List (List ℕ)) → length (words names) ≡ length names
-words_length [] = refl
-words_length (w ∷ names) = ap suc (words_length names)
-
-listed_length : (names : List (List ℕ)) → length (listed names) ≡ length names + 2
-listed_length names = omega (arith, words_length names, length-append (words names) (Close ∷ []))
-
-inputs_long : (inputs : Option (List (List ℕ))) → length (listed_or_none inputs) ≡ inputs_length inputs
-inputs_long None = refl
-inputs_long (Some names) = listed_length names
-
 no_ends : (inputs : Option (List (List ℕ))) (body : List Lexeme) → IsTrue (is_body inputs body) → IsTrue (list_all (λ l. not (is_end l)) body)
 no_ends None body h = and_right (not (begins_open body)) (list_all (λ l. not (is_end l)) body) h
 no_ends (Some names) body h = h
-
-pub size : (breeds : List (List ℕ)) (d : Declaration) (ls : List Lexeme) → Spells breeds d ls → length ls ≡ length_of d
-size breeds (Globals names) ls h = ap length h ∙ (omega (arith, listed_length names))
-size breeds (Own o names) ls h = ap length h.1.1 ∙ (omega (arith, listed_length names))
-size breeds (Breed s plural singular) ls h = ap length h
-size breeds (Procedure r name inputs tokens) ls h =
-    ap length h.1.2
-    ∙ omega (arith, h.1.1, inputs_long inputs, length-append (listed_or_none inputs ++ h.0) (Word (codes "end") ∷ []), length-append (listed_or_none inputs) h.0)
 
 -- a procedure's tokens: what stands before its body, the body, and the word `end`
 abbrev before_body : Bool → List ℕ → Option (List (List ℕ)) → List Lexeme

@@ -1,8 +1,7 @@
 -- How the marks of the names so far grow, and what they tell of the first name that is declared twice.
-use Rattle.std.proofs.Common.{◌≡◌, ℕ, suc, ◌+◌, ◌<◌, arith, length, drop, get_or, Bool, true, false, ◌||◌, if◌then◌else◌, List, [], ◌∷◌, ◌++◌, Option, Some, None, sym, ap, subst, ◌∙◌, refl, Bor}
+use Rattle.std.proofs.Common.{◌≡◌, ℕ, Bool, true, false, ◌||◌, if◌then◌else◌, List, [], ◌∷◌, ◌++◌, Option, Some, None, sym, ap, ◌∙◌, refl, Bor}
 use Rattle.std.specs.List.{list_any}
 use Rattle.std.specs.Option.{is_some, option_map, option_copied}
-use Rattle.std.proofs.Math.Seq.{drop-cons}
 use Rattle.std.proofs.lemmas.List.Folds.{list_any-append}
 use Rattle.nl_words.specs.Row.{row_of}
 use Rattle.nl_words.specs.declared.entry.Entry.{Entry}
@@ -10,10 +9,7 @@ use Rattle.nl_decl.specs.declared.claims.Claim.{Claim}
 use Rattle.nl_decl.specs.declared.claims.Claimed.{Claimed}
 use Rattle.nl_decl.specs.declared.marks.Marked.{Marked}
 use Rattle.nl_decl.specs.Claims.{is_taken, first_clash}
-use Rattle.nl_decl.specs.Ledger.{leaves_on, Holds, Notes}
-
-pub next_of : {A : Type 0} (xs : List A) (i : ℕ) (d : A) → i < length xs → drop i xs ≡ get_or xs i d ∷ drop (i + 1) xs
-next_of xs i d within = let e : suc i ≡ i + 1 = omega arith in subst (λ n. drop i xs ≡ get_or xs i d ∷ drop n xs) e (drop-cons xs i d within)
+use Rattle.nl_decl.specs.inner.Ledger.{leaves_on, Holds, Notes}
 
 -- the row of an entry is there where the entry is
 pub as_there : (r : Option (Bor Entry)) → is_some (option_map row_of (option_copied r)) ≡ is_some r

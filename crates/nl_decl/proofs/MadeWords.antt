@@ -6,14 +6,15 @@ use Rattle.nl_words.specs.Rows.{rows}
 use Rattle.nl_tree.specs.declared.declared.Declared.{Declared}
 use Rattle.nl_tree.specs.Term.{Term}
 use Rattle.nl_tree.specs.Vocabulary.{Pattern, counted, global_names, global_term, owned_names, owned_term, made_as, made_name, made_terms, patterns, breed_terms, procedure_term, own_terms, base_term, terms}
-use Rattle.nl_decl.specs.declared.declaration.Sort.{Sort}
-use Rattle.nl_decl.specs.declared.declaration.Declaration.{Declaration}
-use Rattle.nl_decl.specs.declared.declaration.Declaration.TheVariants as declaration
-use Rattle.nl_decl.specs.declared.declaration.Owner.TheVariants as owner
+use Rattle.nl_outline.specs.declared.declaration.Sort.{Sort}
+use Rattle.nl_outline.specs.declared.declaration.Declaration.{Declaration}
+use Rattle.nl_outline.specs.declared.declaration.Declaration.TheVariants as declaration
+use Rattle.nl_outline.specs.declared.declaration.Owner.TheVariants as owner
 use Rattle.nl_decl.specs.declared.claims.Claim.TheVariants as claim
-use Rattle.nl_decl.specs.Claims.{breed_with, made_claim, length_of, sorts_of, procedures_of, claims_of, claims_from}
+use Rattle.nl_outline.specs.Lengths.{length_of}
+use Rattle.nl_decl.specs.Claims.{breed_with, made_claim, sorts_of, procedures_of, claims_of, claims_from}
 use Rattle.nl_decl.specs.Gathered.{owned_in, breeds_from, procedures_from}
-use Rattle.nl_decl.proofs.Lookup.{term_name}
+use Rattle.nl_tree.proofs.Lookup.{term_name}
 use Rattle.nl_decl.proofs.Often.{tick, often, often-append}
 use Rattle.nl_decl.proofs.Clashes.{claimed, claimed-append}
 

@@ -4,8 +4,8 @@ use Rattle.std.specs.Str.{bytes_eq}
 use Rattle.nl_decl.specs.declared.claims.Claim.{Claim}
 use Rattle.nl_decl.specs.declared.marks.Mark.{Mark}
 use Rattle.nl_decl.specs.declared.marks.Marked.{Marked}
-use Rattle.nl_decl.specs.Marks.{common_mark, own_mark}
-use Rattle.nl_decl.specs.Ledger.{same_mark, same_marked, has_own, Notes}
+use Rattle.nl_decl.specs.inner.Marks.{common_mark, own_mark}
+use Rattle.nl_decl.specs.inner.Ledger.{same_mark, same_marked, has_own, Notes}
 
 on_name : (key q : Marked) → same_marked key q ≡ (bytes_eq key.name.items q.name.items && same_mark key.mark q.mark)
 on_name key q = refl

@@ -5,13 +5,15 @@ use Rattle.std.proofs.lemmas.Bool.{eqb-true, ne_eqb}
 use Rattle.nl_tree.specs.declared.declared.Breed.{Breed}
 use Rattle.nl_tree.specs.Tokens.{Lexeme, Word, Close}
 use Rattle.nl_tree.specs.Names.{breeds_names, procedures_names}
-use Rattle.nl_decl.specs.declared.declaration.Owner.{Owner}
-use Rattle.nl_decl.specs.declared.declaration.Owner.TheVariants as owner
-use Rattle.nl_decl.specs.declared.declaration.Declaration.{Declaration}
-use Rattle.nl_decl.specs.declared.declaration.Declaration.TheVariants as declaration
-use Rattle.nl_decl.specs.Declarations.{plural_of, words, listed, listed_or_none, SpellAll}
-use Rattle.nl_decl.specs.Claims.{length_of}
-use Rattle.nl_decl.specs.Gathered.{globals_in, owned_in, breeds_from, names_of_inputs, procedures_from}
+use Rattle.nl_outline.specs.declared.declaration.Owner.{Owner}
+use Rattle.nl_outline.specs.declared.declaration.Owner.TheVariants as owner
+use Rattle.nl_outline.specs.declared.declaration.Declaration.{Declaration}
+use Rattle.nl_outline.specs.declared.declaration.Declaration.TheVariants as declaration
+use Rattle.nl_outline.specs.Declarations.{plural_of, words, listed, listed_or_none, SpellAll}
+use Rattle.nl_outline.specs.Lengths.{length_of}
+use Rattle.nl_outline.specs.Named.{names_of_inputs}
+use Rattle.nl_outline.proofs.Lengths.{listed_length}
+use Rattle.nl_decl.specs.Gathered.{globals_in, owned_in, breeds_from, procedures_from}
 
 -- how many variables breeds own, and how many are declared for breeds
 abbrev pub own_total : List Breed → ℕ
@@ -88,9 +90,6 @@ owned_total (declaration.Breed s plural singular ∷ all) j ds = omega (arith, s
 owned_total (declaration.Procedure r name inputs tokens ∷ all) j ds = omega (arith, same_own all (declaration.Procedure r name inputs tokens ∷ all) (λ k. refl) j ds, owned_total all j ds)
 
 -- the tokens of a declaration
-listed_length : (names : List (List ℕ)) → length (listed names) ≡ length names + 2
-listed_length names = omega (arith, length-append (words names) (Close ∷ []), length-map names Word)
-
 inputs_tokens : (inputs : Option (List (List ℕ))) → length (names_of_inputs inputs) ≤ length (listed_or_none inputs)
 inputs_tokens None = omega arith
 inputs_tokens (Some names) = omega (arith, listed_length names)

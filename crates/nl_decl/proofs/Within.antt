@@ -1,28 +1,16 @@
--- Declarations have as many tokens as they are read from, and a text has few.
-use Rattle.std.proofs.Common.{◌≡◌, ℕ, zero, suc, ◌+◌, ◌<◌, ◌≤◌, ◌^◌, Bool, true, false, List, [], ◌∷◌, ◌++◌, length, Ok, Err, cond, All, ap, ◌∙◌, refl, arith}
-use Rattle.std.specs.Prelude.{nat_lt}
-use Rattle.std.specs.Str.{is_utf8}
-use Rattle.std.proofs.lemmas.List.{length-append}
-use Rattle.std.proofs.lemmas.Bool.{ltb-false}
+-- A text has few tokens, and so its declarations have few.
+use Rattle.std.proofs.Common.{◌≡◌, ℕ, ◌+◌, ◌<◌, ◌≤◌, ◌^◌, List, [], ◌∷◌, length, Ok, arith}
 use Rattle.nl_scan.specs.declared.token.Token.{Token}
 use Rattle.nl_scan.specs.declared.token.Lexeme.TheVariants as scanned
 use Rattle.nl_scan.specs.declared.token.Lexeme.{Lexeme as Scanned}
-use Rattle.nl_scan.specs.Tokens.{ScanFault, text_limit, cut_from, tokens_of, least_length, AreInOrder}
-use Rattle.nl_scan.proofs.Order.{tokens_of-in_order}
-use Rattle.nl_tree.specs.Tokens.{Lexeme, IsLexeme, IsToken}
-use Rattle.nl_decl.specs.declared.declaration.Declaration.{Declaration}
-use Rattle.nl_decl.specs.Declarations.{SpellAll, AreDeclarations, plural_of}
-use Rattle.nl_decl.specs.Claiming.{total_length}
-use Rattle.nl_decl.specs.Texts.{lexemes_of, plain_token, plain_tokens}
-use Rattle.nl_decl.proofs.BodyOrder.{size}
-use Rattle.nl_decl.proofs.Places.{lexemes-length}
-
-pub all_length : (breeds : List (List ℕ)) (ds : List Declaration) (ls : List Lexeme) → SpellAll breeds ds ls → length ls ≡ total_length ds
-all_length breeds [] ls is = ap length is
-all_length breeds (d ∷ ds) ls (front, rest, (is, spelled, more)) =
-    let one = size breeds d front spelled in
-    let others = all_length (breeds ++ plural_of d) ds rest more in
-    ap length is ∙ length-append front rest ∙ omega (arith, one, others)
+use Rattle.nl_scan.specs.Tokens.{text_limit, tokens_of, least_length, AreInOrder}
+use Rattle.nl_scan.proofs.Order.{tokens_of-in_order, tokens_of-is_text}
+use Rattle.nl_outline.specs.declared.declaration.Declaration.{Declaration}
+use Rattle.nl_outline.specs.Declarations.{AreDeclarations}
+use Rattle.nl_outline.specs.Lengths.{total_length}
+use Rattle.nl_text.specs.Texts.{lexemes_of}
+use Rattle.nl_outline.proofs.Lengths.{all_length}
+use Rattle.nl_outline.proofs.Places.{lexemes-length}
 
 least_one : (l : Scanned) → 1 ≤ least_length l
 least_one scanned.Word = omega arith
@@ -40,23 +28,11 @@ as_many from end (t ∷ ts) (before, least, rest) =
     let more = as_many (t.span.start + t.span.len) end ts rest in
     let one = least_one t.lexeme in omega (arith, before, least, more, one)
 
-record IsShort (text : List ℕ) : Type 0 where
-  short : length text ≤ text_limit
-
-short_of : (a b : Bool) (text : List ℕ) (ts : List Token) (long not_text : ScanFault) → nat_lt text_limit (length text) ≡ a
-    → cond a (Err long) (cond b (cut_from (length text) 0 text) (Err not_text)) ≡ Ok ts → IsShort text
-short_of true b text ts long not_text h e = cc
-short_of false b text ts long not_text h e = record { short = ltb-false text_limit (length text) h }
-
-is_short : (text : List ℕ) (ts : List Token) → tokens_of text ≡ Ok ts → IsShort text
-unfolding tokens_of
-is_short text ts e = short_of (nat_lt text_limit (length text)) (is_utf8 text) text ts _ _ refl e
-
 -- a text has no more tokens than it may have bytes
 pub few_tokens : (text : List ℕ) (ts : List Token) → tokens_of text ≡ Ok ts → length (lexemes_of text ts) ≤ text_limit
 few_tokens text ts e =
     let order = as_many 0 (length text) ts (tokens_of-in_order text ts e) in
-    let short = (is_short text ts e).short in
+    let short = (tokens_of-is_text text ts e).0 in
     let same = lexemes-length text ts in
     omega (arith, order, short, same)
 
@@ -66,9 +42,3 @@ few_declared text ts ds e are =
     let few = few_tokens text ts e in
     let same = all_length [] ds (lexemes_of text ts) are in
     omega (arith, few, same)
-
--- the lexemes of a text are what a text can have
-pub lexemes_plain : (text : List ℕ) (ts : List Token) → All IsToken (plain_tokens text ts) → All IsLexeme (lexemes_of text ts)
-lexemes_plain text [] h k d within = absurd (omega (arith, within))
-lexemes_plain text (t ∷ ts) h zero d within = h zero (plain_token text t) (omega arith)
-lexemes_plain text (t ∷ ts) h (suc k) d within = lexemes_plain text ts (λ j e inside. h (suc j) e (omega (arith, inside))) k d (omega (arith, within))

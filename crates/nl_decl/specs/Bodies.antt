@@ -1,10 +1,11 @@
 -- Where the bodies of procedures lie among the tokens of declarations.
-use Rattle.std.specs.Prelude.{◌≡◌, ℕ, ◌+◌, ◌≤◌, ◌<◌, List, [], ◌∷◌, Some, length, codes, slice_get, ◌++◌}
-use Rattle.nl_decl.specs.declared.declaration.Declaration.{Declaration}
-use Rattle.nl_decl.specs.declared.declaration.Declaration.TheVariants.{Globals, Own, Breed, Procedure}
+use Rattle.std.specs.Prelude.{◌≡◌, ℕ, ◌+◌, ◌≤◌, ◌<◌, List, [], ◌∷◌, Some, length, map, codes, slice_get, ◌++◌}
+use Rattle.nl_outline.specs.declared.declaration.Declaration.{Declaration}
+use Rattle.nl_outline.specs.declared.declaration.Declaration.TheVariants.{Globals, Own, Breed, Procedure}
 use Rattle.nl_tree.specs.Tokens.{Lexeme, Word}
 use Rattle.nl_tree.specs.declared.declared.Procedure as tree
-use Rattle.nl_decl.specs.Claims.{inputs_length, length_of}
+use Rattle.nl_tree.specs.declared.declared.Declared.{Declared}
+use Rattle.nl_outline.specs.Lengths.{inputs_length, length_of}
 
 -- the first token of a body, and that of its `end`
 pub record Place : Type 0 where
@@ -34,3 +35,6 @@ LieFrom ls at (p ∷ ps) =
     (at ≤ p.first) × (p.first ≤ p.after) × (slice_get ls p.after ≡ Some (Word (codes "end")))
     × ((k : ℕ) → p.first ≤ k → k < p.after → slice_get ls k ≡ Some (Word (codes "end")) → ⊥)
     × LieFrom ls (p.after + 1) ps
+
+abbrev pub BodiesLieIn : List Lexeme → Declared → Type 0
+BodiesLieIn ls d = LieFrom ls 0 (map place_of d.procedures)

@@ -1,19 +1,21 @@
 -- Which names are declared twice.
 -- That a name is declared once is the rule of the NetLogo Programming Guide; the exceptions, and the place at which a name that is declared twice
 -- is told, are this project's own choice.
-use Rattle.std.specs.Prelude.{ℕ, ◌+◌, ◌==◌, Bool, true, false, not, ◌&&◌, ◌||◌, if◌then◌else◌, List, [], ◌∷◌, ◌++◌, Option, Some, None, length, map, bytes_eq, slice_get}
+use Rattle.std.specs.Prelude.{ℕ, ◌+◌, ◌==◌, Bool, true, false, not, ◌&&◌, ◌||◌, if◌then◌else◌, List, [], ◌∷◌, ◌++◌, Option, Some, None, map, bytes_eq, slice_get}
 use Rattle.std.specs.List.{list_any}
 use Rattle.std.specs.Option.{is_some}
+use Rattle.nl_fixed.specs.Nouns.{Name, Names}
 use Rattle.nl_words.specs.Row.{row_named}
 use Rattle.nl_words.specs.Rows.{rows}
 use Rattle.nl_tree.specs.declared.declared.Breed as tree
 use Rattle.nl_tree.specs.Vocabulary.{Pattern, patterns, made_name}
-use Rattle.nl_decl.specs.declared.declaration.Sort.{Sort}
-use Rattle.nl_decl.specs.declared.declaration.Sort.TheVariants as sort
-use Rattle.nl_decl.specs.declared.declaration.Owner.{Owner}
-use Rattle.nl_decl.specs.declared.declaration.Owner.TheVariants as owner
-use Rattle.nl_decl.specs.declared.declaration.Declaration.{Declaration}
-use Rattle.nl_decl.specs.declared.declaration.Declaration.TheVariants.{Globals, Own, Breed, Procedure}
+use Rattle.nl_outline.specs.Lengths.{length_of}
+use Rattle.nl_outline.specs.declared.declaration.Sort.{Sort}
+use Rattle.nl_outline.specs.declared.declaration.Sort.TheVariants as sort
+use Rattle.nl_outline.specs.declared.declaration.Owner.{Owner}
+use Rattle.nl_outline.specs.declared.declaration.Owner.TheVariants as owner
+use Rattle.nl_outline.specs.declared.declaration.Declaration.{Declaration}
+use Rattle.nl_outline.specs.declared.declaration.Declaration.TheVariants.{Globals, Own, Breed, Procedure}
 use Rattle.nl_decl.specs.declared.claims.Claim.{Claim}
 use Rattle.nl_decl.specs.declared.claims.Claim.TheVariants as claim
 use Rattle.nl_decl.specs.declared.claims.Claimed.{Claimed}
@@ -50,7 +52,7 @@ first_clash earlier (c ∷ cs) = if is_taken earlier c then Some c.place else fi
 -- The names that declarations declare, with their places.
 
 -- names one token after another, from a place on
-abbrev pub claimed_from : ℕ → Claim → List (List ℕ) → List Claimed
+abbrev pub claimed_from : ℕ → Claim → Names → List Claimed
 claimed_from at c [] = []
 claimed_from at c (n ∷ ns) = record { name = n; claim = c; place = at } ∷ claimed_from (at + 1) c ns
 
@@ -75,7 +77,7 @@ claim_of_owner sorts owner.AllPatches = claim.Patches
 claim_of_owner sorts owner.AllLinks = claim.Links
 claim_of_owner sorts (owner.BreedAt n) = claim_of_breed n (slice_get sorts n)
 
-abbrev pub breed_with : Sort → List ℕ → List ℕ → List (List ℕ) → tree.Breed
+abbrev pub breed_with : Sort → Name → Name → Names → tree.Breed
 breed_with s plural singular own = record { plural = plural; singular = singular; link = is_of_links s; directed = is_directed s; own = own }
 
 -- a word that a breed makes stands at the token of the name that it is made of
@@ -85,20 +87,9 @@ made_claim at b p = record { name = made_name b p; claim = claim.Word; place = i
 abbrev pub made_claims : ℕ → tree.Breed → List Claimed
 made_claims at b = map (made_claim at b) (patterns b)
 
-abbrev pub inputs_claims : ℕ → ℕ → Option (List (List ℕ)) → List Claimed
+abbrev pub inputs_claims : ℕ → ℕ → Option (Names) → List Claimed
 inputs_claims at n None = []
 inputs_claims at n (Some names) = claimed_from (at + 1) (claim.Input n) names
-
--- how many tokens the inputs have, with their brackets; and a whole declaration
-abbrev pub inputs_length : Option (List (List ℕ)) → ℕ
-inputs_length None = 0
-inputs_length (Some names) = length names + 2
-
-abbrev pub length_of : Declaration → ℕ
-length_of (Globals names) = length names + 3
-length_of (Own o names) = length names + 3
-length_of (Breed s plural singular) = 5
-length_of (Procedure reporter name inputs tokens) = inputs_length inputs + tokens + 3
 
 -- how many breeds and procedures a declaration adds
 abbrev pub sorts_of : Declaration → List Sort
@@ -127,9 +118,9 @@ claims_from sorts n at (d ∷ ds) = claims_of sorts n at d ++ claims_from (sorts
 abbrev pub claims : List Declaration → List Claimed
 claims ds = claims_from [] 0 0 ds
 
-abbrev pub widget_claim : List ℕ → Claimed
+abbrev pub widget_claim : Name → Claimed
 widget_claim name = record { name = name; claim = claim.Widget; place = 0 }
 
 -- the token of the first name that is declared twice, beside widgets with these names
-abbrev pub duplicate_in : List (List ℕ) → List Declaration → Option ℕ
+abbrev pub duplicate_in : Names → List Declaration → Option ℕ
 duplicate_in widgets ds = first_clash (map widget_claim widgets) (claims ds)

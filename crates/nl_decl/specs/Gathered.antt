@@ -1,15 +1,18 @@
 -- What declarations declare in all.
 use Rattle.std.specs.Prelude.{◌≡◌, ℕ, ◌+◌, ◌==◌, Bool, true, false, if◌then◌else◌, List, [], ◌∷◌, ◌++◌, Option, Some, None}
+use Rattle.nl_fixed.specs.Nouns.{Name, Names}
 use Rattle.nl_tree.specs.declared.declared.Breed as tree
 use Rattle.nl_tree.specs.declared.declared.Procedure as procedure
 use Rattle.nl_tree.specs.declared.declared.Declared.{Declared}
-use Rattle.nl_decl.specs.declared.declaration.Owner.{Owner}
-use Rattle.nl_decl.specs.declared.declaration.Owner.TheVariants.{AllTurtles, AllPatches, AllLinks, BreedAt}
-use Rattle.nl_decl.specs.declared.declaration.Declaration.{Declaration}
-use Rattle.nl_decl.specs.declared.declaration.Declaration.TheVariants.{Globals, Own, Breed, Procedure}
-use Rattle.nl_decl.specs.Claims.{breed_with, inputs_length, length_of}
+use Rattle.nl_outline.specs.declared.declaration.Owner.{Owner}
+use Rattle.nl_outline.specs.declared.declaration.Owner.TheVariants.{AllTurtles, AllPatches, AllLinks, BreedAt}
+use Rattle.nl_outline.specs.declared.declaration.Declaration.{Declaration}
+use Rattle.nl_outline.specs.declared.declaration.Declaration.TheVariants.{Globals, Own, Breed, Procedure}
+use Rattle.nl_outline.specs.Lengths.{inputs_length, length_of}
+use Rattle.nl_outline.specs.Named.{names_of_inputs}
+use Rattle.nl_decl.specs.Claims.{breed_with}
 
-abbrev pub globals_in : List Declaration → List (List ℕ)
+abbrev pub globals_in : List Declaration → Names
 globals_in [] = []
 globals_in (Globals names ∷ ds) = names ++ globals_in ds
 globals_in (Own o names ∷ ds) = globals_in ds
@@ -24,7 +27,7 @@ same_owner (BreedAt i) (BreedAt j) = i == j
 same_owner o p = false
 
 -- the variables of one owner, in the order of the text
-abbrev pub owned_in : Owner → List Declaration → List (List ℕ)
+abbrev pub owned_in : Owner → List Declaration → Names
 owned_in o [] = []
 owned_in o (Own p names ∷ ds) = if same_owner p o then names ++ owned_in o ds else owned_in o ds
 owned_in o (Globals names ∷ ds) = owned_in o ds
@@ -42,13 +45,15 @@ breeds_from n all (Procedure reporter name inputs tokens ∷ ds) = breeds_from n
 abbrev pub breeds_in : List Declaration → List tree.Breed
 breeds_in ds = breeds_from 0 ds ds
 
-abbrev pub names_of_inputs : Option (List (List ℕ)) → List (List ℕ)
-names_of_inputs None = []
-names_of_inputs (Some names) = names
-
 -- a procedure whose declaration begins at a place: the tokens of its body stand behind its name and inputs
-abbrev pub procedure_at : ℕ → Bool → List ℕ → Option (List (List ℕ)) → ℕ → procedure.Procedure
-procedure_at at reporter name inputs tokens = record { name = name; reporter = reporter; inputs = names_of_inputs inputs; first = at + 2 + inputs_length inputs; after = at + 2 + inputs_length inputs + tokens }
+abbrev pub procedure_at : ℕ → Bool → Name → Option (Names) → ℕ → procedure.Procedure
+procedure_at at reporter name inputs tokens = record {
+  name = name;
+  reporter = reporter;
+  inputs = names_of_inputs inputs;
+  first = at + 2 + inputs_length inputs;
+  after = at + 2 + inputs_length inputs + tokens;
+}
 
 abbrev pub procedures_from : ℕ → List Declaration → List procedure.Procedure
 procedures_from at [] = []
@@ -61,7 +66,7 @@ abbrev pub procedures_in : List Declaration → List procedure.Procedure
 procedures_in ds = procedures_from 0 ds
 
 -- the widgets and all that the declarations declare
-abbrev pub Gathers : List (List ℕ) → List Declaration → Declared → Type 0
+abbrev pub Gathers : Names → List Declaration → Declared → Type 0
 Gathers widgets ds d =
     (d.widgets ≡ widgets)
     × (d.globals ≡ globals_in ds)

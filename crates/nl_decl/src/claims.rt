@@ -1,13 +1,15 @@
 //! What names are declared as, and at which tokens.
 ghost use Rattle.std.specs.Prelude.{◌≡◌, ◌+◌, ◌<◌, ◌≤◌, ◌^◌, ◌++◌, length, map, false, IfOk, OnOk};
-ghost use Rattle.nl_decl.specs.declared.declaration.Declaration.TheVariants as Declaration;
-ghost use Rattle.nl_decl.specs.Claims.{claimed_from, claim_of_owner, is_of_links, is_directed, claims, inputs_length, length_of};
-ghost use Rattle.nl_decl.specs.Claiming.{made_from, total_length, Adds, AddsNames, AddsInputs};
-ghost use Rattle.nl_decl.specs.Made.{pattern_of};
+ghost use Rattle.nl_outline.specs.declared.declaration.Declaration.TheVariants as Declaration;
+ghost use Rattle.nl_outline.specs.Lengths.{inputs_length, length_of};
+ghost use Rattle.nl_decl.specs.Claims.{claimed_from, claim_of_owner, is_of_links, is_directed, claims};
+ghost use Rattle.nl_outline.specs.Lengths.{total_length};
+ghost use Rattle.nl_decl.specs.inner.Claiming.{made_from, Adds, AddsNames, AddsInputs};
+ghost use Rattle.nl_vocabulary.specs.Made.{pattern_of};
 
-use crate::declaration::{Declaration, Owner, Sort};
-use crate::made::{MadeWord, made_name, made_words};
 use nl_fixed::{Names, NoMemory, Str};
+use nl_outline::{Declaration, Owner, Sort};
+use nl_vocabulary::{MadeWord, made_name, made_words};
 use std::alloc::Global;
 
 /// What a name is declared as.
@@ -73,7 +75,8 @@ fn claim_made(
     singular: &[u8],
 ) -> Result<(), NoMemory>
     requires { place < 2 ^ 62 }
-    ensures { OnOk result (list.new.items ≡ list.old.items ++ made_from place plural.now singular.now (map pattern_of words.now)) }
+    ensures { OnOk result (list.new.items ≡ list.old.items
+        ++ made_from place plural.now singular.now (map pattern_of words.now)) }
 {
     'words: for word in words {
         let name = made_name(alloc, word, plural, singular)?;
@@ -120,7 +123,8 @@ impl Claims {
         singular: &Str,
     ) -> Result<(), NoMemory>
         requires { self.old.tokens + 5 < 2 ^ 62 }
-        ensures { OnOk result (Adds self.old (Declaration.Breed sort plural.now singular.now) self.new) }
+        ensures { OnOk result
+            (Adds self.old (Declaration.Breed sort plural.now singular.now) self.new) }
     {
         let words = made_words(is_of_links(sort), is_directed(sort));
         claim_made(
@@ -143,9 +147,11 @@ impl Claims {
         inputs: &Option<Names>,
         body: usize,
     ) -> Result<(), NoMemory>
-        requires within { self.old.tokens + length_of (Declaration.Procedure false name.now inputs.now body) < 2 ^ 62 }
+        requires within { self.old.tokens
+            + length_of (Declaration.Procedure false name.now inputs.now body) < 2 ^ 62 }
         requires fewer { self.old.procedures ≤ self.old.tokens }
-        ensures { OnOk result (Adds self.old (Declaration.Procedure false name.now inputs.now body) self.new) }
+        ensures { OnOk result (Adds self.old
+            (Declaration.Procedure false name.now inputs.now body) self.new) }
     {
         let name = name.copy(alloc)?;
         self.list.push(Claimed {

@@ -1,15 +1,15 @@
 //! What declarations declare in all.
-ghost use Rattle.std.specs.Prelude.{◌≡◌, ◌+◌, ◌<◌, ◌^◌, ◌∷◌, ◌++◌, List, IfOk, OnOk};
-ghost use Rattle.nl_decl.specs.Claiming.{total_length};
-ghost use Rattle.nl_decl.specs.Claims.{inputs_length, length_of};
-ghost use Rattle.nl_decl.specs.Gathered.{globals_in, owned_in, breeds_in, procedures_in, procedure_at, names_of_inputs};
-ghost use Rattle.nl_decl.specs.Gathering.{bare_breeds, breed_at, with_names, with_owned};
-ghost use Rattle.nl_decl.specs.declared.declaration.Declaration.{Declaration};
-ghost use Rattle.nl_decl.specs.declared.declaration.Declaration.TheVariants as Declaration;
+ghost use Rattle.std.specs.Prelude.{◌≡◌, ◌+◌, ◌<◌, ◌^◌, ◌++◌, IfOk, OnOk};
+ghost use Rattle.nl_outline.specs.Lengths.{total_length};
+ghost use Rattle.nl_outline.specs.Lengths.{inputs_length, length_of};
+ghost use Rattle.nl_outline.specs.Named.{names_of_inputs};
+ghost use Rattle.nl_decl.specs.Gathered.{globals_in, owned_in, breeds_in, procedures_in, procedure_at};
+ghost use Rattle.nl_decl.specs.inner.Gathering.{bare_breeds, breed_at, with_names, with_owned, Gives};
+ghost use Rattle.nl_outline.specs.declared.declaration.Declaration.TheVariants as Declaration;
 
 use crate::claims::{is_directed, is_of_links};
-use crate::declaration::{Declaration, Owner};
 use nl_fixed::{Names, NoMemory, Str};
+use nl_outline::{Declaration, Owner};
 use nl_tree::{Breed, Breeds, Procedure, Procedures};
 use std::alloc::Global;
 
@@ -102,7 +102,8 @@ fn give_to(
     owner: Owner,
     names: &Names,
 ) -> Result<(), NoMemory>
-    ensures { OnOk result ((ds : List Declaration) → with_owned 0 (Declaration.Own owner names.now ∷ ds) breeds.old.items ≡ with_owned 0 ds breeds.new.items) }
+    ensures { OnOk result
+        (Gives (Declaration.Own owner names.now) breeds.old.items breeds.new.items) }
 {
     let Some(place) = breed_at(owner) else {
         return Ok(());
@@ -119,7 +120,7 @@ fn give_declared(
     breeds: &mut Vec<Breed>,
     declaration: &Declaration,
 ) -> Result<(), NoMemory>
-    ensures { OnOk result ((ds : List Declaration) → with_owned 0 (declaration.now ∷ ds) breeds.old.items ≡ with_owned 0 ds breeds.new.items) }
+    ensures { OnOk result (Gives declaration.now breeds.old.items breeds.new.items) }
 {
     match declaration {
         Declaration::Own(owner, names) => give_to(alloc, breeds, *owner, names),

@@ -1,10 +1,10 @@
 //! The names that are declared so far.
-ghost use Rattle.std.specs.Prelude.{◌≡◌, true, map, if◌then◌else◌, IfOk, OnOk};
+ghost use Rattle.std.specs.Prelude.{◌≡◌, map, IfOk, OnOk};
 ghost use Rattle.std.specs.List.{list_any};
 ghost use Rattle.std.specs.HashSet.{contains};
 ghost use Rattle.nl_decl.specs.Claims.{first_clash, widget_claim};
-ghost use Rattle.nl_decl.specs.Ledger.{same_marked, Notes, TellsBarred, TellsTaken};
-ghost use Rattle.nl_decl.specs.Marks.{own_marks};
+ghost use Rattle.nl_decl.specs.inner.Ledger.{marked_with, same_marked, Notes, Puts, TellsBarred, TellsTaken};
+ghost use Rattle.nl_decl.specs.inner.Marks.{own_marks};
 
 use crate::claims::{Claim, Claimed};
 use crate::marks::{Mark, Marked, barring_marks, common_mark, own_mark};
@@ -14,7 +14,8 @@ use std::alloc::Global;
 use std::collections::HashSet;
 
 fn put(marks: &mut HashSet<Marked>, key: Marked) -> Result<(), NoMemory>
-    ensures { OnOk result ((q : Marked) → contains same_marked marks.new q ≡ (if same_marked key q then true else contains same_marked marks.old q)) }
+    ensures { OnOk result
+        (Puts key (contains same_marked marks.old) (contains same_marked marks.new)) }
 {
     marks.insert(key)?;
     Ok(())
@@ -35,7 +36,8 @@ fn note(
     name: &[u8],
     claim: Claim,
 ) -> Result<(), NoMemory>
-    ensures { OnOk result (Notes name.now claim (contains same_marked marks.old) (contains same_marked marks.new)) }
+    ensures { OnOk result (Notes name.now claim
+        (contains same_marked marks.old) (contains same_marked marks.new)) }
 {
     let key = marked(alloc, name, common_mark(claim))?;
     put(marks, key)?;
@@ -52,7 +54,8 @@ fn note(
 // Whether one of these marks is on the name.
 fn bears(marks: &HashSet<Marked>, key: &mut Marked, asked: &[Mark]) -> bool
     ensures same { key.new.name ≡ key.old.name }
-    ensures found { result ≡ list_any (λ m. contains same_marked marks.now (record { name = key.old.name; mark = m })) asked.now }
+    ensures found { result
+        ≡ list_any (marked_with (contains same_marked marks.now) key.old.name) asked.now }
 {
     'asked: for mark in asked {
         key.mark = *mark;
@@ -64,7 +67,8 @@ fn bears(marks: &HashSet<Marked>, key: &mut Marked, asked: &[Mark]) -> bool
 }
 
 fn bears_own(marks: &HashSet<Marked>, key: &mut Marked, own: Option<Mark>) -> bool
-    ensures { result ≡ list_any (λ m. contains same_marked marks.now (record { name = key.old.name; mark = m })) (own_marks own) }
+    ensures { result
+        ≡ list_any (marked_with (contains same_marked marks.now) key.old.name) (own_marks own) }
 {
     match own {
         None => false,

@@ -1,30 +1,17 @@
-//! What a model declares, and the row of each of its words.
+//! What a model declares, and which names are declared twice.
 #![tactic(auto)]
 
 pub mod accepted_law;
 mod claims;
-mod declaration;
 pub mod declaring;
 mod gathering;
-mod index;
 pub mod laws;
 mod ledger;
-mod made;
 mod marks;
-mod name_set;
-mod owners;
-mod reading;
 pub mod refusal;
 #[cfg(test)]
 mod tests;
-#[cfg(test)]
-mod tests_index;
-#[cfg(test)]
-mod tests_reading;
-mod variables;
-pub mod words;
 
 pub use declaring::declare;
-pub use nl_tree::Word;
+pub use nl_tree::{Word, word};
 pub use refusal::{DeclKind, DeclRefusal};
-pub use words::word;

@@ -1,6 +1,6 @@
 //! What a name bars for later declarations of the same name.
 ghost use Rattle.std.specs.Prelude.{◌≡◌};
-ghost use Rattle.nl_decl.specs.Marks.{common_mark, own_mark, barring_marks};
+ghost use Rattle.nl_decl.specs.inner.Marks.{common_mark, own_mark, barring_marks};
 
 use crate::claims::Claim;
 

@@ -4,10 +4,9 @@ ghost use Rattle.nl_tree.specs.Names.{AreWidgets, IsDeclared};
 
 use crate::declaring::declare;
 use crate::refusal::{DeclKind, DeclRefusal};
-use crate::words::word;
 use nl_fixed::{Names, NoMemory, Str};
-use nl_scan::scan;
-use nl_tree::{Declared, What};
+use nl_scan::{Source, scan};
+use nl_tree::{Declared, What, word};
 use nl_words::Role;
 use std::alloc::Global;
 
@@ -45,7 +44,7 @@ fn declared(alloc: Global, text: &[u8], speed: bool) -> Result<Declared, DeclRef
         return Err(DeclRefusal::NoMemory);
     };
     let widgets = widgets(alloc, speed)?;
-    let declared = declare(alloc, text, &tokens, widgets)?;
+    let declared = declare(alloc, &Source::new(text, tokens.as_slice()), widgets)?;
     Ok(declared)
 }
 
@@ -192,17 +191,22 @@ fn push_word(text: &mut Vec<u8>, word: &[u8], number: usize) -> Result<(), NoMem
     Ok(())
 }
 
-// So many global variables and procedures.
-fn many_names(alloc: Global, count: usize) -> Result<Vec<u8>, NoMemory> {
+// 5,000 global variables and procedures, and 1,000 breeds.
+fn many_names(alloc: Global) -> Result<Vec<u8>, NoMemory> {
     let mut text = Vec::new(alloc);
     text.extend_from_slice(b"globals [ ")?;
-    for number in 0..count {
+    for number in 0..5000 {
         push_word(&mut text, b"g", number)?;
     }
     text.extend_from_slice(b"] ")?;
-    for number in 0..count {
+    for number in 0..5000 {
         push_word(&mut text, b"to p", number)?;
         text.extend_from_slice(b"end ")?;
+    }
+    for number in 0..1000 {
+        push_word(&mut text, b"breed [b", number)?;
+        push_word(&mut text, b"c", number)?;
+        text.extend_from_slice(b"] ")?;
     }
     Ok(text)
 }
@@ -211,16 +215,36 @@ fn many_names(alloc: Global, count: usize) -> Result<Vec<u8>, NoMemory> {
 #[test]
 fn many_names_are_declared(rt: HostRuntime) {
     let alloc = rt.alloc();
-    let Ok(text) = many_names(alloc, 3000) else {
+    let Ok(text) = many_names(alloc) else {
         panic!(rt);
     };
     let Ok(declared) = declared(alloc, text.as_slice(), false) else {
         panic!(rt);
     };
-    assert!(rt; declared.globals.as_slice().len() == 3000);
-    assert!(rt; declared.procedures.as_slice().len() == 3000);
+    assert!(rt; declared.globals.as_slice().len() == 5000);
+    assert!(rt; declared.procedures.as_slice().len() == 5000);
+    assert!(rt; declared.breeds.as_slice().len() == 1000);
     assert!(rt;
-        matches!(word(&declared, b"p2999"), Some(found) if found.what == What::Procedure(2999))
+        matches!(word(&declared, b"p4999"), Some(found) if found.what == What::Procedure(4999))
     );
     assert!(rt; matches!(word(&declared, b"g0000"), Some(found) if found.what == What::Global(0)));
+    assert!(rt;
+        matches!(word(&declared, b"hatch-b0999"), Some(found) if found.role == Role::Command)
+    );
+}
+
+// Behind all that is kept, each fault is told as itself.
+#[test]
+fn faults_are_told_behind_many_names(rt: HostRuntime) {
+    let alloc = rt.alloc();
+    for (end, kind, place) in [
+        ("to p0000 end", DeclKind::Duplicate, 25_004),
+        ("to p0000", DeclKind::BadDeclaration, 25_005),
+    ] {
+        let Ok(mut text) = many_names(alloc) else {
+            panic!(rt);
+        };
+        assert!(rt; text.extend_from_slice(end.as_bytes()).is_ok());
+        assert!(rt; is_refused(alloc, text.as_slice(), false, kind, place));
+    }
 }

@@ -2,7 +2,7 @@
 -- space-efficient statistically good algorithms for random number generation") on the stream of number
 -- 54; how draws, shuffles and choices are made of words is this project's own choice. A stream is its
 -- state, a number below 2 ^ 64, and all that is drawn is a function of the state. A shift to the right
--- by k places is a division by 2 ^ k.
+-- by k bits is a division by 2 ^ k.
 use Rattle.std.specs.Prelude.{ℕ, zero, suc, ◌+◌, ◌-◌, ◌*◌, ◌/◌, ◌%◌, ◌^◌, List, [], ◌∷◌, length, swap, slice_index_or, Option, Some, None, bit_xor}
 use Rattle.std.specs.Int.{w32, rotate_right}
 
@@ -42,15 +42,15 @@ words_from state k = word_of (state_after k state)
 unfoldable pub drawn : ℕ → ℕ → ℕ × ℕ
 drawn n state = ((words_from state 0 * 2 ^ 32 + words_from state 1) % n, state_after 2 state)
 
--- each place from i down to 1 changes with a drawn one, which isn't above it: the list, and the state
+-- each index from i down to 1 changes with a drawn one, which isn't above it: the list, and the state
 -- after
 unfoldable pub shuffled_from : {X : Type 0} → ℕ → List X → ℕ → List X × ℕ
 shuffled_from zero list state = (list, state)
 shuffled_from (suc i) list state =
-    let place = drawn (suc i + 1) state in
-    shuffled_from i (swap list (suc i) place.0) place.1
+    let other = drawn (suc i + 1) state in
+    shuffled_from i (swap list (suc i) other.0) other.1
 
--- a shuffle goes from the last place down: the list, and the state after
+-- a shuffle goes from the last index down: the list, and the state after
 unfoldable pub shuffled : {X : Type 0} → List X → ℕ → List X × ℕ
 shuffled list state = shuffled_from (length list - 1) list state
 
@@ -59,5 +59,12 @@ shuffled list state = shuffled_from (length list - 1) list state
 unfoldable pub chosen : {X : Type 0} → List X → ℕ → Option X × ℕ
 chosen [] state = (None, state)
 chosen (x ∷ xs) state =
-    let place = drawn (length (x ∷ xs)) state in
-    (Some (slice_index_or (x ∷ xs) place.0 x), place.1)
+    let index = drawn (length (x ∷ xs)) state in
+    (Some (slice_index_or (x ∷ xs) index.0 x), index.1)
+
+-- the same choice of an index alone, among so many: the index, and the state after
+unfoldable pub chosen_index : ℕ → ℕ → Option ℕ × ℕ
+chosen_index zero state = (None, state)
+chosen_index (suc n) state =
+    let index = drawn (suc n) state in
+    (Some index.0, index.1)

@@ -2,7 +2,7 @@
 ghost use Rattle.std.specs.Prelude.{◌≡◌, ℕ};
 ghost use Rattle.std.specs.Fn.{FnOnceReturnsAtMut};
 ghost use Rattle.nl_draw.specs.Stream.{first_state};
-ghost use Rattle.nl_draw.specs.Laws.{SameWords, WordsArePcg32, DrawsAreBelow, ShufflesPermute, ShortListsDrawNothing, ChoicesAreMembers};
+ghost use Rattle.nl_draw.specs.Laws.{SameWords, WordsArePcg32, DrawsAreBelow, ShufflesPermute, ShufflesMap, ShortListsDrawNothing, ChoicesAreMembers, ChoicesAreAtIndices, ChoicesMap};
 
 use crate::stream::Stream;
 
@@ -16,19 +16,18 @@ pub fn draws_are_below()
     ensures { DrawsAreBelow }
 {}
 
-/// A shuffle changes the order of a list and nothing else.
-pub fn shuffles_permute()
-    ensures { ShufflesPermute }
+/// A shuffle changes the order of a list and nothing else, and it goes by indices alone, whatever the items are.
+pub fn shuffles_permute<T, U>()
+    ensures permute { ShufflesPermute T }
+    ensures map { ShufflesMap T U }
+    ensures short { ShortListsDrawNothing T }
 {}
 
-/// A list of none or one is shuffled without a draw.
-pub fn short_lists_draw_nothing()
-    ensures { ShortListsDrawNothing }
-{}
-
-/// What is chosen is one of the list, and only an empty list gives none.
-pub fn choices_are_members()
-    ensures { ChoicesAreMembers }
+/// What is chosen is one of the list, that at the chosen index; only an empty list gives none.
+pub fn choices_are_members<T, U>()
+    ensures members { ChoicesAreMembers T }
+    ensures indices { ChoicesAreAtIndices T }
+    ensures map { ChoicesMap T U }
 {}
 
 /// Two streams of one seed, which give the same words however far they are followed.
@@ -56,6 +55,12 @@ pub fn put_back_after<T, F: FnOnce(&mut Stream) -> T>(stream: &mut Stream, work:
 #[cfg(test)]
 mod tests {
     use super::*;
+
+    #[test]
+    fn laws_hold_of_lists_of_texts() {
+        shuffles_permute::<&str, u8>();
+        choices_are_members::<&str, u8>();
+    }
 
     #[test]
     fn words_come_again_after_work_that_drew(rt: HostRuntime) {

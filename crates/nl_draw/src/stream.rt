@@ -2,9 +2,9 @@
 //!
 //! The words are those of Pcg32, a generator of M. E. O'Neill's PCG family, on its stream 54. How draws
 //! and shuffles are made of words is this project's own choice, and no claim on NetLogo's own generator.
-//! No call takes memory, and a draw and each place of a shuffle take constant time.
-ghost use Rattle.std.specs.Prelude.{◌≡◌, ◌+◌, ◌*◌, ◌^◌, ◌<◌, ◌≤◌, IsPermutation};
-ghost use Rattle.nl_draw.specs.Stream.{first_state, next_state, word_of, state_after, words_from, drawn, shuffled};
+//! No call takes memory, and a draw and each step of a shuffle take constant time.
+ghost use Rattle.std.specs.Prelude.{◌≡◌, ◌+◌, ◌*◌, ◌^◌, ◌<◌, ◌≤◌, [], Contains, IfSome, MatchOption, IsPermutation};
+ghost use Rattle.nl_draw.specs.Stream.{first_state, next_state, word_of, state_after, words_from, drawn, shuffled, chosen, chosen_index};
 
 use rand_core::utils::NextWord;
 use rand_pcg::Pcg32;
@@ -30,7 +30,7 @@ impl Model for Stream {
     ghost invariant = { λ s. s.generator.increment ≡ step_addend };
 }
 
-/// A place in a stream, to which the stream can be put back.
+/// Where a stream stood, to which it can be put back.
 #[derive(Clone, Copy)]
 pub struct Mark {
     state: u64,
@@ -68,16 +68,49 @@ impl Stream {
         self.two_words() % n
     }
 
-    /// Puts a list into a random order: each place `i`, from the last one down to 1, changes with the
-    /// place that `draw(i + 1)` gives. A list of none or one draws nothing.
-    pub fn shuffle(&mut self, list: &mut [u64])
+    /// Puts a list into a random order: each index `i`, from the last one down to 1, changes with the
+    /// one that `draw(i + 1)` gives. A list of none or one draws nothing.
+    pub fn shuffle<T>(&mut self, list: &mut [T])
         ensures order { list.new ≡ (shuffled list.old self.old).0 }
         ensures state { self.new ≡ (shuffled list.old self.old).1 }
         ensures permutation { IsPermutation list.old list.new }
     {
         for i in (1..list.len()).rev() {
-            let place = self.draw(i as u64 + 1);
-            list.swap(i, place as usize);
+            let other = self.draw(i as u64 + 1);
+            list.swap(i, other as usize);
+        }
+    }
+
+    /// Chooses an index among so many by one draw, also where there is only one. Among none there is
+    /// none, and nothing is drawn.
+    pub fn choose_index(&mut self, length: usize) -> Option<usize>
+        ensures index { result ≡ (chosen_index length self.old).0 }
+        ensures state { self.new ≡ (chosen_index length self.old).1 }
+        ensures below { IfSome result (λ index. index < length) }
+    {
+        if length == 0 {
+            return None;
+        }
+        Some(self.draw(length as u64) as usize)
+    }
+
+    /// Chooses one of a list by one draw, also where there is only one. An empty list gives none, and
+    /// nothing is drawn.
+    pub fn choose<T: Copy>(&mut self, list: &[T]) -> Option<T>
+        ensures choice { result ≡ (chosen list.now self.old).0 }
+        ensures state { self.new ≡ (chosen list.now self.old).1 }
+        ensures member { MatchOption result (list.now ≡ []) (Contains list.now) }
+    {
+        let index = self.choose_index(list.len())?;
+        Some(list[index])
+    }
+
+    /// Another stream that stands where this one does. Nothing is drawn.
+    pub fn copy(&self) -> Stream
+        ensures { result ≡ self.now }
+    {
+        Stream {
+            generator: Pcg32::from_state(self.generator.state(), STREAM),
         }
     }
 
@@ -163,7 +196,7 @@ mod tests {
         }
     }
 
-    // Seven places take six draws, and one place takes none.
+    // Seven items take six draws, and one takes none.
     #[test]
     fn draws_after_a_shuffle(rt: HostRuntime) {
         let mut stream = Stream::new(42);
@@ -172,5 +205,44 @@ mod tests {
         stream.shuffle(&mut [7]);
         assert_eq!(rt; seven, [0, 5, 2, 4, 1, 3, 6]);
         assert_eq!(rt; stream.draw(u64::MAX), 0xed7868263822441d);
+    }
+
+    #[test]
+    fn choices_take_one_draw(rt: HostRuntime) {
+        let tens = [0, 10, 20, 30, 40, 50, 60, 70, 80, 90];
+        for (seed, digits) in [(42, [5, 9, 6]), (0, [9, 6, 7]), (u64::MAX, [4, 5, 2])] {
+            let mut items = Stream::new(seed);
+            let mut indices = Stream::new(seed);
+            for digit in digits {
+                assert_eq!(rt; items.choose(&tens), Some(digit * 10), "at seed {seed}");
+                assert_eq!(rt; indices.choose_index(10), Some(digit), "at seed {seed}");
+            }
+        }
+    }
+
+    // One of one takes a draw, and one of none takes none.
+    #[test]
+    fn draws_after_choices_of_one_and_of_none(rt: HostRuntime) {
+        let mut stream = Stream::new(42);
+        assert_eq!(rt; stream.choose(&["only"]), Some("only"));
+        assert_eq!(rt; stream.choose_index(0), None);
+        assert_eq!(rt; stream.choose::<u8>(&[]), None);
+        assert_eq!(rt; stream.draw(u64::MAX), 0xba1d333083d2f293);
+    }
+
+    #[test]
+    fn texts_are_shuffled_as_numbers_are(rt: HostRuntime) {
+        let mut list = ["zero", "one", "two"];
+        Stream::new(0).shuffle(&mut list);
+        assert_eq!(rt; list, ["two", "zero", "one"]);
+    }
+
+    #[test]
+    fn a_copy_gives_the_words_of_its_stream(rt: HostRuntime) {
+        let mut stream = Stream::new(42);
+        let _word = stream.draw(10);
+        let mut copy = stream.copy();
+        assert_eq!(rt; copy.draw(u64::MAX), 0xba1d333083d2f293);
+        assert_eq!(rt; stream.draw(u64::MAX), 0xba1d333083d2f293);
     }
 }

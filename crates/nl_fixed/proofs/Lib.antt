@@ -1,7 +1,9 @@
 pub mod Angles
+pub mod CharacterLemmas
 pub mod Digits
 pub mod Directions
 pub mod Forms
+pub mod HeadingLemmas
 pub mod Integers
 pub mod NumberLawProofs
 pub mod PlacesLemmas
@@ -17,5 +19,6 @@ pub mod SpellingLawProofs
 pub mod Tangents
 pub mod Texts
 pub mod Turns
+pub mod WholeNumbers
 pub mod Wide
 pub mod Words

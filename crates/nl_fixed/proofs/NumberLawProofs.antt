@@ -5,8 +5,8 @@ use Rattle.std.proofs.lemmas.Bool.{cases_lt}
 use Rattle.std.proofs.Math.Nat.{mul-div_cancel, mul-le-mul}
 use Rattle.nl_fixed.specs.declared.number.NumFault.{NumFault}
 use Rattle.nl_fixed.specs.declared.number.NumFault.TheVariants.{Overflow}
-use Rattle.nl_fixed.specs.Numbers.{IsInRange, one, limit, exponent_limit, in_range, as_number, and_next, floor_quotient, rounded_quotient, floor_of_ratio, cut_quotient, product_of, quotient_of, modulo_of, remainder_of, repeated_product, whole_power, power_of, whole_root, root_of, nearest_multiple, round_of, floor_of, ceiling_of, int_of}
-use Rattle.nl_fixed.specs.NumberLaws.{RoundedIsNearest, OnlyRoundedIsNearest, ModuloDivides, ModuloHasAnswer, RemainderDivides, RemainderHasAnswer, WholeRootIsGreatest, RootIsGreatest, RootHasAnswer, PowerOfZero, PowerOfNext, PowerOfNegative, IsWhole, RoundingsAreAround}
+use Rattle.nl_fixed.specs.Numbers.{IsInRange, IsWhole, one, limit, exponent_limit, in_range, as_number, and_next, floor_quotient, rounded_quotient, floor_of_ratio, cut_quotient, product_of, quotient_of, modulo_of, remainder_of, repeated_product, whole_power, power_of, whole_root, root_of, nearest_multiple, round_of, floor_of, ceiling_of, int_of}
+use Rattle.nl_fixed.specs.NumberLaws.{RoundedIsNearest, OnlyRoundedIsNearest, ModuloDivides, ModuloHasAnswer, RemainderDivides, RemainderHasAnswer, WholeRootIsGreatest, RootIsGreatest, RootHasAnswer, PowerOfZero, PowerOfNext, PowerOfNegative, RoundingsAreAround}
 use Rattle.nl_fixed.proofs.Integers.{floor_low, floor_high, rounded_low, rounded_high, rounded_only}
 use Rattle.nl_fixed.proofs.PlacesLemmas.{as_number_inside}
 use Rattle.nl_fixed.proofs.PowerLemmas.{power_by_negative, power_by_other}

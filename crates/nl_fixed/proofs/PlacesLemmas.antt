@@ -1,11 +1,11 @@
 -- Rounding to places, by the tests that the code makes of their number, and that it stays in the range.
-use Rattle.std.proofs.Common.{ℕ, ◌+◌, ◌-◌, ◌*◌, ◌^◌, ◌<◌, ◌≤◌, ◌≡◌, true, false, leb, ℤ, pos, negsuc, ◌-ℤ◌, ◌≤ℤ◌, ◌<ℤ◌, unsigned_abs, int_div, Ok, Err, ◌∙◌, sym, ap, refl, arith}
+use Rattle.std.proofs.Common.{ℕ, ◌+◌, ◌-◌, ◌*◌, ◌^◌, ◌<◌, ◌≤◌, ◌≡◌, Bool, true, false, cond, leb, ℤ, pos, negsuc, ◌-ℤ◌, ◌≤ℤ◌, ◌<ℤ◌, unsigned_abs, int_div, Ok, Err, ◌∙◌, sym, ap, refl, arith}
 use Rattle.std.proofs.lemmas.Int.{ints}
 use Rattle.std.proofs.lemmas.Bool.Decides.{nat_tests}
 use Rattle.std.proofs.lemmas.Nat.{pow-add}
 use Rattle.std.proofs.Math.Nat.{pow-le-pow_right}
-use Rattle.nl_fixed.specs.declared.number.NumFault.TheVariants.{Domain}
-use Rattle.nl_fixed.specs.Numbers.{IsInRange, one, limit, in_range, as_number, nearest_multiple, to_places, precision_of}
+use Rattle.nl_fixed.specs.declared.number.NumFault.TheVariants.{Overflow, Domain}
+use Rattle.nl_fixed.specs.Numbers.{IsInRange, OverflowsExactly, one, limit, in_range, as_number, nearest_multiple, to_places, precision_of}
 use Rattle.nl_fixed.proofs.RoundingLemmas.{nearest_in_range}
 
 -- ---- as a number
@@ -15,6 +15,25 @@ as_number_inside count inside =
     let near : unsigned_abs count ≤ limit = omega (arith, ints) in
     let is : in_range count ≡ true = grind (arith, nat_tests) in
     rw is refl
+
+pub as_number_outside : (count : ℤ) → limit < unsigned_abs count → as_number count ≡ Err Overflow
+unfolding as_number
+as_number_outside count far =
+    let not_in : in_range count ≡ false = grind (arith, nat_tests) in
+    rw not_in refl
+
+-- a count that becomes a number is one exactly in range
+by_test : (count : ℤ) (test : Bool) → in_range count ≡ test → OverflowsExactly (cond test (Ok count) (Err Overflow)) count
+by_test count true is =
+    let near : unsigned_abs count ≤ limit = grind (arith, nat_tests) in
+    (refl, record { low = omega (arith, ints); high = omega (arith, ints) })
+by_test count false is =
+    let far : limit < unsigned_abs count = grind (arith, nat_tests) in
+    (refl, λ inside. omega (arith, ints, inside.low, inside.high))
+
+pub overflows_exactly : (count : ℤ) → OverflowsExactly (as_number count) count
+unfolding as_number
+overflows_exactly count = by_test count (in_range count) refl
 
 -- ---- the powers of ten that are steps
 pub ten_above_zero : (n : ℕ) → 0 < 10 ^ n

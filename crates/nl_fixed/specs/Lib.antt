@@ -1,3 +1,5 @@
+pub mod Characters
+pub mod Headings
 pub mod Nouns
 pub mod NumberLaws
 pub mod Numbers
@@ -5,3 +7,4 @@ pub mod Quoted
 pub mod Sines
 pub mod Spelling
 pub mod SpellingLaws
+pub mod inner

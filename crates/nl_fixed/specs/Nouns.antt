@@ -12,3 +12,7 @@ Name = Bytes
 -- names, in order
 abbrev pub Names : Type 0
 Names = List Name
+
+-- texts, in order: the cells of a line, the characters of a text
+abbrev pub Texts : Type 0
+Texts = List Bytes

@@ -1,6 +1,6 @@
 -- What the formulas of the arithmetic mean: laws above the definitions, over counts of either sign without a bound.
 use Rattle.std.specs.Prelude.{ℕ, ◌+◌, ◌*◌, ◌<◌, ◌≤◌, ◌≡◌, ◌≢◌, ℤ, pos, ◌+ℤ◌, ◌-ℤ◌, ◌*ℤ◌, neg_ℤ, ◌≤ℤ◌, ◌<ℤ◌, unsigned_abs, Ok, IsOk}
-use Rattle.nl_fixed.specs.Numbers.{IsInRange, one, exponent_limit, and_next, rounded_quotient, product_of, quotient_of, modulo_of, remainder_of, power_of, whole_root, root_of, round_of, floor_of, ceiling_of, int_of}
+use Rattle.nl_fixed.specs.Numbers.{IsInRange, IsWhole, one, exponent_limit, and_next, rounded_quotient, product_of, quotient_of, modulo_of, remainder_of, power_of, whole_root, root_of, round_of, floor_of, ceiling_of, int_of}
 
 -- ---- the rounding
 
@@ -78,11 +78,6 @@ abbrev pub PowerOfNegative : Type 0
 PowerOfNegative = (a : ℤ) (n : ℕ) → 0 < n → n ≤ exponent_limit → power_of a (neg_ℤ (pos (n * one))) ≡ and_next (power_of a (pos (n * one))) (λ power. quotient_of (pos one) power)
 
 -- ---- whole numbers
-
--- the count is one of a whole number
-pub record IsWhole (count : ℤ) : Type 0 where
-  pub number : ℤ
-  pub is : count ≡ number *ℤ pos one
 
 -- the four roundings give whole numbers less than 1 away: the floor from below, the ceiling from above, the cut from
 -- the side of 0, and the nearest one at most a half away

@@ -1,7 +1,7 @@
 -- Fixed-point numbers. A number is a whole count of millionths, from -9*10^18 to 9*10^18. All that is said here is
 -- said over unbounded whole numbers of either sign: an operation works on counts and gives a count, or the fault
 -- that stands in its place.
-use Rattle.std.specs.Prelude.{ℕ, zero, suc, ◌+◌, ◌-◌, ◌*◌, ◌/◌, ◌%◌, ◌^◌, ℤ, pos, negsuc, ◌+ℤ◌, ◌-ℤ◌, ◌*ℤ◌, neg_ℤ, ◌≤ℤ◌, Bool, ◌&&◌, ◌==◌, nat_le, int_div, unsigned_abs, Option, Some, None, Result, Ok, Err, if◌then◌else◌}
+use Rattle.std.specs.Prelude.{◌≡◌, ℕ, zero, suc, ◌+◌, ◌-◌, ◌*◌, ◌/◌, ◌%◌, ◌^◌, ℤ, pos, negsuc, ◌+ℤ◌, ◌-ℤ◌, ◌*ℤ◌, neg_ℤ, ◌≤ℤ◌, Bool, ◌&&◌, ◌==◌, nat_le, int_div, unsigned_abs, Option, Some, None, Result, Ok, Err, if◌then◌else◌}
 use Rattle.std.specs.Int.{int_div_euclid}
 use Rattle.nl_fixed.specs.declared.number.NumFault.{NumFault}
 use Rattle.nl_fixed.specs.declared.number.NumFault.TheVariants.{Overflow, ZeroDivide, Domain}
@@ -32,6 +32,11 @@ number_at count = if in_range count then Some count else None
 unfoldable pub as_number : ℤ → Result ℤ NumFault
 as_number count = if in_range count then Ok count else Err Overflow
 
+-- the result is the number of so many millionths exactly where that is in range, and Overflow exactly where it isn't
+abbrev pub OverflowsExactly : Result ℤ NumFault → ℤ → Type 0
+OverflowsExactly (Ok number) count = (number ≡ count) × IsInRange count
+OverflowsExactly (Err fault) count = (fault ≡ Overflow) × ¬ IsInRange count
+
 -- what comes of a result and of a next step, which is taken only where the result is no fault
 abbrev pub and_next : Result ℤ NumFault → (ℤ → Result ℤ NumFault) → Result ℤ NumFault
 and_next (Ok count) next = next count
@@ -55,6 +60,28 @@ floor_of_ratio a (negsuc b) = floor_quotient (neg_ℤ a) (suc b)
 -- a / b cut toward 0
 abbrev pub cut_quotient : ℤ → ℤ → ℤ
 cut_quotient a b = int_div a b
+
+-- ---- whole numbers
+
+-- the number of a whole number
+abbrev pub number_of_integer : ℤ → Result ℤ NumFault
+number_of_integer n = as_number (n *ℤ pos one)
+
+-- the count is one of a whole number: as a fact, and as a test
+pub record IsWhole (count : ℤ) : Type 0 where
+  pub number : ℤ
+  pub is : count ≡ number *ℤ pos one
+
+abbrev pub is_whole : ℤ → Bool
+is_whole count = unsigned_abs count % one == 0
+
+-- the whole number that is left without the fraction
+abbrev pub whole_part : ℤ → ℤ
+whole_part count = cut_quotient count (pos one)
+
+-- the greatest whole part; the least is its negative
+abbrev pub whole_limit : ℕ
+whole_limit = 9_000_000_000_000
 
 -- ---- sum, difference, product, quotient
 
@@ -96,7 +123,7 @@ exponent_limit = 1_000
 
 -- the count is that of a whole number, not beyond the greatest or the least exponent
 abbrev pub is_exponent : ℤ → Bool
-is_exponent count = (unsigned_abs count % one == 0) && nat_le (unsigned_abs count) (exponent_limit * one)
+is_exponent count = is_whole count && nat_le (unsigned_abs count) (exponent_limit * one)
 
 -- a to the power of the exponent, which is whole: by a negative one, the quotient of 1 by the power
 unfoldable pub whole_power : ℤ → ℤ → Result ℤ NumFault
@@ -142,7 +169,7 @@ ceiling_of count = neg_ℤ (floor_of (neg_ℤ count))
 
 -- toward 0
 unfoldable pub int_of : ℤ → ℤ
-int_of count = cut_quotient count (pos one) *ℤ pos one
+int_of count = whole_part count *ℤ pos one
 
 -- to so many decimal places: with 6 or more nothing is lost, and a negative number of places rounds to tens,
 -- hundreds and so on, up to 10^12
@@ -152,4 +179,4 @@ to_places count (negsuc places) = if nat_le 12 places then Err Domain else as_nu
 
 -- the places are cut toward 0 to a whole number
 unfoldable pub precision_of : ℤ → ℤ → Result ℤ NumFault
-precision_of count places = to_places count (cut_quotient places (pos one))
+precision_of count places = to_places count (whole_part places)

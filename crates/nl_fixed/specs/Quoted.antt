@@ -1,6 +1,6 @@
 -- Texts as they are written between quotes.
 -- The escapes are four of those of the NetLogo Programming Guide ("Strings").
-use Rattle.std.specs.Prelude.{ℕ, ◌==◌, List, [], ◌∷◌, ◌++◌, if◌then◌else◌, codes}
+use Rattle.std.specs.Prelude.{ℕ, ◌==◌, [], ◌∷◌, ◌++◌, if◌then◌else◌, codes}
 use Rattle.std.specs.List.{flat_map}
 use Rattle.nl_fixed.specs.Nouns.{Bytes}
 

@@ -8,8 +8,12 @@ use Rattle.nl_fixed.specs.Numbers.{one, rounded_quotient, quotient_of}
 
 -- ---- the table
 
+-- entries by whole degrees from 0 on, in millionths
+abbrev pub Table : Type 0
+Table = List ℕ
+
 -- the sines of 0 to 90 degrees
-unfoldable pub sines : List ℕ
+unfoldable pub sines : Table
 sines =
     0 ∷ 17452 ∷ 34899 ∷ 52336 ∷ 69756 ∷ 87156 ∷ 104528 ∷ 121869 ∷ 139173 ∷ 156434 ∷
     173648 ∷ 190809 ∷ 207912 ∷ 224951 ∷ 241922 ∷ 258819 ∷ 275637 ∷ 292372 ∷ 309017 ∷ 325568 ∷

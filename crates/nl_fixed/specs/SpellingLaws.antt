@@ -1,8 +1,9 @@
 -- What the spelling of numbers means: laws above the definitions.
-use Rattle.std.specs.Prelude.{◌≡◌, ℕ, suc, ◌+◌, ◌^◌, ◌↔◌, ℤ, pos, negsuc, ◌*ℤ◌, true, List, ◌++◌, length, Some, None, Result, Ok, Err, nat_le, if◌then◌else◌}
+use Rattle.std.specs.Prelude.{◌≡◌, ℕ, suc, ◌+◌, ◌^◌, ◌↔◌, ℤ, pos, negsuc, ◌*ℤ◌, true, ◌++◌, length, Some, None, Result, Ok, Err, nat_le, if◌then◌else◌}
 use Rattle.std.specs.Str.Parse.{digits_value}
 use Rattle.nl_fixed.specs.declared.number.NumFault.{NumFault}
 use Rattle.nl_fixed.specs.declared.number.NumFault.TheVariants.{Overflow}
+use Rattle.nl_fixed.specs.Nouns.{Bytes}
 use Rattle.nl_fixed.specs.Numbers.{IsInRange, as_number, rounded_quotient}
 use Rattle.nl_fixed.specs.Spelling.{Parts, IsSpelled, parts_of, is_number_form, exponent_value, signed, decimal_places, most_digits, read_of, number_text}
 
@@ -10,15 +11,15 @@ use Rattle.nl_fixed.specs.Spelling.{Parts, IsSpelled, parts_of, is_number_form, 
 
 -- the parts that are computed are those by which the word has the form
 abbrev pub PartsFollowTheForm : Type 0
-PartsFollowTheForm = (word : List ℕ) (p : Parts) → (parts_of word ≡ Some p) ↔ IsSpelled word p
+PartsFollowTheForm = (word : Bytes) (p : Parts) → (parts_of word ≡ Some p) ↔ IsSpelled word p
 
 -- whether there are any is computed too
 abbrev pub FormIsComputed : Type 0
-FormIsComputed = (word : List ℕ) → (is_number_form word ≡ true) ↔ ((p : Parts) × IsSpelled word p)
+FormIsComputed = (word : Bytes) → (is_number_form word ≡ true) ↔ ((p : Parts) × IsSpelled word p)
 
 -- a word has the form in one way at most
 abbrev pub PartsAreUnique : Type 0
-PartsAreUnique = (word : List ℕ) (p q : Parts) → IsSpelled word p → IsSpelled word q → p ≡ q
+PartsAreUnique = (word : Bytes) (p q : Parts) → IsSpelled word p → IsSpelled word q → p ≡ q
 
 -- ---- the number that a word writes
 
@@ -36,16 +37,20 @@ moves_left (negsuc n) = suc n
 abbrev pub rounded_value : Parts → Result ℤ NumFault
 rounded_value p =
     if nat_le (length p.whole + length p.fraction) most_digits
-    then as_number (rounded_quotient (signed p.minus (digits_value 10 (p.whole ++ p.fraction)) *ℤ pos (10 ^ (decimal_places + moves_right (exponent_value p.exponent)))) (10 ^ (length p.fraction + moves_left (exponent_value p.exponent))))
+    then as_number
+    (rounded_quotient
+    (signed p.minus (digits_value 10 (p.whole ++ p.fraction))
+    *ℤ pos (10 ^ (decimal_places + moves_right (exponent_value p.exponent))))
+    (10 ^ (length p.fraction + moves_left (exponent_value p.exponent))))
     else Err Overflow
 
 -- a word that has the form of a number reads as its rounded value
 abbrev pub WordsReadAsRounded : Type 0
-WordsReadAsRounded = (word : List ℕ) (p : Parts) → IsSpelled word p → read_of word ≡ Some (rounded_value p)
+WordsReadAsRounded = (word : Bytes) (p : Parts) → IsSpelled word p → read_of word ≡ Some (rounded_value p)
 
 -- any other word reads as nothing
 abbrev pub OthersReadAsNothing : Type 0
-OthersReadAsNothing = (word : List ℕ) → ((p : Parts) → IsSpelled word p → ⊥) → read_of word ≡ None
+OthersReadAsNothing = (word : Bytes) → ((p : Parts) → IsSpelled word p → ⊥) → read_of word ≡ None
 
 -- ---- the text of a number
 

@@ -1,11 +1,11 @@
 //! Sum, difference, product, quotient, `mod` and `remainder`.
-ghost use Rattle.std.specs.Prelude.{◌≡◌, ◌≢◌, ◌<◌, ◌≤◌, ◌*◌, ◌↔◌, pos, unsigned_abs, IsErr};
-ghost use Rattle.nl_fixed.specs.Numbers.{IsInRange, as_number, limit, rounded_quotient, floor_of_ratio, sum_of, difference_of, product_of, quotient_of, modulo_of, remainder_of};
+ghost use Rattle.std.specs.Prelude.{◌≡◌, ◌≢◌, ◌<◌, ◌≤◌, ◌*◌, ◌↔◌, pos, ◌+ℤ◌, ◌-ℤ◌, ◌*ℤ◌, unsigned_abs, IsErr};
+ghost use Rattle.nl_fixed.specs.Numbers.{IsInRange, OverflowsExactly, as_number, limit, one, rounded_quotient, floor_of_ratio, sum_of, difference_of, product_of, quotient_of, modulo_of, remainder_of};
 
 use crate::number::{Num, NumFault, ONE};
 
 /// `ONE`, at the width of the steps between.
-const WIDE_ONE: i128 = 1_000_000;
+pub(crate) const WIDE_ONE: i128 = 1_000_000;
 
 /// The number of so many millionths, which may be any count.
 #[tactic(auto, unfolding(crate::specs::Numbers::as_number))]
@@ -18,10 +18,10 @@ pub(crate) fn number_of(count: i128) -> Result<Num, NumFault>
     }
 }
 
-/// The whole number nearest to p / q, a half upwards. The product of two counts is no greater than p may be.
-pub(crate) fn rounded(p: i128, q: u64) -> i128
+/// The whole number nearest to p / q, a half upwards. The product of two counts of millionths is no greater than p
+/// may be, and q is any count but 0.
+pub fn rounded_quotient(p: i128, q: u64) -> i128
     requires above_zero { 0 < q }
-    requires narrow { q ≤ limit }
     requires product { unsigned_abs p ≤ limit * limit }
     ensures { result ≡ rounded_quotient p q }
 {
@@ -45,23 +45,26 @@ pub(crate) fn floored(a: i64, b: i64) -> i64
 impl Num {
     /// The sum. Overflow where it is out of range.
     pub fn add(self, other: Num) -> Result<Num, NumFault>
-        ensures { result ≡ sum_of self other }
+        ensures value { result ≡ sum_of self other }
+        ensures overflow { OverflowsExactly result (self +ℤ other) }
     {
         number_of(i128::from(self.count) + i128::from(other.count))
     }
 
     /// The number minus the other. Overflow where that is out of range.
     pub fn sub(self, other: Num) -> Result<Num, NumFault>
-        ensures { result ≡ difference_of self other }
+        ensures value { result ≡ difference_of self other }
+        ensures overflow { OverflowsExactly result (self -ℤ other) }
     {
         number_of(i128::from(self.count) - i128::from(other.count))
     }
 
     /// The product, rounded to the nearest millionth, a half upwards. Overflow where that is out of range.
     pub fn mul(self, other: Num) -> Result<Num, NumFault>
-        ensures { result ≡ product_of self other }
+        ensures value { result ≡ product_of self other }
+        ensures overflow { OverflowsExactly result (rounded_quotient (self *ℤ other) one) }
     {
-        number_of(rounded(i128::from(self.count) * i128::from(other.count), ONE as u64))
+        number_of(rounded_quotient(i128::from(self.count) * i128::from(other.count), ONE as u64))
     }
 
     /// The quotient, rounded to the nearest millionth, a half upwards. ZeroDivide where the other is 0, and Overflow
@@ -74,7 +77,7 @@ impl Num {
         }
         let scaled = i128::from(self.count) * WIDE_ONE;
         let dividend = if other.count < 0 { -scaled } else { scaled };
-        number_of(rounded(dividend, other.count.unsigned_abs()))
+        number_of(rounded_quotient(dividend, other.count.unsigned_abs()))
     }
 
     /// The number minus the other times the floor of their quotient: what is left has the other's sign, and is

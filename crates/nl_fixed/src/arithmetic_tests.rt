@@ -1,5 +1,6 @@
 //! The operations on numbers, by rows of counts that were worked out apart from the program.
 
+use crate::arithmetic::rounded_quotient;
 use crate::number::{Num, NumFault};
 use crate::powers::whole_root;
 use std::test::Fail;
@@ -263,5 +264,89 @@ fn numbers_end_at_the_range(rt: HostRuntime) -> Result<(), Fail> {
     assert!(rt; least < greatest);
     assert_eq!(rt; greatest.negate(), least);
     assert_eq!(rt; least.abs(), greatest);
+    Ok(())
+}
+
+#[test]
+fn integers_are_numbers_up_to_the_range(rt: HostRuntime) -> Result<(), Fail> {
+    let overflow = Err(NumFault::Overflow);
+    for (integer, wanted) in [
+        (0, Ok(0)),
+        (-7, Ok(-7_000_000)),
+        (9_000_000_000_000, Ok(9_000_000_000_000_000_000)),
+        (-9_000_000_000_000, Ok(-9_000_000_000_000_000_000)),
+        (9_000_000_000_001, overflow),
+        (-9_000_000_000_001, overflow),
+        (18_446_744_073_709_551_615, overflow),
+        (-9_223_372_036_854_775_808, overflow),
+        (i128::MAX, overflow),
+        (i128::MIN, overflow),
+    ] {
+        assert_eq!(rt; count_of(Num::from_integer(integer)), wanted, "{integer}");
+    }
+    Ok(())
+}
+
+#[test]
+fn whole_parts_are_cut_toward_zero(rt: HostRuntime) -> Result<(), Fail> {
+    // The count, its whole part, and whether it is whole.
+    for (count, part, whole) in [
+        (0, 0, true),
+        (1, 0, false),
+        (-1, 0, false),
+        (999_999, 0, false),
+        (-999_999, 0, false),
+        (2_500_000, 2, false),
+        (-2_500_000, -2, false),
+        (-3_000_000, -3, true),
+        (9_000_000_000_000_000_000, 9_000_000_000_000, true),
+        (-8_999_999_999_999_999_999, -8_999_999_999_999, false),
+    ] {
+        let number = Num::new(count).ok_or("the number is in range")?;
+        assert_eq!(rt; number.whole_part(), part, "the whole part of {count}");
+        assert_eq!(rt; number.is_whole(), whole, "whether {count} is whole");
+    }
+    Ok(())
+}
+
+#[test]
+fn quotients_of_integers_take_a_half_upwards(rt: HostRuntime) {
+    assert_eq!(rt; rounded_quotient(5, 2), 3);
+    assert_eq!(rt; rounded_quotient(-5, 2), -2);
+    assert_eq!(rt; rounded_quotient(1, 2), 1);
+    assert_eq!(rt; rounded_quotient(-1, 2), 0);
+    assert_eq!(rt; rounded_quotient(7, 3), 2);
+    assert_eq!(rt; rounded_quotient(-7, 3), -2);
+    assert_eq!(rt; rounded_quotient(-8, 3), -3);
+    assert_eq!(rt; rounded_quotient(u64::MAX.into(), u64::MAX), 1);
+}
+
+#[test]
+fn differences_of_headings_are_above_minus_180_and_up_to_180(rt: HostRuntime) -> Result<(), Fail> {
+    let overflow = Err(NumFault::Overflow);
+    for (first, second, wanted) in [
+        (80_000_000, 60_000_000, Ok(20_000_000)),
+        (60_000_000, 80_000_000, Ok(-20_000_000)),
+        (5_000_000, 355_000_000, Ok(10_000_000)),
+        (355_000_000, 5_000_000, Ok(-10_000_000)),
+        (180_000_000, 0, Ok(180_000_000)),
+        (0, 180_000_000, Ok(180_000_000)),
+        (540_000_000, 0, Ok(180_000_000)),
+        (0, 179_999_999, Ok(-179_999_999)),
+        (0, 180_000_001, Ok(179_999_999)),
+        (720_000_000, 0, Ok(0)),
+        (-900_000_000, 0, Ok(180_000_000)),
+        (9_000_000_000_000_000_000, 0, Ok(0)),
+        (9_000_000_000_000_000_000, -1, overflow),
+        (-9_000_000_000_000_000_000, 360_000_000, overflow),
+    ] {
+        let left = Num::new(first).ok_or("the first heading is in range")?;
+        let right = Num::new(second).ok_or("the second heading is in range")?;
+        assert_eq!(rt;
+            count_of(left.heading_difference(right)),
+            wanted,
+            "from {second} to {first}"
+        );
+    }
     Ok(())
 }

@@ -4,6 +4,8 @@
 pub mod arithmetic;
 #[cfg(test)]
 mod arithmetic_tests;
+pub mod characters;
+pub mod headings;
 pub mod lists;
 pub mod memory;
 pub mod number;
@@ -17,7 +19,10 @@ pub mod spelling_laws;
 #[cfg(test)]
 mod spelling_tests;
 pub mod text;
+#[cfg(test)]
+mod text_tests;
 
+pub use arithmetic::rounded_quotient;
 pub use lists::{Cells, Names};
 pub use memory::NoMemory;
 pub use number::{Num, NumFault};

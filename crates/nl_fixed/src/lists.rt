@@ -6,84 +6,49 @@ use crate::text::Str;
 use std::alloc::Global;
 use std::marker::Model;
 
-/// Names, in order.
+/// Texts, in order.
 #[derive(Drop)]
-pub struct Names {
+pub struct Texts {
     list: Vec<Str>,
 }
 
-impl Model for Names {
-    ghost use Rattle.std.specs.Prelude.{ℕ, List};
-
-    ghost Value = { List (List ℕ) };
-
-    ghost view = { λ names. names.list.items };
-}
-
-impl Names {
-    /// No names.
-    pub fn empty(alloc: Global) -> Names
-        ensures { result ≡ [] }
-    {
-        Names {
-            list: Vec::new(alloc),
-        }
-    }
-
-    /// The names, in order.
-    pub fn as_slice(&self) -> &[Str]
-        ensures { result.now ≡ self.now }
-    {
-        self.list.as_slice()
-    }
-
-    /// Appends a name, or leaves the list as it was.
-    pub fn push(&mut self, _alloc: Global, name: Str) -> Result<(), NoMemory>
-        ensures ok { OnOk result (self.new ≡ self.old ++ name ∷ []) }
-        ensures err { OnErr result (self.new ≡ self.old) }
-    {
-        self.list.push(name)?;
-        Ok(())
-    }
-}
+/// Names, in order.
+pub type Names = Texts;
 
 /// The cells of one line of a table, in order.
-#[derive(Drop)]
-pub struct Cells {
-    list: Vec<Str>,
+pub type Cells = Texts;
+
+impl Model for Texts {
+    ghost use Rattle.nl_fixed.specs.Nouns.{Texts as TextList};
+
+    ghost Value = { TextList };
+
+    ghost view = { λ texts. texts.list.items };
 }
 
-impl Model for Cells {
-    ghost use Rattle.std.specs.Prelude.{ℕ, List};
-
-    ghost Value = { List (List ℕ) };
-
-    ghost view = { λ cells. cells.list.items };
-}
-
-impl Cells {
-    /// No cells.
-    pub fn empty(alloc: Global) -> Cells
+impl Texts {
+    /// No texts.
+    pub fn empty(alloc: Global) -> Texts
         ensures { result ≡ [] }
     {
-        Cells {
+        Texts {
             list: Vec::new(alloc),
         }
     }
 
-    /// The cells, in order.
+    /// The texts, in order.
     pub fn as_slice(&self) -> &[Str]
         ensures { result.now ≡ self.now }
     {
         self.list.as_slice()
     }
 
-    /// Appends a cell, or leaves the list as it was.
-    pub fn push(&mut self, _alloc: Global, cell: Str) -> Result<(), NoMemory>
-        ensures ok { OnOk result (self.new ≡ self.old ++ cell ∷ []) }
+    /// Appends a text, or leaves the list as it was.
+    pub fn push(&mut self, _alloc: Global, text: Str) -> Result<(), NoMemory>
+        ensures ok { OnOk result (self.new ≡ self.old ++ text ∷ []) }
         ensures err { OnErr result (self.new ≡ self.old) }
     {
-        self.list.push(cell)?;
+        self.list.push(text)?;
         Ok(())
     }
 }

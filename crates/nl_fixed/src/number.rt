@@ -1,7 +1,8 @@
 //! Fixed-point numbers: whole counts of millionths.
 ghost use Rattle.std.specs.Prelude.{◌≡◌, pos, ◌*ℤ◌};
-ghost use Rattle.nl_fixed.specs.Numbers.{IsInRange, number_at, one};
+ghost use Rattle.nl_fixed.specs.Numbers.{IsInRange, OverflowsExactly, number_at, number_of_integer, one};
 
+use crate::arithmetic::{WIDE_ONE, number_of};
 use std::marker::Model;
 use thiserror::Error;
 
@@ -58,6 +59,17 @@ impl Num {
         ensures { result ≡ number_at (n *ℤ pos one) }
     {
         n.checked_mul(ONE).and_then(Num::new)
+    }
+
+    /// The number of a whole number, which may be any count. Overflow where it is out of range.
+    pub fn from_integer(n: i128) -> Result<Num, NumFault>
+        ensures value { result ≡ number_of_integer n }
+        ensures overflow { OverflowsExactly result (n *ℤ pos one) }
+    {
+        match i64::try_from(n) {
+            Ok(n) => number_of(i128::from(n) * WIDE_ONE),
+            Err(_) => Err(NumFault::Overflow),
+        }
     }
 
     /// How many millionths the number is.

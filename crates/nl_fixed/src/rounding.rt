@@ -1,8 +1,8 @@
 //! Rounding to whole numbers and to places, and changes of sign.
-ghost use Rattle.std.specs.Prelude.{◌≡◌, ◌<◌, ◌≤◌, ◌↔◌, pos, neg_ℤ, ◌<ℤ◌, unsigned_abs, IsErr};
-ghost use Rattle.nl_fixed.specs.Numbers.{IsInRange, one, limit, cut_quotient, nearest_multiple, round_of, floor_of, ceiling_of, int_of, precision_of};
+ghost use Rattle.std.specs.Prelude.{◌≡◌, ◌<◌, ◌≤◌, ◌↔◌, pos, neg_ℤ, ◌<ℤ◌, unsigned_abs, IsErr, IsTrue};
+ghost use Rattle.nl_fixed.specs.Numbers.{IsInRange, IsWhole, one, limit, whole_limit, whole_part, is_whole, nearest_multiple, round_of, floor_of, ceiling_of, int_of, precision_of};
 
-use crate::arithmetic::{number_of, rounded};
+use crate::arithmetic::{number_of, rounded_quotient};
 use crate::number::{Num, NumFault, ONE};
 
 /// The multiple of `step` nearest to the count, a half upwards.
@@ -12,7 +12,7 @@ pub(crate) fn nearest_multiple(count: i64, step: u64) -> i128
     requires in_range { IsInRange count }
     ensures { result ≡ nearest_multiple count step }
 {
-    rounded(i128::from(count), step) * i128::from(step)
+    rounded_quotient(i128::from(count), step) * i128::from(step)
 }
 
 impl Num {
@@ -62,8 +62,24 @@ impl Num {
         ensures { result ≡ int_of self }
     {
         Num {
-            count: self.count / ONE * ONE,
+            count: self.whole_part() * ONE,
         }
+    }
+
+    /// The whole number that is left without the fraction, as an integer.
+    pub fn whole_part(self) -> i64
+        ensures value { result ≡ whole_part self }
+        ensures bound { unsigned_abs result ≤ whole_limit }
+    {
+        self.count / ONE
+    }
+
+    /// Whether the number has no fraction.
+    pub fn is_whole(self) -> bool
+        ensures value { result ≡ is_whole self }
+        ensures whole { IsTrue result ↔ IsWhole self }
+    {
+        self.count % ONE == 0
     }
 
     /// The number rounded to so many decimal places, a half upwards: the places are cut toward 0 to a whole number,
@@ -71,7 +87,7 @@ impl Num {
     /// on. Domain where the places are fewer than -12.
     pub fn precision(self, places: Num) -> Result<Num, NumFault>
         ensures value { result ≡ precision_of self places }
-        ensures domain { IsErr result ↔ (cut_quotient places (pos one) <ℤ neg_ℤ (pos 12)) }
+        ensures domain { IsErr result ↔ (whole_part places <ℤ neg_ℤ (pos 12)) }
     {
         let places = places.count / ONE;
         if places < -12 {

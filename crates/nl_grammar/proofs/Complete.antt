@@ -5,9 +5,18 @@ use Rattle.nl_fixed.specs.declared.span.Span.{Span}
 use Rattle.nl_tree.specs.declared.tree.Label.{Label}
 use Rattle.nl_tree.specs.declared.tree.Label.TheVariants as label
 use Rattle.nl_tree.specs.Tree.{Node, node, Nodes, none, more}
-use Rattle.nl_tree.specs.Tokens.{CommandsBlock, Need, Item, Whole, Within, Maybe, Variable, Unknown, Command, Let, With, Near, Of, Binary, Tok, word, open_bracket, close_bracket, open_paren, close_paren}
-use Rattle.nl_tree.specs.Grammar.{one, two, leaf, join, and_last, opens, top, Ending, AtBracket, AtEnd, Part, Closed, Chain, Sides, Call, LastCall, Items, AnyItems, Level, Literals, Arg, Args, Statement, Statements, Reads, closed_number, closed_text, closed_constant, closed_plain, closed_variable, closed_local, closed_list, closed_block, paren, paren_many, paren_minus, chain_closed, chain_with, chain_near, one_side, more_sides, call_prefix, call_many, one_item, more_items, no_item, any_item, last_call, more_last, item_chain, item_call, item_near, item_of, level_up, level_binary, literal_end, literal_number, literal_text, literal_constant, literal_list, arg_item, arg_whole, arg_commands, arg_reporter, arg_variable, arg_local, no_arg, arg, maybe_there, maybe_missing, command, make, statement_paren, at_bracket, at_end, statements}
-use Rattle.nl_grammar.specs.Machine.{Last, ThenItem, ThenBlock, ThenNothing, Frame, InBinary, InWith, InNear, InOf, InCall, InLastItem, InLastBlock, InMany, InItems, InParen, InMinus, InReporter, InBracket, InList, InLet, InStatementParen, InStatements, Shape, Literal, Growing, Fixed, Begin, Opening, Optional, Choosing, Have, Shut, Listing, Stating, Over, State, st, go, Got, got, end_statement, next, closed, supply, accept, end_list, closes, build, built_shape, settle, takes_operator, feed_local, begin_call, begin_many, begin_bracket, feed_begin, feed_variable, feed_paren, feed_statement, begins_statement, feed_stating, feed_fresh, feed_plain, without_maybes, feed_ready, feed_broken, feed_operator, feed_binary, feed, run_from, run}
+use Rattle.nl_tree.specs.Tokens.{Unknown, Command, Let, With, Near, Of, Binary, Tok, word, open_bracket, close_bracket, open_paren, close_paren}
+use Rattle.nl_tree.specs.declared.needs.Block.TheVariants as blocks
+use Rattle.nl_tree.specs.declared.needs.Need.{Need}
+use Rattle.nl_tree.specs.declared.needs.Need.TheVariants.{Item, Whole, Within, Maybe, Variable}
+use Rattle.nl_tree.specs.Grammar.{one, two, leaf, join, and_last, opens, top, Part, Closed, Chain, Sides, Call, LastCall, Items, AnyItems, Level, Literals, Arg, Args, Statement, Statements, Reads, closed_number, closed_text, closed_constant, closed_plain, closed_variable, closed_local, closed_list, closed_block, paren, paren_many, paren_minus, chain_closed, chain_with, chain_near, one_side, more_sides, call_prefix, call_many, one_item, more_items, no_item, any_item, last_call, more_last, item_chain, item_call, item_near, item_of, level_up, level_binary, literal_end, literal_number, literal_text, literal_constant, literal_list, arg_item, arg_whole, arg_commands, arg_reporter, arg_variable, arg_local, no_arg, arg, maybe_there, maybe_missing, command, make, statement_paren, at_bracket, at_end, statements}
+use Rattle.nl_tree.specs.declared.needs.Ending.{Ending}
+use Rattle.nl_tree.specs.declared.needs.Ending.TheVariants.{AtBracket, AtEnd}
+use Rattle.nl_grammar.specs.Machine.{Frame, InBinary, InWith, InNear, InOf, InCall, InLastItem, InLastBlock, InMany, InItems, InParen, InMinus, InReporter, InBracket, InList, InLet, InStatementParen, InStatements, Begin, Opening, Optional, Choosing, Have, Shut, Listing, Stating, Over, State, st, go, Got, got, end_statement, next, closed, supply, accept, end_list, closes, build, built_shape, settle, takes_operator, feed_local, begin_call, begin_many, begin_bracket, feed_begin, feed_variable, feed_paren, feed_statement, begins_statement, feed_stating, feed_fresh, feed_plain, without_maybes, feed_ready, feed_broken, feed_operator, feed_binary, feed, run_from, run}
+use Rattle.nl_grammar.specs.declared.pending.Last.{Last}
+use Rattle.nl_grammar.specs.declared.pending.Last.TheVariants as lasts
+use Rattle.nl_grammar.specs.declared.pending.Shape.{Shape}
+use Rattle.nl_grammar.specs.declared.pending.Shape.TheVariants.{Literal, Growing, Fixed}
 
 -- a token with which no chain goes on, as it is no operator
 abbrev pub breaks : Tok → Bool
@@ -173,9 +182,9 @@ ready_next w s had (Whole ∷ is) last e K tok = refl
 ready_next w s had (Within b ∷ is) last e K tok = refl
 ready_next w s had (Maybe ∷ is) last e K tok = refl
 ready_next w s had (Variable ∷ is) last e K tok = refl
-ready_next w s had [] ThenItem e K tok = refl
-ready_next w s had [] (ThenBlock b) e K tok = refl
-ready_next w s had [] ThenNothing e K tok = ready_end (node (label.Named w) s had) e K tok
+ready_next w s had [] lasts.Item e K tok = refl
+ready_next w s had [] (lasts.Block b) e K tok = refl
+ready_next w s had [] lasts.Nothing e K tok = ready_end (node (label.Named w) s had) e K tok
 
 pub ready : (x : Shape) (t : Node) (e : List (List ℕ)) (K : List Frame) (tok : Tok) → feed_ready (accept x t e K) tok ≡ feed (accept x t e K) tok
 ready x t e [] tok = refl
@@ -316,7 +325,7 @@ begin_many_next w s n e (InNear v r ts zero ∷ K) h = refl
 begin_many_next w s n e (InNear v r ts (suc m) ∷ K) h = absurd h
 begin_many_next w s n e (f ∷ K) h = refl
 
-pub begin_call_next : (w : List ℕ) (s : Span) (is : List Need) (e : List (List ℕ)) (K : List Frame) → TakesCall K → begin_call w s is e K ≡ go (next w s none is ThenItem e K)
+pub begin_call_next : (w : List ℕ) (s : Span) (is : List Need) (e : List (List ℕ)) (K : List Frame) → TakesCall K → begin_call w s is e K ≡ go (next w s none is lasts.Item e K)
 begin_call_next w s is e [] h = refl
 begin_call_next w s is e (InNear v r ts zero ∷ K) h = refl
 begin_call_next w s is e (InNear v r ts (suc n) ∷ K) h = absurd h
@@ -360,7 +369,7 @@ many_step zero w s had p K q d e a b c t us h eq f g =
 
 -- Blocks that may be missing.
 
-there : {e : List (List ℕ)} {a c : List Tok} {ts : Nodes} → Reads (Arg (Within CommandsBlock)) e a c ts → (w : List ℕ) (s : Span) (had : Nodes) (is : List Need) (last : Last) (K : List Frame) → run (st Optional e (InCall w s had Maybe is last ∷ K)) a ≡ run (st (Opening CommandsBlock) e (InCall w s had Maybe is last ∷ K)) a
+there : {e : List (List ℕ)} {a c : List Tok} {ts : Nodes} → Reads (Arg (Within blocks.Commands)) e a c ts → (w : List ℕ) (s : Span) (had : Nodes) (is : List Need) (last : Last) (K : List Frame) → run (st Optional e (InCall w s had Maybe is last ∷ K)) a ≡ run (st (Opening blocks.Commands) e (InCall w s had Maybe is last ∷ K)) a
 there (arg_commands d) w s had is last K = refl
 
 plain_end : (t : Node) (e : List (List ℕ)) (K : List Frame) (tok : Tok) → feed_plain (end_statement t e K) tok ≡ feed (end_statement t e K) tok
@@ -376,9 +385,9 @@ missing_at w s had (Within b ∷ is) last e K tok h = refl
 missing_at w s had (Variable ∷ is) last e K tok h = refl
 missing_at w s had (Maybe ∷ is) last e K (open_bracket r) h = cc
 missing_at w s had (Maybe ∷ is) last e K tok h = refl
-missing_at w s had [] ThenItem e K tok h = refl
-missing_at w s had [] (ThenBlock b) e K tok h = refl
-missing_at w s had [] ThenNothing e K tok h = plain_end (node (label.Named w) s had) e K tok
+missing_at w s had [] lasts.Item e K tok h = refl
+missing_at w s had [] (lasts.Block b) e K tok h = refl
+missing_at w s had [] lasts.Nothing e K tok h = plain_end (node (label.Named w) s had) e K tok
 
 pub missing : (w : List ℕ) (s : Span) (had : Nodes) (is : List Need) (last : Last) (e : List (List ℕ)) (K : List Frame) (a : List Tok) → Breaking a → IsTrue (not (opens a)) → run (st Optional e (InCall w s had Maybe is last ∷ K)) a ≡ run (next w s had is last e K) a
 missing w s had is last e K [] b h = absurd b
@@ -409,7 +418,7 @@ completes {e} {c} (closed_list {s = s} {b = b} {ts = ts} d) = λ K h. (Literal, 
     at m [] h = m.1 s [] h
     at m (InNear w r us n ∷ K) h = m.0 s none (InNear w r us n ∷ K)
     at m (f ∷ K) h = m.1 s (f ∷ K) h
-completes (closed_block {w = w} {k = k} {s = s} {ts = ts} d f) = λ K h. (Fixed, completes d w s none (ThenBlock k) K (heads f) ∙ completes f (InLastBlock w s ts k ∷ K))
+completes (closed_block {w = w} {k = k} {s = s} {ts = ts} d f) = λ K h. (Fixed, completes d w s none (lasts.Block k) K (heads f) ∙ completes f (InLastBlock w s ts k ∷ K))
 completes {e} (paren {s = s} {t = t} d) = λ K h. (Fixed, (ended top t e K _ _ (InParen s) (omega arith) (λ m. refl) refl (completes d (InParen s ∷ K) (omega arith) (refl, refl))).1)
 completes (paren_many {w = w} {n = n} {s = s} {r = r} {q = q} {c = c} d) = λ K h. (Fixed, (completes d).1 w r none n s K q c refl)
 completes {e} (paren_minus {s = s} {r = r} {t = t} d) = λ K h. (Fixed, (ended zero t e K _ _ (InMinus s r) (omega arith) (λ m. refl) refl (completes d (InMinus s r ∷ K) (omega arith) tt)).1)
@@ -420,7 +429,7 @@ completes (one_side d) = λ w s had K. (completes d (InNear w s had zero ∷ K) 
 completes {e} {c} (more_sides {n = n} {t = t} {us = us} d f) = λ w s had K. (completes d (InNear w s had (suc n) ∷ K) tt).1 ∙ completes f w s (and_last had t) K ∙ ap (λ ts. run (st (Have Fixed (node (label.Named w) s ts)) e K) c) (join_last had t us)
 completes {e} {c} (call_prefix {w = w} {is = is} {s = s} {a = a} {ts = ts} {t = t} d f) = λ K h.
     let m : Comes zero e (InLastItem w s ts ∷ K) (InLastItem w s ts ∷ K) t _ c = completes f (InLastItem w s ts ∷ K) (omega arith) tt in
-    record { held = m.held; tree = m.tree; rest = m.rest; shape = Fixed; runs = ap (λ x. run_from x a) (begin_call_next w s is e K h) ∙ completes d w s none ThenItem K (heads f) ∙ m.runs; settles = m.settles }
+    record { held = m.held; tree = m.tree; rest = m.rest; shape = Fixed; runs = ap (λ x. run_from x a) (begin_call_next w s is e K h) ∙ completes d w s none lasts.Item K (heads f) ∙ m.runs; settles = m.settles }
 completes {e} {c} (call_many {w = w} {n = n} {s = s} {a = a} {ts = ts} d) = λ K h.
     let m : Comes zero e (InMany w s none n ∷ K) K (node (label.Named w) s ts) a c = completes d w s none K in
     record { held = m.held; tree = m.tree; rest = m.rest; shape = m.shape; runs = ap (λ x. run_from x a) (begin_many_next w s n e K h) ∙ m.runs; settles = m.settles }
@@ -488,7 +497,7 @@ completes {e} {c} (arg {i = Variable} {is = is} {t = t} {ts = us} d f) = λ w s 
 completes (arg {i = Maybe} d f) = λ w s ts last K b. absurd (no_maybe d)
 completes {e} {c} (maybe_there {is = is} {t = t} {ts = us} d f) = λ w s ts last K b. there d w s ts is last K ∙ completes d (InCall w s ts Maybe is last ∷ K) ∙ completes f w s (and_last ts t) last K b ∙ ap (λ us. run (next w s us [] last e K) c) (join_last ts t us)
 completes {e} {a} (maybe_missing {is = is} m d) = λ w s ts last K b. missing w s ts is last e K a (heads d b) m ∙ completes d w s ts last K b
-completes {e} (command {w = w} {is = is} {s = s} {b = b} d) = λ K h m. ap (λ x. run_from x b) (stating e K (word w (Command is) s) h refl) ∙ completes d w s none ThenNothing K m
+completes {e} (command {w = w} {is = is} {s = s} {b = b} d) = λ K h m. ap (λ x. run_from x b) (stating e K (word w (Command is) s) h refl) ∙ completes d w s none lasts.Nothing K m
 completes {e} {c} (make {w = w} {n = n} {s = s} {r = r} {b = b} {t = t} q d) = λ K h m. ap (λ x. run_from x (word n Unknown r ∷ b)) (stating e K (word w Let s) h refl) ∙ ap (λ x. run_from (feed_fresh x w s n r e K) b) q ∙ (ended top t e K b c (InLet w s n r) (omega arith) (λ l. refl) m (completes d (InLet w s n r ∷ K) (omega arith) (refl, refl))).1
 completes {e} (statement_paren {s = s} {b = b} d) = λ K h m. ap (λ x. run_from x b) (stating e K (open_paren s) h refl) ∙ completes d (InStatementParen s ∷ K) tt refl
 completes {c} at_bracket = λ s before ts K. ap (λ us. run (end_statements AtBracket s us before K) c) (sym (join_none ts))

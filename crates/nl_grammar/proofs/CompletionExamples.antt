@@ -1,8 +1,11 @@
 -- What some tokens leave open, the least depth that they allow, and the kinds of some faults.
 use Rattle.std.proofs.Common.{◌≡◌, ℕ, zero, suc, false, List, [], ◌∷◌, ◌++◌, refl, codes}
 use Rattle.nl_tree.specs.declared.declared.Form.TheVariants as form
-use Rattle.nl_tree.specs.Tokens.{CommandsBlock, ReporterBlock, Whole, Within, Maybe, Variable, Unknown, Plain, Named, Many, Command, Let, Near, Binary, Tok, open_bracket, close_bracket, open_paren}
-use Rattle.nl_tree.specs.BodyFault.{TextFault, UnknownName, Unexpected}
+use Rattle.nl_tree.specs.Tokens.{Unknown, Plain, Named, Many, Command, Let, Near, Binary, Tok, open_bracket, close_bracket, open_paren}
+use Rattle.nl_tree.specs.declared.needs.Block.TheVariants as blocks
+use Rattle.nl_tree.specs.declared.needs.Need.TheVariants.{Whole, Within, Maybe, Variable}
+use Rattle.nl_tree.specs.declared.faults.BodyKind.{BodyKind}
+use Rattle.nl_tree.specs.declared.faults.BodyKind.TheVariants.{UnknownName, Unexpected}
 use Rattle.nl_grammar.specs.Machine.{Step, go, stop, run, start}
 use Rattle.nl_grammar.specs.Depth.{least_depth}
 use Rattle.nl_grammar.specs.Completion.{Piece, AValue, AVariable, AStatement, AnOf, AName, ABracket, ItsBracket, ItsParen, ItsEnd, pieces}
@@ -57,13 +60,13 @@ one_item_in_parentheses : pieces_of (expression (open_paren (at 0) ∷ w "list" 
 one_item_in_parentheses = refl
 
 -- blocks, a variable, a name, a statement
-both_blocks : pieces_of (commands (w "while" (Command (Within ReporterBlock ∷ Within CommandsBlock ∷ [])) 0 ∷ [])) ≡ ABracket ∷ AValue ∷ ItsBracket ∷ ABracket ∷ ItsBracket ∷ ItsEnd ∷ []
+both_blocks : pieces_of (commands (w "while" (Command (Within blocks.Reporter ∷ Within blocks.Commands ∷ [])) 0 ∷ [])) ≡ ABracket ∷ AValue ∷ ItsBracket ∷ ABracket ∷ ItsBracket ∷ ItsEnd ∷ []
 both_blocks = refl
 
 block_may_be_missing : pieces_of (commands (w "crt" (Command (Whole ∷ Maybe ∷ [])) 0 ∷ [])) ≡ AValue ∷ ItsEnd ∷ []
 block_may_be_missing = refl
 
-first_bracket_is_its_own : pieces_of (commands (w "foo" (Command (Maybe ∷ Within CommandsBlock ∷ [])) 0 ∷ [])) ≡ ABracket ∷ ItsBracket ∷ ABracket ∷ ItsBracket ∷ ItsEnd ∷ []
+first_bracket_is_its_own : pieces_of (commands (w "foo" (Command (Maybe ∷ Within blocks.Commands ∷ [])) 0 ∷ [])) ≡ ABracket ∷ ItsBracket ∷ ABracket ∷ ItsBracket ∷ ItsEnd ∷ []
 first_bracket_is_its_own = refl
 
 variable_and_value : pieces_of (commands (w "set" (Command (Variable ∷ Whole ∷ [])) 0 ∷ [])) ≡ AVariable ∷ AValue ∷ ItsEnd ∷ []
@@ -81,7 +84,7 @@ abbrev opening : ℕ → List Tok
 opening zero = []
 opening (suc k) = open_paren (at 0) ∷ opening k
 
-depth_of_a_missing_block : depth_of (commands (w "while" (Command (Within ReporterBlock ∷ Within CommandsBlock ∷ [])) 0 ∷ [])) ≡ 4
+depth_of_a_missing_block : depth_of (commands (w "while" (Command (Within blocks.Reporter ∷ Within blocks.Commands ∷ [])) 0 ∷ [])) ≡ 4
 depth_of_a_missing_block = refl
 
 list_is_allowed : depth_of (expression (opening 198 ++ open_bracket (at 1) ∷ [])) ≡ 199
@@ -95,7 +98,7 @@ looser_operator_is_above = refl
 
 -- Kinds.
 
-abbrev kind_of : Step → Tok → TextFault
+abbrev kind_of : Step → Tok → BodyKind
 kind_of (go s) tok = kind_at s tok
 kind_of stop tok = Unexpected
 
@@ -114,7 +117,7 @@ behind_a_let_in_parentheses = refl
 in_the_sum_of_a_let : kind_of (commands (w "let" Let 0 ∷ w "x" Unknown 1 ∷ n 5 2 ∷ w "+" (Binary 2 false) 3 ∷ [])) (w "x" Unknown 4) ≡ UnknownName
 in_the_sum_of_a_let = refl
 
-behind_its_block : kind_of (commands (w "loop" (Command (Within CommandsBlock ∷ [])) 0 ∷ open_bracket (at 1) ∷ w "let" Let 2 ∷ w "x" Unknown 3 ∷ n 5 4 ∷ close_bracket (at 5) ∷ [])) (w "x" Unknown 6) ≡ UnknownName
+behind_its_block : kind_of (commands (w "loop" (Command (Within blocks.Commands ∷ [])) 0 ∷ open_bracket (at 1) ∷ w "let" Let 2 ∷ w "x" Unknown 3 ∷ n 5 4 ∷ close_bracket (at 5) ∷ [])) (w "x" Unknown 6) ≡ UnknownName
 behind_its_block = refl
 
 number_is_unexpected : kind_of (expression (n 1 0 ∷ [])) (n 2 1) ≡ Unexpected

@@ -5,9 +5,19 @@ use Rattle.nl_tree.specs.declared.tree.Label.TheVariants as label
 use Rattle.nl_tree.specs.declared.declared.Form.{Form}
 use Rattle.nl_tree.specs.Tree.{Node, node, Nodes, none, more, depth, depths}
 use Rattle.nl_tree.specs.Vocabulary.{among}
-use Rattle.nl_tree.specs.Tokens.{Block, CommandsBlock, ReporterBlock, Need, Item, Whole, Within, Maybe, Variable, Unknown, Constant, Plain, Named, Prefix, Many, Closing, Command, Let, With, Near, Of, Binary, Tok, number, text, word, open_bracket, close_bracket, open_paren, close_paren, end}
-use Rattle.nl_tree.specs.Grammar.{one, two, leaf, and_last, opens, top, Ending, AtBracket, AtEnd, Reads}
-use Rattle.nl_grammar.specs.Machine.{Last, ThenItem, ThenBlock, ThenNothing, Frame, InBinary, InWith, InNear, InOf, InCall, InLastItem, InLastBlock, InMany, InItems, InParen, InMinus, InReporter, InBracket, InList, InLet, InStatementParen, InStatements, Shape, Literal, Growing, Fixed, Begin, Opening, Optional, Choosing, Have, Blocked, Shut, Listing, Stating, Naming, Ended, Over, Dead, State, st, Step, go, stop, Got, got, end_statement, next, closed, supply, accept, closes, build, built_shape, settle, feed_local, begin_call, begin_many, begin_minus, begin_bracket, end_many, feed_begin, feed_opening, feed_variable, feed_choosing, feed_blocked, feed_items, feed_listing, feed_bracket, feed_paren, feed_shut, feed_ending, feed_statement, feed_stating, feed_fresh, feed_naming, feed_ended, feed_plain, without_maybes, feed_optional, feed_ready, feed_broken, feed_operator, got_takes, feed_binary, feed_have, feed}
+use Rattle.nl_tree.specs.Tokens.{Unknown, Constant, Plain, Named, Prefix, Many, Closing, Command, Let, With, Near, Of, Binary, Tok, number, text, word, open_bracket, close_bracket, open_paren, close_paren, end}
+use Rattle.nl_tree.specs.declared.needs.Block.{Block}
+use Rattle.nl_tree.specs.declared.needs.Block.TheVariants as blocks
+use Rattle.nl_tree.specs.declared.needs.Need.{Need}
+use Rattle.nl_tree.specs.declared.needs.Need.TheVariants.{Item, Whole, Within, Maybe, Variable}
+use Rattle.nl_tree.specs.Grammar.{one, two, leaf, and_last, opens, top, Reads}
+use Rattle.nl_tree.specs.declared.needs.Ending.{Ending}
+use Rattle.nl_tree.specs.declared.needs.Ending.TheVariants.{AtBracket, AtEnd}
+use Rattle.nl_grammar.specs.Machine.{Frame, InBinary, InWith, InNear, InOf, InCall, InLastItem, InLastBlock, InMany, InItems, InParen, InMinus, InReporter, InBracket, InList, InLet, InStatementParen, InStatements, Begin, Opening, Optional, Choosing, Have, Blocked, Shut, Listing, Stating, Naming, Ended, Over, Dead, State, st, Step, go, stop, Got, got, end_statement, next, closed, supply, accept, closes, build, built_shape, settle, feed_local, begin_call, begin_many, begin_minus, begin_bracket, end_many, feed_begin, feed_opening, feed_variable, feed_choosing, feed_blocked, feed_items, feed_listing, feed_bracket, feed_paren, feed_shut, feed_ending, feed_statement, feed_stating, feed_fresh, feed_naming, feed_ended, feed_plain, without_maybes, feed_optional, feed_ready, feed_broken, feed_operator, got_takes, feed_binary, feed_have, feed}
+use Rattle.nl_grammar.specs.declared.pending.Last.{Last}
+use Rattle.nl_grammar.specs.declared.pending.Last.TheVariants as lasts
+use Rattle.nl_grammar.specs.declared.pending.Shape.{Shape}
+use Rattle.nl_grammar.specs.declared.pending.Shape.TheVariants.{Literal, Growing, Fixed}
 use Rattle.nl_grammar.specs.Depth.{least_block, least_inputs, least_values, is_literal, frame_depth, stays_literal, whole_depth, begin_depth, optional_depth, statement_depth, least_depth}
 use Rattle.nl_tree.specs.Grammar.{Chain, item_chain}
 use Rattle.nl_grammar.proofs.Complete.{settle_on, settle_stop}
@@ -72,9 +82,9 @@ need_next w s ts (Whole ∷ is) last e K u = same K false _ _ (omega arith)
 need_next w s ts (Within b ∷ is) last e K u = same K false _ _ (omega arith)
 need_next w s ts (Maybe ∷ is) last e K u = same K false _ _ (omega arith)
 need_next w s ts (Variable ∷ is) last e K u = same K false _ _ (omega arith)
-need_next w s ts [] ThenItem e K u = same K false _ _ (omega arith)
-need_next w s ts [] (ThenBlock b) e K u = same K false _ _ (omega arith)
-need_next w s ts [] ThenNothing e K u = need_end (node (label.Named w) s ts) e K u ∙ same K false _ _ (omega arith)
+need_next w s ts [] lasts.Item e K u = same K false _ _ (omega arith)
+need_next w s ts [] (lasts.Block b) e K u = same K false _ _ (omega arith)
+need_next w s ts [] lasts.Nothing e K u = need_end (node (label.Named w) s ts) e K u ∙ same K false _ _ (omega arith)
 
 need_closed : (x : Shape) (t : Node) (e : List (List ℕ)) (K : List Frame) → least_depth (closed x t e K) ≡ whole_depth (is_literal x) (depth t) K
 need_closed x t e [] = refl
@@ -158,10 +168,10 @@ grows_items s ts e (f ∷ K) (close_bracket q) n h = by _ _ _ (omega (arith, h, 
 grows_items s ts e K tok n h = tt
 
 grows_call : (v : List ℕ) (s : Span) (is : List Need) (e : List (List ℕ)) (K : List Frame) → Begins K → Grows (begin_depth K) (begin_call v s is e K)
-grows_call v s is e [] u = by _ _ _ (begin_low [] false (suc (max 0 (least_inputs is ThenItem))) (omega arith)) (need_next v s none is ThenItem e [] u)
-grows_call v s is e (InNear t r us zero ∷ K) u = by _ _ _ (begin_low (InNear t r us zero ∷ K) false (suc (max 0 (least_inputs is ThenItem))) (omega arith)) (need_next v s none is ThenItem e (InNear t r us zero ∷ K) u)
+grows_call v s is e [] u = by _ _ _ (begin_low [] false (suc (max 0 (least_inputs is lasts.Item))) (omega arith)) (need_next v s none is lasts.Item e [] u)
+grows_call v s is e (InNear t r us zero ∷ K) u = by _ _ _ (begin_low (InNear t r us zero ∷ K) false (suc (max 0 (least_inputs is lasts.Item))) (omega arith)) (need_next v s none is lasts.Item e (InNear t r us zero ∷ K) u)
 grows_call v s is e (InNear t r us (suc n) ∷ K) u = tt
-grows_call v s is e (f ∷ K) u = by _ _ _ (begin_low (f ∷ K) false (suc (max 0 (least_inputs is ThenItem))) (omega arith)) (need_next v s none is ThenItem e (f ∷ K) u)
+grows_call v s is e (f ∷ K) u = by _ _ _ (begin_low (f ∷ K) false (suc (max 0 (least_inputs is lasts.Item))) (omega arith)) (need_next v s none is lasts.Item e (f ∷ K) u)
 
 grows_many : (v : List ℕ) (s : Span) (n : ℕ) (e : List (List ℕ)) (K : List Frame) → Grows (begin_depth K) (begin_many v s n e K)
 grows_many v s n e [] = begin_low [] false (suc (max (max 0 1) (least_values n))) (omega arith)
@@ -199,7 +209,7 @@ grows_begin e K (word v Constant s) u = by (begin_depth K) _ _ (begin_low K true
 grows_begin e K (word v Plain s) u = by (begin_depth K) _ _ (begin_low K false 1 (omega arith)) (need_closed Fixed (leaf (label.Named v) s) e K)
 grows_begin e K (word v Named s) u = by (begin_depth K) _ _ (begin_low K false 1 (omega arith)) (need_closed Fixed (leaf (label.Named v) s) e K)
 grows_begin e K (word v (Prefix is) s) u = grows_call v s is e K u
-grows_begin e K (word v (Closing is b) s) u = by (begin_depth K) _ _ (begin_low K false (suc (max 0 (least_inputs is (ThenBlock b)))) (omega arith)) (need_next v s none is (ThenBlock b) e K u)
+grows_begin e K (word v (Closing is b) s) u = by (begin_depth K) _ _ (begin_low K false (suc (max 0 (least_inputs is (lasts.Block b)))) (omega arith)) (need_next v s none is (lasts.Block b) e K u)
 grows_begin e K (word v (Many n) s) u = grows_many v s n e K
 grows_begin e K (word v (Binary l m) s) u = grows_minus m s e K
 grows_begin e K (close_paren s) u = grows_end_many e K
@@ -211,10 +221,10 @@ grows_begin e K (open_paren s) u = begin_low K false (suc 1) (omega arith)
 grows_begin e K tok u = tt
 
 grows_opening : (b : Block) (e : List (List ℕ)) (K : List Frame) (tok : Tok) → Grows (whole_depth false (least_block b) K) (feed_opening b e K tok)
-grows_opening CommandsBlock e K (open_bracket s) = rises K false false 1 (suc (max 0 0)) tt (omega arith)
-grows_opening ReporterBlock e K (open_bracket s) = rises K false false 2 (suc 1) tt (omega arith)
-grows_opening CommandsBlock e K tok = tt
-grows_opening ReporterBlock e K tok = tt
+grows_opening blocks.Commands e K (open_bracket s) = rises K false false 1 (suc (max 0 0)) tt (omega arith)
+grows_opening blocks.Reporter e K (open_bracket s) = rises K false false 2 (suc 1) tt (omega arith)
+grows_opening blocks.Commands e K tok = tt
+grows_opening blocks.Reporter e K tok = tt
 
 grows_choosing : (e : List (List ℕ)) (K : List Frame) (tok : Tok) → VariableTop K → Fine K → Grows (whole_depth false 1 K) (feed_choosing e K tok)
 grows_choosing e K (word v Named s) u h = by (whole_depth false 1 K) _ _ (rises K false false 1 (suc 0) tt (omega arith)) (need_supply (leaf (label.Named v) s) e K (variable_supplied K u) h)
@@ -251,7 +261,7 @@ grows_shut : (x : Shape) (t : Node) (e : List (List ℕ)) (K : List Frame) (tok 
 grows_shut x t e (InParen p ∷ K) tok h = grows_paren x t p e K tok
 grows_shut x t e (InMinus p s ∷ K) (close_paren r) h = by _ _ _ (rises K false false (suc (suc (depth t))) (suc (max (suc (max (depth t) 0)) 0)) tt (omega arith)) (need_closed Fixed (node label.Paren p (one (node label.Negate s (one t)))) e K)
 grows_shut x t e (InMinus p s ∷ K) tok h = tt
-grows_shut x t e (InReporter s ∷ K) (close_bracket r) h = by _ _ _ (rises K false false (suc (depth t)) (suc (max (depth t) 0)) tt (omega arith)) (need_supply (node label.Reporter s (one t)) e K (block_supplied ReporterBlock K h.0) h.1)
+grows_shut x t e (InReporter s ∷ K) (close_bracket r) h = by _ _ _ (rises K false false (suc (depth t)) (suc (max (depth t) 0)) tt (omega arith)) (need_supply (node label.Reporter s (one t)) e K (block_supplied blocks.Reporter K h.0) h.1)
 grows_shut x t e (InReporter s ∷ K) tok h = tt
 grows_shut x t e (InBracket s ∷ K) tok h = grows_bracket x t s e K tok
 grows_shut x t e [] (end r) h = omega arith
@@ -259,14 +269,14 @@ grows_shut x t e [] tok h = tt
 grows_shut x t e (f ∷ K) tok h = tt
 
 grows_ending : (k : Ending) (s : Span) (ts : Nodes) (before : List (List ℕ)) (K : List Frame) (tok : Tok) → Fine (InStatements s k before ts ∷ K) → Grows (whole_depth false 0 (InStatements s k before ts ∷ K)) (feed_ending k s ts before K tok)
-grows_ending AtBracket s ts before K (close_bracket r) h = by _ _ _ (rises K false false (suc (max (depths ts) 0)) (suc (depths ts)) tt (omega arith)) (need_supply (node label.Commands s ts) before K (block_supplied CommandsBlock K h.0) h.1)
+grows_ending AtBracket s ts before K (close_bracket r) h = by _ _ _ (rises K false false (suc (max (depths ts) 0)) (suc (depths ts)) tt (omega arith)) (need_supply (node label.Commands s ts) before K (block_supplied blocks.Commands K h.0) h.1)
 grows_ending AtBracket s ts before K tok h = tt
 grows_ending AtEnd s ts before [] (end r) h = omega arith
 grows_ending AtEnd s ts before (f ∷ K) tok h = absurd h
 grows_ending AtEnd s ts before [] tok h = tt
 
 grows_statement : (e : List (List ℕ)) (K : List Frame) (tok : Tok) (n : ℕ) → StatementTop K → n ≤ whole_depth false 1 K → Grows n (feed_statement e K tok)
-grows_statement e K (word v (Command is) s) n u h = by _ _ _ (omega (arith, h, rises K false false 1 (suc (max 0 (least_inputs is ThenNothing))) tt (omega arith))) (need_next v s none is ThenNothing e K u)
+grows_statement e K (word v (Command is) s) n u h = by _ _ _ (omega (arith, h, rises K false false 1 (suc (max 0 (least_inputs is lasts.Nothing))) tt (omega arith))) (need_next v s none is lasts.Nothing e K u)
 grows_statement e K (word v Let s) n u h = omega (arith, h, rises K false false 1 2 tt (omega arith))
 grows_statement e K (open_paren s) n u h = omega (arith, h, rises K false false 1 2 tt (omega arith))
 grows_statement e K tok n u h = tt

@@ -6,10 +6,16 @@ use Rattle.nl_tree.specs.declared.declared.Form.{Form}
 use Rattle.nl_tree.specs.declared.declared.Form.TheVariants as form
 use Rattle.nl_tree.specs.Tree.{Node, node}
 use Rattle.nl_tree.specs.Term.{Term}
-use Rattle.nl_tree.specs.Tokens.{CommandsBlock, ReporterBlock, Token, IsToken, Tok, end, mark, marked}
-use Rattle.nl_tree.specs.Grammar.{top, AtBracket, AtEnd, span_of_first}
-use Rattle.nl_tree.specs.BodyFault.{IsReadable, IsGood, IsFaultPlace, IsOfKind, IsTextFault, TextFault, UnknownName, Unexpected, TooDeep, deepest, ends_at}
-use Rattle.nl_grammar.specs.Machine.{Frame, InCall, InParen, InMinus, InReporter, InBracket, InList, InStatementParen, InStatements, Shape, Literal, Growing, Fixed, Begin, Opening, Optional, Choosing, Have, Blocked, Shut, Listing, Stating, Naming, Ended, Over, Dead, State, st, Step, go, stop, Got, got, next, accept, settle, feed_begin, feed_bracket, feed_paren, feed_shut, feed_plain, without_maybes, feed_ready, feed_broken, feed, run, start}
+use Rattle.nl_tree.specs.Tokens.{Token, IsToken, Tok, end, mark, marked}
+use Rattle.nl_tree.specs.declared.needs.Block.TheVariants as blocks
+use Rattle.nl_tree.specs.Grammar.{top, span_of_first}
+use Rattle.nl_tree.specs.declared.needs.Ending.TheVariants.{AtBracket, AtEnd}
+use Rattle.nl_tree.specs.BodyFault.{IsReadable, IsGood, IsFaultPlace, IsOfKind, IsTextFault, deepest, ends_at}
+use Rattle.nl_tree.specs.declared.faults.BodyKind.{BodyKind}
+use Rattle.nl_tree.specs.declared.faults.BodyKind.TheVariants.{UnknownName, Unexpected, TooDeep}
+use Rattle.nl_grammar.specs.Machine.{Frame, InCall, InParen, InMinus, InReporter, InBracket, InList, InStatementParen, InStatements, Begin, Opening, Optional, Choosing, Have, Blocked, Shut, Listing, Stating, Naming, Ended, Over, Dead, State, st, Step, go, stop, Got, got, next, accept, settle, feed_begin, feed_bracket, feed_paren, feed_shut, feed_plain, without_maybes, feed_ready, feed_broken, feed, run, start}
+use Rattle.nl_grammar.specs.declared.pending.Shape.{Shape}
+use Rattle.nl_grammar.specs.declared.pending.Shape.TheVariants.{Literal, Growing, Fixed}
 use Rattle.nl_grammar.specs.Depth.{least_depth}
 use Rattle.nl_grammar.specs.Completion.{HasWords}
 use Rattle.nl_grammar.specs.Fault.{reading_to, kind_at}
@@ -48,8 +54,8 @@ end_shut x t e (f ∷ K) r = tt
 
 end_plain : (s : State) (r : Span) → EndStep (feed_plain s (end r))
 end_plain (st Begin e K) r = tt
-end_plain (st (Opening CommandsBlock) e K) r = tt
-end_plain (st (Opening ReporterBlock) e K) r = tt
+end_plain (st (Opening blocks.Commands) e K) r = tt
+end_plain (st (Opening blocks.Reporter) e K) r = tt
 end_plain (st Optional e K) r = tt
 end_plain (st Choosing e K) r = tt
 end_plain (st (Have x t) e K) r = tt
@@ -124,7 +130,7 @@ module _ (form : Form) (names : List (List ℕ)) (table : List Term) (ts : List 
   all = ts ++ ends_at sp ∷ []
 
   abbrev Outcome : Type 0
-  Outcome = ((t : Node) × IsGood form names table (ts ++ ends_at sp ∷ []) t) ⊎ ((k : ℕ) × (kind : TextFault) × IsTextFault form names table (ts ++ ends_at sp ∷ []) k kind)
+  Outcome = ((t : Node) × IsGood form names table (ts ++ ends_at sp ∷ []) t) ⊎ ((k : ℕ) × (kind : BodyKind) × IsTextFault form names table (ts ++ ends_at sp ∷ []) k kind)
 
   -- the token at a place, with which the state goes on or not
   module _ (k : ℕ) (s : State) (inside : k < length (ts ++ ends_at sp ∷ [])) (reached : reading_to form names table (ts ++ ends_at sp ∷ []) k ≡ go s) (low : least_depth s ≤ deepest) where
@@ -189,7 +195,7 @@ same_place form names table ts j k f g = at (nat_le j k) (nat_le k j) refl refl
     at true false p q = absurd (f.2 (g.1 j (leb-false k j q)))
     at false y p q = absurd (g.2 (f.1 k (leb-false j k p)))
 
-same_kind : (form : Form) (names : List (List ℕ)) (table : List Term) (ts : List Token) (k : ℕ) (x y : TextFault) → IsOfKind form names table ts k x → IsOfKind form names table ts k y → x ≡ y
+same_kind : (form : Form) (names : List (List ℕ)) (table : List Term) (ts : List Token) (k : ℕ) (x y : BodyKind) → IsOfKind form names table ts k x → IsOfKind form names table ts k y → x ≡ y
 same_kind form names table ts k TooDeep TooDeep f g = refl
 same_kind form names table ts k TooDeep UnknownName f g = absurd (g.0 f)
 same_kind form names table ts k TooDeep Unexpected f g = absurd (g.0 f)

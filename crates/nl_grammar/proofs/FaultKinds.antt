@@ -11,9 +11,12 @@ use Rattle.nl_tree.specs.declared.declared.Form.TheVariants as form
 use Rattle.nl_tree.specs.Tree.{Node}
 use Rattle.nl_tree.specs.Term.{Term}
 use Rattle.nl_tree.specs.Vocabulary.{among, term_named}
-use Rattle.nl_tree.specs.Tokens.{inputs_of, Lexeme, Number, Text, Word, Open, Close, OpenParen, CloseParen, End, Token, IsToken, Need, Item, Within, Class, Unknown, Prefix, Many, Closing, Command, Of, Binary, Nowhere, Tok, word, class_of, class_of_term, class_by, before, last_need, is_new, reporter_of, reporter_class, one_more, many_class, command_class, near_class, operator_class, need_of_command, need_of_reporter, mark, marked_as, marked}
+use Rattle.nl_tree.specs.Tokens.{inputs_of, Lexeme, Number, Text, Word, Open, Close, OpenParen, CloseParen, End, Token, IsToken, Class, Unknown, Prefix, Many, Closing, Command, Of, Binary, Nowhere, Tok, word, class_of, class_of_term, class_by, before, last_need, is_new, reporter_of, reporter_class, one_more, many_class, command_class, near_class, operator_class, need_of_command, need_of_reporter, mark, marked_as, marked}
+use Rattle.nl_tree.specs.declared.needs.Need.{Need}
+use Rattle.nl_tree.specs.declared.needs.Need.TheVariants.{Item, Within}
 use Rattle.nl_tree.specs.Grammar.{IsText, knows_in, span_of_first}
-use Rattle.nl_tree.specs.BodyFault.{IsReadable, BeginsReadable, Knows, IsUnknown, IsOfKind, Unexpected}
+use Rattle.nl_tree.specs.BodyFault.{IsReadable, BeginsReadable, Knows, IsUnknown, IsOfKind}
+use Rattle.nl_tree.specs.declared.faults.BodyKind.TheVariants.{Unexpected}
 use Rattle.nl_grammar.specs.Machine.{Have, State, st, go, feed, settle, run, start}
 use Rattle.nl_grammar.specs.Completion.{pieces, token_of, unused, nowhere, HasWords}
 use Rattle.nl_grammar.specs.Fault.{reading_to, known, kind_at, unknown_kind}

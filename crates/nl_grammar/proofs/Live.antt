@@ -5,9 +5,18 @@ use Rattle.nl_fixed.specs.declared.span.Span.{Span}
 use Rattle.nl_tree.specs.declared.tree.Label.TheVariants as label
 use Rattle.nl_tree.specs.Tree.{Node, node, Nodes, none, more, depth, depths}
 use Rattle.nl_tree.specs.Vocabulary.{among}
-use Rattle.nl_tree.specs.Tokens.{Block, CommandsBlock, ReporterBlock, Need, Item, Whole, Within, Maybe, Variable, Unknown, Constant, Named, Command, With, Near, Of, Binary, Tok, word, open_bracket, close_bracket, close_paren, end}
-use Rattle.nl_tree.specs.Grammar.{one, two, leaf, join, and_last, opens, top, AtBracket, AtEnd}
-use Rattle.nl_grammar.specs.Machine.{Last, ThenItem, ThenBlock, ThenNothing, Frame, InBinary, InWith, InNear, InOf, InCall, InLastItem, InLastBlock, InMany, InItems, InParen, InMinus, InReporter, InBracket, InList, InLet, InStatementParen, InStatements, Shape, Literal, Growing, Fixed, Begin, Opening, Optional, Choosing, Have, Blocked, Shut, Listing, Stating, Naming, Ended, Over, Dead, State, st, Step, go, end_statement, next, closed, supply, accept, end_list, closes, build, built_shape, feed_fresh, feed_broken, run_from, run}
+use Rattle.nl_tree.specs.Tokens.{Unknown, Constant, Named, Command, With, Near, Of, Binary, Tok, word, open_bracket, close_bracket, close_paren, end}
+use Rattle.nl_tree.specs.declared.needs.Block.{Block}
+use Rattle.nl_tree.specs.declared.needs.Block.TheVariants as blocks
+use Rattle.nl_tree.specs.declared.needs.Need.{Need}
+use Rattle.nl_tree.specs.declared.needs.Need.TheVariants.{Item, Whole, Within, Maybe, Variable}
+use Rattle.nl_tree.specs.Grammar.{one, two, leaf, join, and_last, opens, top}
+use Rattle.nl_tree.specs.declared.needs.Ending.TheVariants.{AtBracket, AtEnd}
+use Rattle.nl_grammar.specs.Machine.{Frame, InBinary, InWith, InNear, InOf, InCall, InLastItem, InLastBlock, InMany, InItems, InParen, InMinus, InReporter, InBracket, InList, InLet, InStatementParen, InStatements, Begin, Opening, Optional, Choosing, Have, Blocked, Shut, Listing, Stating, Naming, Ended, Over, Dead, State, st, Step, go, end_statement, next, closed, supply, accept, end_list, closes, build, built_shape, feed_fresh, feed_broken, run_from, run}
+use Rattle.nl_grammar.specs.declared.pending.Last.{Last}
+use Rattle.nl_grammar.specs.declared.pending.Last.TheVariants as lasts
+use Rattle.nl_grammar.specs.declared.pending.Shape.{Shape}
+use Rattle.nl_grammar.specs.declared.pending.Shape.TheVariants.{Literal, Growing, Fixed}
 use Rattle.nl_grammar.specs.Depth.{least_block, least_inputs, least_values, is_literal, whole_depth, begin_depth, optional_depth, statement_depth, least_depth}
 use Rattle.nl_grammar.specs.Completion.{Piece, AValue, AVariable, AStatement, AnOf, AName, ABracket, ItsBracket, ItsParen, ItsEnd, block_pieces, needs_bracket, maybe_pieces, input_pieces, values, bracket_pieces, items_pieces, rest_pieces, begin_pieces, optional_pieces, statement_pieces, pieces, nowhere}
 use Rattle.nl_grammar.proofs.Complete.{settle_on, settle_stop, Breaking, break, missing}
@@ -22,14 +31,14 @@ depths_join (more t ts) us = omega (arith, depths_join ts us)
 pub bracket_deep : (is : List Need) (last : Last) → needs_bracket is last ≡ true → 1 ≤ least_inputs is last
 bracket_deep (Item ∷ is) last h = cc
 bracket_deep (Whole ∷ is) last h = cc
-bracket_deep (Within CommandsBlock ∷ is) last h = omega arith
-bracket_deep (Within ReporterBlock ∷ is) last h = omega arith
+bracket_deep (Within blocks.Commands ∷ is) last h = omega arith
+bracket_deep (Within blocks.Reporter ∷ is) last h = omega arith
 bracket_deep (Maybe ∷ is) last h = omega (arith, bracket_deep is last h)
 bracket_deep (Variable ∷ is) last h = cc
-bracket_deep [] ThenItem h = cc
-bracket_deep [] (ThenBlock CommandsBlock) h = omega arith
-bracket_deep [] (ThenBlock ReporterBlock) h = omega arith
-bracket_deep [] ThenNothing h = cc
+bracket_deep [] lasts.Item h = cc
+bracket_deep [] (lasts.Block blocks.Commands) h = omega arith
+bracket_deep [] (lasts.Block blocks.Reporter) h = omega arith
+bracket_deep [] lasts.Nothing h = cc
 
 -- what waits for a block or a variable
 abbrev pub Supplied : List Frame → Type 0
@@ -90,18 +99,18 @@ module _ (fresh : List (List ℕ) → List ℕ) (is_fresh : (e : List (List ℕ)
   input_breaks : (is : List Need) (last : Last) (ps : List Piece) → Breaking (toks ps) → Breaking (toks (input_pieces is last ++ ps))
   input_breaks (Item ∷ is) last ps h = refl
   input_breaks (Whole ∷ is) last ps h = refl
-  input_breaks (Within CommandsBlock ∷ is) last ps h = refl
-  input_breaks (Within ReporterBlock ∷ is) last ps h = refl
+  input_breaks (Within blocks.Commands ∷ is) last ps h = refl
+  input_breaks (Within blocks.Reporter ∷ is) last ps h = refl
   input_breaks (Maybe ∷ is) last ps h = at (needs_bracket is last) (input_breaks is last ps h)
     where
       at : (b : Bool) → Breaking (toks (input_pieces is last ++ ps)) → Breaking (toks ((maybe_pieces b ++ input_pieces is last) ++ ps))
       at true g = refl
       at false g = g
   input_breaks (Variable ∷ is) last ps h = refl
-  input_breaks [] ThenItem ps h = refl
-  input_breaks [] (ThenBlock CommandsBlock) ps h = refl
-  input_breaks [] (ThenBlock ReporterBlock) ps h = refl
-  input_breaks [] ThenNothing ps h = h
+  input_breaks [] lasts.Item ps h = refl
+  input_breaks [] (lasts.Block blocks.Commands) ps h = refl
+  input_breaks [] (lasts.Block blocks.Reporter) ps h = refl
+  input_breaks [] lasts.Nothing ps h = h
 
   values_break : (n : ℕ) (ps : List Piece) → Breaking (toks ps) → Breaking (toks (values n ++ ps))
   values_break zero ps h = h
@@ -142,13 +151,13 @@ module _ (fresh : List (List ℕ) → List ℕ) (is_fresh : (e : List (List ℕ)
   opens_none (Within b ∷ is) last K u h = cc
   opens_none (Maybe ∷ is) last K u h = subst (λ b. IsTrue (not (opens (toks ((maybe_pieces b ++ input_pieces is last) ++ rest_pieces false K))))) (sym h) (opens_none is last K u h)
   opens_none (Variable ∷ is) last K u h = refl
-  opens_none [] ThenItem K u h = refl
-  opens_none [] (ThenBlock b) K u h = cc
-  opens_none [] ThenNothing (InStatementParen s ∷ K) u h = refl
-  opens_none [] ThenNothing (InStatements s AtBracket before ts ∷ K) u h = refl
-  opens_none [] ThenNothing (InStatements s AtEnd before ts ∷ K) u h = refl
-  opens_none [] ThenNothing [] u h = absurd u
-  opens_none [] ThenNothing (f ∷ K) u h = absurd u
+  opens_none [] lasts.Item K u h = refl
+  opens_none [] (lasts.Block b) K u h = cc
+  opens_none [] lasts.Nothing (InStatementParen s ∷ K) u h = refl
+  opens_none [] lasts.Nothing (InStatements s AtBracket before ts ∷ K) u h = refl
+  opens_none [] lasts.Nothing (InStatements s AtEnd before ts ∷ K) u h = refl
+  opens_none [] lasts.Nothing [] u h = absurd u
+  opens_none [] lasts.Nothing (f ∷ K) u h = absurd u
 
   -- the tokens complete the state to a tree of this depth
   abbrev pub Finishes : State → List Tok → ℕ → Type 0
@@ -185,18 +194,18 @@ module _ (fresh : List (List ℕ) → List ℕ) (is_fresh : (e : List (List ℕ)
   inputs (Whole ∷ is) last K u h w s ts e =
       let g = after (inputs is last K u h w s (and_last ts true_leaf) e) refl (deeper false _ _ K (omega (arith, depths_join ts (one true_leaf)))) in
       onto (InCall w s ts Whole is last) K (input_pieces is last ++ rest_pieces false K) _ refl (input_breaks is last (rest_pieces false K) (rest_breaks false K)) e Literal true_leaf g
-  inputs (Within CommandsBlock ∷ is) last K u h w s ts e = after (inputs is last K u h w s (and_last ts (node label.Commands nowhere none)) e) refl (deeper false _ _ K (omega (arith, depths_join ts (one (node label.Commands nowhere none)))))
-  inputs (Within ReporterBlock ∷ is) last K u h w s ts e = after (inputs is last K u h w s (and_last ts (node label.Reporter nowhere (one true_leaf))) e) refl (deeper false _ _ K (omega (arith, depths_join ts (one (node label.Reporter nowhere (one true_leaf))))))
+  inputs (Within blocks.Commands ∷ is) last K u h w s ts e = after (inputs is last K u h w s (and_last ts (node label.Commands nowhere none)) e) refl (deeper false _ _ K (omega (arith, depths_join ts (one (node label.Commands nowhere none)))))
+  inputs (Within blocks.Reporter ∷ is) last K u h w s ts e = after (inputs is last K u h w s (and_last ts (node label.Reporter nowhere (one true_leaf))) e) refl (deeper false _ _ K (omega (arith, depths_join ts (one (node label.Reporter nowhere (one true_leaf))))))
   inputs (Maybe ∷ is) last K u h w s ts e = at (needs_bracket is last) refl (inputs is last K u h w s (and_last ts (node label.Commands nowhere none)) e) (inputs is last K u h w s ts e)
     where
       at : (b : Bool) → needs_bracket is last ≡ b → Finishes (next w s (and_last ts (node label.Commands nowhere none)) is last e K) (toks (input_pieces is last ++ rest_pieces false K)) (whole_depth false (suc (max (depths (and_last ts (node label.Commands nowhere none))) (least_inputs is last))) K) → Finishes (next w s ts is last e K) (toks (input_pieces is last ++ rest_pieces false K)) (whole_depth false (suc (max (depths ts) (least_inputs is last))) K) → Finishes (next w s ts (Maybe ∷ is) last e K) (toks ((maybe_pieces b ++ input_pieces is last) ++ rest_pieces false K)) (whole_depth false (suc (max (depths ts) (max 0 (least_inputs is last)))) K)
       at true q g k = after g refl (deeper false _ _ K (omega (arith, depths_join ts (one (node label.Commands nowhere none)), bracket_deep is last q)))
       at false q g k = after k (missing w s ts is last e K (toks (input_pieces is last ++ rest_pieces false K)) (input_breaks is last (rest_pieces false K) (rest_breaks false K)) (opens_none is last K u q)) (deeper false _ _ K (omega arith))
   inputs (Variable ∷ is) last K u h w s ts e = after (inputs is last K u h w s (and_last ts (leaf (label.Named (codes "color")) nowhere)) e) refl (deeper false _ _ K (omega (arith, depths_join ts (one (leaf (label.Named (codes "color")) nowhere)))))
-  inputs [] ThenItem K u h w s ts e = after (through (InLastItem w s ts) K u refl refl h e Literal true_leaf) refl (deeper false _ _ K (omega (arith, depths_join ts (one true_leaf))))
-  inputs [] (ThenBlock CommandsBlock) K u h w s ts e = after (h.closing u e Fixed (node (label.Named w) s (and_last ts (node label.Commands nowhere none)))) refl (deeper false _ _ K (omega (arith, depths_join ts (one (node label.Commands nowhere none)))))
-  inputs [] (ThenBlock ReporterBlock) K u h w s ts e = after (h.closing u e Fixed (node (label.Named w) s (and_last ts (node label.Reporter nowhere (one true_leaf))))) refl (deeper false _ _ K (omega (arith, depths_join ts (one (node label.Reporter nowhere (one true_leaf))))))
-  inputs [] ThenNothing K u h w s ts e = after (h.stated u e (node (label.Named w) s ts)) refl (deeper false _ _ K (omega arith))
+  inputs [] lasts.Item K u h w s ts e = after (through (InLastItem w s ts) K u refl refl h e Literal true_leaf) refl (deeper false _ _ K (omega (arith, depths_join ts (one true_leaf))))
+  inputs [] (lasts.Block blocks.Commands) K u h w s ts e = after (h.closing u e Fixed (node (label.Named w) s (and_last ts (node label.Commands nowhere none)))) refl (deeper false _ _ K (omega (arith, depths_join ts (one (node label.Commands nowhere none)))))
+  inputs [] (lasts.Block blocks.Reporter) K u h w s ts e = after (h.closing u e Fixed (node (label.Named w) s (and_last ts (node label.Reporter nowhere (one true_leaf))))) refl (deeper false _ _ K (omega (arith, depths_join ts (one (node label.Reporter nowhere (one true_leaf))))))
+  inputs [] lasts.Nothing K u h w s ts e = after (h.stated u e (node (label.Named w) s ts)) refl (deeper false _ _ K (omega arith))
 
   -- right sides of level 1
   sides : (n : ℕ) (K : List Frame) → Expr K → Hands K → (w : List ℕ) (s : Span) (ts : Nodes) (e : List (List ℕ)) (x : Shape) (t : Node) → Finishes (closed x t e (InNear w s ts n ∷ K)) (toks (values n ++ rest_pieces false K)) (whole_depth false (suc (max (max (depths ts) (depth t)) (least_values n))) K)
@@ -285,7 +294,7 @@ module _ (fresh : List (List ℕ) → List ℕ) (is_fresh : (e : List (List ℕ)
   hands (InItems p l s ts ∷ K) h = expression (InItems p l s ts) K (λ e x t. refl) (λ e t. refl) (λ u. u) (λ e t u. absurd u) (λ e x t. onto (InItems p l s ts) K (ItsParen ∷ rest_pieces false K) _ refl refl e x t (after ((hands K h.1).closing h.0 e Fixed (node label.Paren p (one (node l s (and_last ts t))))) refl (deeper false _ _ K (omega (arith, depths_join ts (one t))))))
   hands (InParen p ∷ K) h = expression (InParen p) K (λ e x t. refl) (λ e t. refl) (λ u. u) (λ e t u. absurd u) (λ e x t. onto (InParen p) K (ItsParen ∷ rest_pieces false K) _ refl refl e x t (after ((hands K h.1).closing h.0 e Fixed (node label.Paren p (one t))) refl (deeper false _ _ K (omega arith))))
   hands (InMinus p s ∷ K) h = expression (InMinus p s) K (λ e x t. refl) (λ e t. refl) (λ u. u) (λ e t u. absurd u) (λ e x t. onto (InMinus p s) K (ItsParen ∷ rest_pieces false K) _ refl refl e x t (after ((hands K h.1).closing h.0 e Fixed (node label.Paren p (one (node label.Negate s (one t))))) refl (deeper false _ _ K (omega arith))))
-  hands (InReporter s ∷ K) h = expression (InReporter s) K (λ e x t. refl) (λ e t. refl) (λ u. u) (λ e t u. absurd u) (λ e x t. onto (InReporter s) K (ItsBracket ∷ rest_pieces false K) _ refl refl e x t (after ((hands K h.1).supplying (block_supplied ReporterBlock K h.0) e (node label.Reporter s (one t))) refl (deeper false _ _ K (omega arith))))
+  hands (InReporter s ∷ K) h = expression (InReporter s) K (λ e x t. refl) (λ e t. refl) (λ u. u) (λ e t u. absurd u) (λ e x t. onto (InReporter s) K (ItsBracket ∷ rest_pieces false K) _ refl refl e x t (after ((hands K h.1).supplying (block_supplied blocks.Reporter K h.0) e (node label.Reporter s (one t))) refl (deeper false _ _ K (omega arith))))
   hands (InBracket s ∷ K) h = expression (InBracket s) K (λ e x t. refl) (λ e t. refl) (λ u. u) (λ e t u. absurd u) (λ e x t. onto (InBracket s) K (bracket_pieces (is_literal x) ++ rest_pieces (is_literal x) K) _ refl (bracket_breaks (is_literal x) (rest_pieces (is_literal x) K)) e x t (bracketed x s K h.0 (hands K h.1) e t))
   hands (InList s ts ∷ K) h = record {
     have = λ u e x t. absurd u;
@@ -306,7 +315,7 @@ module _ (fresh : List (List ℕ) → List ℕ) (is_fresh : (e : List (List ℕ)
     have = λ u e x t. absurd u;
     closing = λ u e x t. absurd u;
     supplying = λ u e t. absurd u;
-    stated = λ u e t. after ((hands K h.1).supplying (block_supplied CommandsBlock K h.0) before (node label.Commands s (and_last ts t))) refl (deeper false _ _ K (omega (arith, depths_join ts (one t))));
+    stated = λ u e t. after ((hands K h.1).supplying (block_supplied blocks.Commands K h.0) before (node label.Commands s (and_last ts t))) refl (deeper false _ _ K (omega (arith, depths_join ts (one t))));
     listing = λ u e t. absurd u;
   }
   hands (InStatements s AtEnd before ts ∷ []) h = record {
@@ -333,8 +342,8 @@ module _ (fresh : List (List ℕ) → List ℕ) (is_fresh : (e : List (List ℕ)
   finish_begin e (f ∷ K) u h = leaf_begins f K u (hands (f ∷ K) h) e
 
   finish_opening : (b : Block) (e : List (List ℕ)) (K : List Frame) → BlockTop b K → Fine K → Finishes (st (Opening b) e K) (toks (block_pieces b ++ rest_pieces false K)) (whole_depth false (least_block b) K)
-  finish_opening CommandsBlock e K u h = (hands K h).supplying (block_supplied CommandsBlock K u) e (node label.Commands nowhere none)
-  finish_opening ReporterBlock e K u h = (hands K h).supplying (block_supplied ReporterBlock K u) e (node label.Reporter nowhere (one true_leaf))
+  finish_opening blocks.Commands e K u h = (hands K h).supplying (block_supplied blocks.Commands K u) e (node label.Commands nowhere none)
+  finish_opening blocks.Reporter e K u h = (hands K h).supplying (block_supplied blocks.Reporter K u) e (node label.Reporter nowhere (one true_leaf))
 
   finish_optional : (e : List (List ℕ)) (K : List Frame) → MaybeTop K → Fine K → Finishes (st Optional e K) (toks (optional_pieces K)) (optional_depth K)
   finish_optional e (InCall w s ts Maybe is last ∷ K) u h = after (inputs (Maybe ∷ is) last K h.0 (hands K h.1) w s ts e) refl (deeper false _ _ K (omega arith))
@@ -344,7 +353,7 @@ module _ (fresh : List (List ℕ) → List ℕ) (is_fresh : (e : List (List ℕ)
   finish_shut x t e [] u h = record { tree = t; names = e; stack = []; over = refl; deep = refl }
   finish_shut x t e (InParen p ∷ K) u h = after ((hands K h.1).closing h.0 e Fixed (node label.Paren p (one t))) refl (deeper false _ _ K (omega arith))
   finish_shut x t e (InMinus p s ∷ K) u h = after ((hands K h.1).closing h.0 e Fixed (node label.Paren p (one (node label.Negate s (one t))))) refl (deeper false _ _ K (omega arith))
-  finish_shut x t e (InReporter s ∷ K) u h = after ((hands K h.1).supplying (block_supplied ReporterBlock K h.0) e (node label.Reporter s (one t))) refl (deeper false _ _ K (omega arith))
+  finish_shut x t e (InReporter s ∷ K) u h = after ((hands K h.1).supplying (block_supplied blocks.Reporter K h.0) e (node label.Reporter s (one t))) refl (deeper false _ _ K (omega arith))
   finish_shut x t e (InBracket s ∷ K) u h = bracketed x s K h.0 (hands K h.1) e t
   finish_shut x t e (f ∷ K) u h = absurd u
 
@@ -355,7 +364,7 @@ module _ (fresh : List (List ℕ) → List ℕ) (is_fresh : (e : List (List ℕ)
 
   finish_stating : (e : List (List ℕ)) (K : List Frame) → StatementTop K → Fine K → Finishes (st Stating e K) (toks (statement_pieces K)) (statement_depth K)
   finish_stating e (InStatementParen s ∷ K) u h = after ((hands K h.1).stated h.0 e (node label.Paren s (one (node (label.Named (codes "stop")) nowhere none)))) refl (deeper false _ _ K (omega arith))
-  finish_stating e (InStatements s AtBracket before ts ∷ K) u h = after ((hands K h.1).supplying (block_supplied CommandsBlock K h.0) before (node label.Commands s ts)) refl (deeper false _ _ K (omega arith))
+  finish_stating e (InStatements s AtBracket before ts ∷ K) u h = after ((hands K h.1).supplying (block_supplied blocks.Commands K h.0) before (node label.Commands s ts)) refl (deeper false _ _ K (omega arith))
   finish_stating e (InStatements s AtEnd before ts ∷ []) u h = record { tree = node label.Commands s ts; names = before; stack = []; over = refl; deep = omega arith }
   finish_stating e (InStatements s AtEnd before ts ∷ f ∷ K) u h = absurd h
   finish_stating e [] u h = absurd u

@@ -5,7 +5,9 @@ use Rattle.nl_fixed.specs.declared.span.Span.{Span}
 use Rattle.nl_tree.specs.declared.tree.Label.TheVariants as label
 use Rattle.nl_tree.specs.declared.declared.Form.TheVariants as form
 use Rattle.nl_tree.specs.Tree.{Node, node, Nodes, none, more}
-use Rattle.nl_tree.specs.Tokens.{CommandsBlock, ReporterBlock, Whole, Within, Maybe, Variable, Class, Unknown, Constant, Plain, Named, Prefix, Many, Closing, Command, Let, With, Near, Of, Binary, Tok, number, text, word, open_bracket, close_bracket, open_paren, close_paren, end}
+use Rattle.nl_tree.specs.Tokens.{Class, Unknown, Constant, Plain, Named, Prefix, Many, Closing, Command, Let, With, Near, Of, Binary, Tok, number, text, word, open_bracket, close_bracket, open_paren, close_paren, end}
+use Rattle.nl_tree.specs.declared.needs.Block.TheVariants as blocks
+use Rattle.nl_tree.specs.declared.needs.Need.TheVariants.{Whole, Within, Maybe, Variable}
 use Rattle.nl_tree.specs.Grammar.{one, two, leaf}
 use Rattle.nl_grammar.specs.Machine.{st, Over, go, stop, run, start}
 
@@ -163,7 +165,7 @@ made_in_parentheses_is_known : states (open_paren (at 0) ∷ open_paren (at 1) �
     (two (node label.Paren (at 0) (one (node label.Paren (at 1) (one (named "let" 2 (two (named "x" 3 none) (num 5 4))))))) (named "print" 7 (one (named "x" 8 none))))
 made_in_parentheses_is_known = refl
 
-made_in_a_block_ends_with_it : states (w "loop" (Command (Within CommandsBlock ∷ [])) 0 ∷ open_bracket (at 1) ∷ w "let" Let 2 ∷ w "x" Unknown 3 ∷ n 5 4 ∷ close_bracket (at 5) ∷ w "let" Let 6 ∷ w "x" Unknown 7 ∷ n 6 8 ∷ end (at 9) ∷ [])
+made_in_a_block_ends_with_it : states (w "loop" (Command (Within blocks.Commands ∷ [])) 0 ∷ open_bracket (at 1) ∷ w "let" Let 2 ∷ w "x" Unknown 3 ∷ n 5 4 ∷ close_bracket (at 5) ∷ w "let" Let 6 ∷ w "x" Unknown 7 ∷ n 6 8 ∷ end (at 9) ∷ [])
     (two (named "loop" 0 (one (node label.Commands (at 1) (one (named "let" 2 (two (named "x" 3 none) (num 5 4))))))) (named "let" 6 (two (named "x" 7 none) (num 6 8))))
 made_in_a_block_ends_with_it = refl
 
@@ -191,7 +193,7 @@ block_is_missing_before_an_item = refl
 bracket_is_the_block : reads (w "foo" (Prefix (Maybe ∷ Maybe ∷ [])) 0 ∷ open_bracket (at 1) ∷ close_bracket (at 2) ∷ n 1 3 ∷ end (at 4) ∷ []) (named "foo" 0 (two (node label.Commands (at 1) none) (num 1 3)))
 bracket_is_the_block = refl
 
-last_block_ends_the_call : reads (w "sort-by" (Closing (Whole ∷ []) ReporterBlock) 0 ∷ n 1 1 ∷ w "+" (Binary 2 false) 2 ∷ n 1 3 ∷ open_bracket (at 4) ∷ n 2 5 ∷ close_bracket (at 6) ∷ w "*" (Binary 1 false) 7 ∷ n 3 8 ∷ end (at 9) ∷ [])
+last_block_ends_the_call : reads (w "sort-by" (Closing (Whole ∷ []) blocks.Reporter) 0 ∷ n 1 1 ∷ w "+" (Binary 2 false) 2 ∷ n 1 3 ∷ open_bracket (at 4) ∷ n 2 5 ∷ close_bracket (at 6) ∷ w "*" (Binary 1 false) 7 ∷ n 3 8 ∷ end (at 9) ∷ [])
     (named "*" 7 (two (named "sort-by" 0 (two (named "+" 2 (two (num 1 1) (num 1 3))) (node label.Reporter (at 4) (one (num 2 5))))) (num 3 8)))
 last_block_ends_the_call = refl
 

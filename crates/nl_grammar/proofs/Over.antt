@@ -2,10 +2,14 @@
 use Rattle.std.proofs.Common.{◌≡◌, ℕ, List, ◌∷◌, subst, refl}
 use Rattle.nl_fixed.specs.declared.span.Span.{Span}
 use Rattle.nl_tree.specs.Tree.{Node, node}
-use Rattle.nl_tree.specs.Tokens.{CommandsBlock, ReporterBlock, end}
-use Rattle.nl_tree.specs.Grammar.{AtBracket, AtEnd, top}
+use Rattle.nl_tree.specs.Tokens.{end}
+use Rattle.nl_tree.specs.declared.needs.Block.TheVariants as blocks
+use Rattle.nl_tree.specs.Grammar.{top}
+use Rattle.nl_tree.specs.declared.needs.Ending.TheVariants.{AtBracket, AtEnd}
 use Rattle.nl_grammar.specs.Machine as M
-use Rattle.nl_grammar.specs.Machine.{Frame, InBinary, InWith, InNear, InOf, InCall, InLastItem, InLastBlock, InMany, InItems, InParen, InMinus, InReporter, InBracket, InList, InLet, InStatementParen, InStatements, Shape, Literal, Growing, Fixed, Begin, Opening, Optional, Choosing, Have, Blocked, Shut, Listing, Stating, Naming, Ended, Over, Dead, State, st, Step, go, stop, Got, got, next, accept, settle, without_maybes, feed_paren, feed_bracket, feed_shut, feed_stating, feed_listing, feed_ended, feed_plain, feed_optional, feed_ready, feed_broken, feed}
+use Rattle.nl_grammar.specs.Machine.{Frame, InBinary, InWith, InNear, InOf, InCall, InLastItem, InLastBlock, InMany, InItems, InParen, InMinus, InReporter, InBracket, InList, InLet, InStatementParen, InStatements, Begin, Opening, Optional, Choosing, Have, Blocked, Shut, Listing, Stating, Naming, Ended, Over, Dead, State, st, Step, go, stop, Got, got, next, accept, settle, without_maybes, feed_paren, feed_bracket, feed_shut, feed_stating, feed_listing, feed_ended, feed_plain, feed_optional, feed_ready, feed_broken, feed}
+use Rattle.nl_grammar.specs.declared.pending.Shape.{Shape}
+use Rattle.nl_grammar.specs.declared.pending.Shape.TheVariants.{Literal, Growing, Fixed}
 
 abbrev pub IsOver : M.Mode → Type 0
 IsOver (Over t) = Unit {0}
@@ -45,8 +49,8 @@ ends_ended t e K s = tt
 
 ends_plain : (z : State) (s : Span) → Ends (feed_plain z (end s))
 ends_plain (st Begin e K) s = tt
-ends_plain (st (Opening CommandsBlock) e K) s = tt
-ends_plain (st (Opening ReporterBlock) e K) s = tt
+ends_plain (st (Opening blocks.Commands) e K) s = tt
+ends_plain (st (Opening blocks.Reporter) e K) s = tt
 ends_plain (st Optional e K) s = tt
 ends_plain (st Choosing e K) s = tt
 ends_plain (st (Have x t) e K) s = tt

@@ -6,9 +6,17 @@ use Rattle.nl_tree.specs.declared.tree.Label.{Label}
 use Rattle.nl_tree.specs.declared.tree.Label.TheVariants as label
 use Rattle.nl_tree.specs.Tree.{Node, node, Nodes, none, more}
 use Rattle.nl_tree.specs.Vocabulary.{among}
-use Rattle.nl_tree.specs.Tokens.{CommandsBlock, ReporterBlock, Need, Item, Whole, Within, Maybe, Variable, Unknown, Constant, Plain, Named, Prefix, Many, Closing, Command, Let, With, Near, Of, Binary, Tok, number, text, word, open_bracket, close_bracket, open_paren, close_paren}
-use Rattle.nl_tree.specs.Grammar.{one, two, leaf, join, and_last, opens, top, Ending, Part, Closed, Chain, Sides, Call, LastCall, Items, AnyItems, Level, Literals, Arg, Args, Statement, Statements, Reads, closed_number, closed_text, closed_constant, closed_plain, closed_variable, closed_local, closed_list, closed_block, paren, paren_many, paren_minus, chain_closed, chain_with, chain_near, one_side, more_sides, call_prefix, call_many, one_item, more_items, no_item, any_item, last_call, more_last, item_chain, item_call, item_near, item_of, level_up, level_binary, literal_end, literal_number, literal_text, literal_constant, literal_list, arg_item, arg_whole, arg_commands, arg_reporter, arg_variable, arg_local, no_arg, arg, maybe_there, maybe_missing, command, make, statement_paren, at_bracket, at_end, statements, knows}
-use Rattle.nl_grammar.specs.Machine.{Last, ThenItem, ThenBlock, ThenNothing, Frame, InBinary, InWith, InNear, InOf, InCall, InLastItem, InLastBlock, InMany, InItems, InParen, InMinus, InReporter, InBracket, InList, InLet, InStatementParen, InStatements, Shape, Literal, Growing, Fixed, Begin, Opening, Optional, Choosing, Have, Blocked, Shut, Listing, Stating, Naming, State, st, Step, go, stop, Got, got, end_statement, next, closed, supply, accept, end_list, closes, settle, feed_local, begin_bracket, feed_variable, feed_fresh, feed_plain, without_maybes, feed_ready, feed_broken, feed_operator, feed_binary, feed}
+use Rattle.nl_tree.specs.Tokens.{Unknown, Constant, Plain, Named, Prefix, Many, Closing, Command, Let, With, Near, Of, Binary, Tok, number, text, word, open_bracket, close_bracket, open_paren, close_paren}
+use Rattle.nl_tree.specs.declared.needs.Block.TheVariants as blocks
+use Rattle.nl_tree.specs.declared.needs.Need.{Need}
+use Rattle.nl_tree.specs.declared.needs.Need.TheVariants.{Item, Whole, Within, Maybe, Variable}
+use Rattle.nl_tree.specs.Grammar.{one, two, leaf, join, and_last, opens, top, Part, Closed, Chain, Sides, Call, LastCall, Items, AnyItems, Level, Literals, Arg, Args, Statement, Statements, Reads, closed_number, closed_text, closed_constant, closed_plain, closed_variable, closed_local, closed_list, closed_block, paren, paren_many, paren_minus, chain_closed, chain_with, chain_near, one_side, more_sides, call_prefix, call_many, one_item, more_items, no_item, any_item, last_call, more_last, item_chain, item_call, item_near, item_of, level_up, level_binary, literal_end, literal_number, literal_text, literal_constant, literal_list, arg_item, arg_whole, arg_commands, arg_reporter, arg_variable, arg_local, no_arg, arg, maybe_there, maybe_missing, command, make, statement_paren, at_bracket, at_end, statements, knows}
+use Rattle.nl_tree.specs.declared.needs.Ending.{Ending}
+use Rattle.nl_grammar.specs.Machine.{Frame, InBinary, InWith, InNear, InOf, InCall, InLastItem, InLastBlock, InMany, InItems, InParen, InMinus, InReporter, InBracket, InList, InLet, InStatementParen, InStatements, Begin, Opening, Optional, Choosing, Have, Blocked, Shut, Listing, Stating, Naming, State, st, Step, go, stop, Got, got, end_statement, next, closed, supply, accept, end_list, closes, settle, feed_local, begin_bracket, feed_variable, feed_fresh, feed_plain, without_maybes, feed_ready, feed_broken, feed_operator, feed_binary, feed}
+use Rattle.nl_grammar.specs.declared.pending.Last.{Last}
+use Rattle.nl_grammar.specs.declared.pending.Last.TheVariants as lasts
+use Rattle.nl_grammar.specs.declared.pending.Shape.{Shape}
+use Rattle.nl_grammar.specs.declared.pending.Shape.TheVariants.{Literal, Growing, Fixed}
 use Rattle.nl_grammar.specs.Fault.{known_got}
 use Rattle.nl_grammar.proofs.Complete.{breaks, Breaking, heads, first, join_none, join_last, Stays, NoList, TakesCall, TakesStatement, end_statements, ready, settle_on, settle_stop, settle_got, settle_more, stays_settle, stays_down, stays_binary, takes, end_list_closed, closed_have, stays_no_list, stays_takes_call, begin_bracket_open, begin_many_next, begin_call_next, grow_paren, missing_at, stating, no_maybe}
 use Rattle.nl_tree.proofs.Suffix.{Suffix, same, longer, beyond, shorter, suffix}
@@ -39,9 +47,9 @@ names_next w s had (Whole ∷ is) last e K tok = refl
 names_next w s had (Within b ∷ is) last e K tok = refl
 names_next w s had (Maybe ∷ is) last e K tok = refl
 names_next w s had (Variable ∷ is) last e K tok = refl
-names_next w s had [] ThenItem e K tok = refl
-names_next w s had [] (ThenBlock b) e K tok = refl
-names_next w s had [] ThenNothing e K tok = names_end (node (label.Named w) s had) e K tok
+names_next w s had [] lasts.Item e K tok = refl
+names_next w s had [] (lasts.Block b) e K tok = refl
+names_next w s had [] lasts.Nothing e K tok = names_end (node (label.Named w) s had) e K tok
 
 names_accept : (x : Shape) (t : Node) (e : List (List ℕ)) (K : List Frame) (tok : Tok) → names_at (accept x t e K) tok ≡ known_got e (got x t K)
 names_accept x t e [] tok = refl
@@ -180,7 +188,7 @@ module _ (n : List ℕ) (left : ℕ) where
   run_items l s ts p e K [] h = absurd h
   run_items l s ts p e K (tok ∷ b) h = ap (λ x. (lies (tok ∷ b) b && among n e) || sees_from x b) (grow_paren l s ts p e K tok)
 
-  there : {e : List (List ℕ)} {a c : List Tok} {ts : Nodes} → Reads (Arg (Within CommandsBlock)) e a c ts → (w : List ℕ) (s : Span) (had : Nodes) (is : List Need) (last : Last) (K : List Frame) → sees (st Optional e (InCall w s had Maybe is last ∷ K)) a ≡ sees (st (Opening CommandsBlock) e (InCall w s had Maybe is last ∷ K)) a
+  there : {e : List (List ℕ)} {a c : List Tok} {ts : Nodes} → Reads (Arg (Within blocks.Commands)) e a c ts → (w : List ℕ) (s : Span) (had : Nodes) (is : List Need) (last : Last) (K : List Frame) → sees (st Optional e (InCall w s had Maybe is last ∷ K)) a ≡ sees (st (Opening blocks.Commands) e (InCall w s had Maybe is last ∷ K)) a
   there (arg_commands d) w s had is last K = refl
 
   missing : (w : List ℕ) (s : Span) (had : Nodes) (is : List Need) (last : Last) (e : List (List ℕ)) (K : List Frame) (a : List Tok) → Breaking a → IsTrue (not (opens a)) → sees (st Optional e (InCall w s had Maybe is last ∷ K)) a ≡ sees (next w s had is last e K) a
@@ -329,7 +337,7 @@ module _ (n : List ℕ) (left : ℕ) where
   looks {e = e} (closed_block {w = w} {is = is} {k = k} {s = s} {a = a} {ts = ts} d f) = λ K g. (
     Fixed,
     chain n left (longer same) (beyond (suffix d) (suffix f)) (token n left (st Begin e K) (word w (Closing is k) s) a refl)
-        (then n left (suffix d) (suffix f) (looks d w s none (ThenBlock k) K (heads f)) (looks f (InLastBlock w s ts k ∷ K))),
+        (then n left (suffix d) (suffix f) (looks d w s none (lasts.Block k) K (heads f)) (looks f (InLastBlock w s ts k ∷ K))),
   )
   looks {e = e} (paren {s = s} {r = r} {b = b} {c = c} {t = t} d) = λ K g.
       let m = ended n left top t e K b (close_paren r ∷ c) (InParen s) (knows n left d) (omega arith) (λ m. refl) refl (looks d (InParen s ∷ K) (omega arith) (refl, refl)) in
@@ -354,7 +362,7 @@ module _ (n : List ℕ) (left : ℕ) where
   looks {e = e} {c = c} (more_sides {n = k} {t = t} {us = us} d f) = λ w s had K. alike n left (then n left (suffix d) (suffix f) (looks d (InNear w s had (suc k) ∷ K) tt).1 (looks f w s (and_last had t) K)) (ap (λ ts. sees n left (st (Have Fixed (node (label.Named w) s ts)) e K) c) (join_last had t us))
   looks {e = e} {c = c} (call_prefix {w = w} {is = is} {s = s} {a = a} {b = b} {ts = ts} {t = t} d f) = λ K g.
       let m = looks f (InLastItem w s ts ∷ K) (omega arith) tt in
-      record { held = m.held; tree = m.tree; rest = m.rest; shape = Fixed; shown = chain n left (longer same) (beyond (suffix d) (suffix f)) (alike n left (token n left (st Begin e K) (word w (Prefix is) s) a refl) (ap (λ x. sees_from n left x a) (begin_call_next w s is e K g))) (then n left (suffix d) (suffix f) (looks d w s none ThenItem K (heads f)) m.shown); settles = m.settles }
+      record { held = m.held; tree = m.tree; rest = m.rest; shape = Fixed; shown = chain n left (longer same) (beyond (suffix d) (suffix f)) (alike n left (token n left (st Begin e K) (word w (Prefix is) s) a refl) (ap (λ x. sees_from n left x a) (begin_call_next w s is e K g))) (then n left (suffix d) (suffix f) (looks d w s none lasts.Item K (heads f)) m.shown); settles = m.settles }
   looks {e = e} {c = c} (call_many {w = w} {n = k} {s = s} {a = a} {ts = ts} d) = λ K g.
       let m = looks d w s none K in
       record { held = m.held; tree = m.tree; rest = m.rest; shape = m.shape; shown = chain n left (longer same) (suffix d) (alike n left (token n left (st Begin e K) (word w (Many k) s) a refl) (ap (λ x. sees_from n left x a) (begin_many_next w s k e K g))) m.shown; settles = m.settles }
@@ -417,7 +425,7 @@ module _ (n : List ℕ) (left : ℕ) where
   looks {e = e} {c = c} (arg_commands {s = s} {b = b} {ts = ts} d) = λ K. record { is = ap (λ y. (lies n left (open_bracket s ∷ b) b && among n e) || y) (looks d s e none K) ∙ block (past n left (open_bracket s ∷ b)) (past n left b) (past n left c) (among n e) (knows n left d) (sees n left (supply (node label.Commands s ts) e K) c) (past_rest n left (longer {t = open_bracket s} same)) (past_rest n left (suffix d)) (inside_known n left d) }
   looks {e = e} (arg_reporter {s = s} {r = r} {b = b} {c = c} {t = t} d) = λ K.
       let m = ended n left top t e K b (close_bracket r ∷ c) (InReporter s) (knows n left d) (omega arith) (λ m. refl) refl (looks d (InReporter s ∷ K) (omega arith) (refl, refl)) in
-      chain n left (longer same) (beyond (suffix d) (longer same)) (token n left (st (Opening ReporterBlock) e K) (open_bracket s) b refl) (ends n left (suffix d) (longer same) m.1 (token n left (st (Shut m.0 t) e (InReporter s ∷ K)) (close_bracket r) c refl))
+      chain n left (longer same) (beyond (suffix d) (longer same)) (token n left (st (Opening blocks.Reporter) e K) (open_bracket s) b refl) (ends n left (suffix d) (longer same) m.1 (token n left (st (Shut m.0 t) e (InReporter s ∷ K)) (close_bracket r) c refl))
   looks {e = e} {c = c} (arg_variable {w = w} {s = s}) = λ K. token n left (st Choosing e K) (word w Named s) c refl
   looks {e = e} {c = c} (arg_local {w = w} {s = s} m) = λ K. alike n left (token n left (st Choosing e K) (word w Unknown s) c refl) (ap (λ x. sees_from n left (feed_variable x w s e K) c) m)
   looks {e = e} {c = c} no_arg = λ w s ts last K b. idle n left (ap (λ us. sees n left (next w s us [] last e K) c) (sym (join_none ts)))
@@ -428,7 +436,7 @@ module _ (n : List ℕ) (left : ℕ) where
   looks (arg {i = Maybe} d f) = λ w s ts last K g. absurd (no_maybe d)
   looks {e = e} {c = c} (maybe_there {is = is} {t = t} {ts = us} d f) = λ w s ts last K g. alike n left (then n left (suffix d) (suffix f) (from n left (there n left d w s ts is last K) (looks d (InCall w s ts Maybe is last ∷ K))) (looks f w s (and_last ts t) last K g)) (ap (λ us. sees n left (next w s us [] last e K) c) (join_last ts t us))
   looks {e = e} {a = a} (maybe_missing {is = is} m d) = λ w s ts last K g. from n left (missing n left w s ts is last e K a (heads d g) m) (looks d w s ts last K g)
-  looks {e = e} (command {w = w} {is = is} {s = s} {b = b} d) = λ K g m. chain n left (longer same) (suffix d) (alike n left (token n left (st Stating e K) (word w (Command is) s) b refl) (ap (λ x. sees_from n left x b) (stating e K (word w (Command is) s) g refl))) (looks d w s none ThenNothing K m)
+  looks {e = e} (command {w = w} {is = is} {s = s} {b = b} d) = λ K g m. chain n left (longer same) (suffix d) (alike n left (token n left (st Stating e K) (word w (Command is) s) b refl) (ap (λ x. sees_from n left x b) (stating e K (word w (Command is) s) g refl))) (looks d w s none lasts.Nothing K m)
   looks {e = e} {c = c} (make {w = w} {n = v} {s = s} {r = r} {b = b} {t = t} q d) = λ K g m.
       chain n left (longer same) (longer (suffix d)) (alike n left (token n left (st Stating e K) (word w Let s) (word v Unknown r ∷ b) refl) (ap (λ x. sees_from n left x (word v Unknown r ∷ b)) (stating e K (word w Let s) g refl)))
       (chain n left (longer same) (suffix d) (alike n left (token n left (st (Naming w s) e K) (word v Unknown r) b refl) (ap (λ x. sees_from n left (feed_fresh x w s v r e K) b) q)) (ended n left top t e K b c (InLet w s v r) (knows n left d) (omega arith) (λ l. refl) m (looks d (InLet w s v r ∷ K) (omega arith) (refl, refl))).1)

@@ -7,9 +7,19 @@ use Rattle.nl_tree.specs.declared.declared.Form.{Form}
 use Rattle.nl_tree.specs.declared.declared.Form.TheVariants as form
 use Rattle.nl_tree.specs.Tree.{Node, node, Nodes, none, more}
 use Rattle.nl_tree.specs.Vocabulary.{among}
-use Rattle.nl_tree.specs.Tokens.{Block, CommandsBlock, ReporterBlock, Need, Item, Whole, Within, Maybe, Variable, Class, Unknown, Constant, Plain, Named, Prefix, Many, Closing, Command, Let, With, Near, Of, Binary, Tok, number, text, word, open_bracket, close_bracket, open_paren, close_paren, end}
-use Rattle.nl_tree.specs.Grammar.{one, two, leaf, join, and_last, opens, top, Ending, AtBracket, AtEnd, Part, Closed, Chain, Sides, LastCall, Items, AnyItems, Level, Literals, Arg, Args, Statement, Statements, Reads, closed_number, closed_text, closed_constant, closed_plain, closed_variable, closed_local, closed_list, closed_block, paren, paren_many, paren_minus, chain_closed, chain_with, chain_near, one_side, more_sides, call_prefix, call_many, one_item, more_items, no_item, any_item, last_call, more_last, item_chain, item_call, item_near, item_of, level_up, level_binary, literal_end, literal_number, literal_text, literal_constant, literal_list, arg_item, arg_whole, arg_commands, arg_reporter, arg_variable, arg_local, no_arg, arg, maybe_there, maybe_missing, command, make, statement_paren, at_bracket, at_end, statements, span_of_first, IsText}
-use Rattle.nl_grammar.specs.Machine.{Last, ThenItem, ThenBlock, ThenNothing, Frame, InBinary, InWith, InNear, InOf, InCall, InLastItem, InLastBlock, InMany, InItems, InParen, InMinus, InReporter, InBracket, InList, InLet, InStatementParen, InStatements, Shape, Literal, Growing, Fixed, Begin, Opening, Optional, Choosing, Have, Blocked, Shut, Listing, Stating, Naming, Ended, Over, Dead, State, st, Step, go, stop, Got, got, end_statement, next, closed, supply, accept, closes, settle, takes_operator, feed_local, begin_call, begin_many, begin_minus, begin_bracket, end_bracket, end_many, feed_begin, feed_opening, feed_variable, feed_choosing, feed_blocked, feed_items, feed_listing, feed_bracket, feed_paren, feed_minus, feed_reporter, feed_whole, feed_shut, feed_ending, feed_statement, feed_stating, feed_fresh, feed_naming, feed_ended, feed_plain, without_maybes, feed_optional, feed_ready, feed_broken, feed_operator, got_takes, feed_binary, feed_of, feed_have, feed, run_from}
+use Rattle.nl_tree.specs.Tokens.{Class, Unknown, Constant, Plain, Named, Prefix, Many, Closing, Command, Let, With, Near, Of, Binary, Tok, number, text, word, open_bracket, close_bracket, open_paren, close_paren, end}
+use Rattle.nl_tree.specs.declared.needs.Block.{Block}
+use Rattle.nl_tree.specs.declared.needs.Block.TheVariants as blocks
+use Rattle.nl_tree.specs.declared.needs.Need.{Need}
+use Rattle.nl_tree.specs.declared.needs.Need.TheVariants.{Item, Whole, Within, Maybe, Variable}
+use Rattle.nl_tree.specs.Grammar.{one, two, leaf, join, and_last, opens, top, Part, Closed, Chain, Sides, LastCall, Items, AnyItems, Level, Literals, Arg, Args, Statement, Statements, Reads, closed_number, closed_text, closed_constant, closed_plain, closed_variable, closed_local, closed_list, closed_block, paren, paren_many, paren_minus, chain_closed, chain_with, chain_near, one_side, more_sides, call_prefix, call_many, one_item, more_items, no_item, any_item, last_call, more_last, item_chain, item_call, item_near, item_of, level_up, level_binary, literal_end, literal_number, literal_text, literal_constant, literal_list, arg_item, arg_whole, arg_commands, arg_reporter, arg_variable, arg_local, no_arg, arg, maybe_there, maybe_missing, command, make, statement_paren, at_bracket, at_end, statements, span_of_first, IsText}
+use Rattle.nl_tree.specs.declared.needs.Ending.{Ending}
+use Rattle.nl_tree.specs.declared.needs.Ending.TheVariants.{AtBracket, AtEnd}
+use Rattle.nl_grammar.specs.Machine.{Frame, InBinary, InWith, InNear, InOf, InCall, InLastItem, InLastBlock, InMany, InItems, InParen, InMinus, InReporter, InBracket, InList, InLet, InStatementParen, InStatements, Begin, Opening, Optional, Choosing, Have, Blocked, Shut, Listing, Stating, Naming, Ended, Over, Dead, State, st, Step, go, stop, Got, got, end_statement, next, closed, supply, accept, closes, settle, takes_operator, feed_local, begin_call, begin_many, begin_minus, begin_bracket, end_bracket, end_many, feed_begin, feed_opening, feed_variable, feed_choosing, feed_blocked, feed_items, feed_listing, feed_bracket, feed_paren, feed_minus, feed_reporter, feed_whole, feed_shut, feed_ending, feed_statement, feed_stating, feed_fresh, feed_naming, feed_ended, feed_plain, without_maybes, feed_optional, feed_ready, feed_broken, feed_operator, got_takes, feed_binary, feed_of, feed_have, feed, run_from}
+use Rattle.nl_grammar.specs.declared.pending.Last.{Last}
+use Rattle.nl_grammar.specs.declared.pending.Last.TheVariants as lasts
+use Rattle.nl_grammar.specs.declared.pending.Shape.{Shape}
+use Rattle.nl_grammar.specs.declared.pending.Shape.TheVariants.{Literal, Growing, Fixed}
 use Rattle.nl_grammar.proofs.Complete.{Stays, settle_on, settle_stop, join_none, join_last}
 
 -- What may be read on top of a stack.
@@ -42,16 +52,16 @@ Callable (InNear w s ts zero ∷ K) = Unit {0}
 Callable K = Expr K
 
 abbrev pub Same : Block → Block → Type 0
-Same CommandsBlock CommandsBlock = Unit {0}
-Same ReporterBlock ReporterBlock = Unit {0}
+Same blocks.Commands blocks.Commands = Unit {0}
+Same blocks.Reporter blocks.Reporter = Unit {0}
 Same a b = ⊥
 
 -- a block
 abbrev pub BlockTop : Block → List Frame → Type 0
 BlockTop b (InCall w s ts (Within k) is last ∷ K) = Same b k
-BlockTop b (InCall w s ts Maybe is last ∷ K) = Same b CommandsBlock
+BlockTop b (InCall w s ts Maybe is last ∷ K) = Same b blocks.Commands
 BlockTop b (InLastBlock w s ts k ∷ K) = Same b k
-BlockTop b (InWith w s t ∷ K) = Same b ReporterBlock
+BlockTop b (InWith w s t ∷ K) = Same b blocks.Reporter
 BlockTop b K = ⊥
 
 -- a block that may be missing
@@ -100,14 +110,14 @@ ListUnder (InList s ts ∷ K) = Unit {0}
 ListUnder K = Begins K
 
 abbrev pub class_with : Last → List Need → Class
-class_with ThenItem is = Prefix is
-class_with (ThenBlock b) is = Closing is b
-class_with ThenNothing is = Command is
+class_with lasts.Item is = Prefix is
+class_with (lasts.Block b) is = Closing is b
+class_with lasts.Nothing is = Command is
 
 abbrev pub Under : Last → List Frame → Type 0
-Under ThenItem K = Callable K
-Under (ThenBlock b) K = Begins K
-Under ThenNothing K = StatementTop K
+Under lasts.Item K = Callable K
+Under (lasts.Block b) K = Begins K
+Under lasts.Nothing K = StatementTop K
 
 -- Whatever is read from `x` on completes what began at `y`, and has these trees before its own.
 abbrev pub Extends : Part → List (List ℕ) → List Tok → Part → List (List ℕ) → List Tok → Nodes → Type 0
@@ -138,10 +148,10 @@ literals_closed {e} {c = c} (literal_text {bytes = n} {s = s} d) = let (q, same)
 literals_closed {e} {c = c} (literal_constant {w = w} {s = s} d) = let (q, same) = literals_none d in (q, subst (λ b. Reads Closed e (word w Constant s ∷ b) (close_bracket q ∷ c) (one (leaf (label.Named w) s))) (sym same) closed_constant)
 literals_closed {e} {c = c} (literal_list {b = b} {ts = ts} d f) = let (q, same) = literals_none f in (q, closed_list (subst (λ x. Reads Literals e b x ts) same d))
 
-block_of : {e : List (List ℕ)} {a c : List Tok} {s : Span} {t : Node} → Reads Chain e a c (one (node label.List s (one t))) → Reads (Arg (Within ReporterBlock)) e a c (one (node label.Reporter s (one t)))
+block_of : {e : List (List ℕ)} {a c : List Tok} {s : Span} {t : Node} → Reads Chain e a c (one (node label.List s (one t))) → Reads (Arg (Within blocks.Reporter)) e a c (one (node label.Reporter s (one t)))
 block_of (chain_closed d) = inside d
   where
-    inside : {e : List (List ℕ)} {a c : List Tok} {s : Span} {t : Node} → Reads Closed e a c (one (node label.List s (one t))) → Reads (Arg (Within ReporterBlock)) e a c (one (node label.Reporter s (one t)))
+    inside : {e : List (List ℕ)} {a c : List Tok} {s : Span} {t : Node} → Reads Closed e a c (one (node label.List s (one t))) → Reads (Arg (Within blocks.Reporter)) e a c (one (node label.Reporter s (one t)))
     inside (closed_list d) = let (q, f) = literals_closed d in arg_reporter (raise top zero (omega arith) (item_chain (chain_closed f)))
 
 abbrev IsList : Frame → Type 0
@@ -167,7 +177,7 @@ module _ (kind : Form) (e0 : List (List ℕ)) (w : List Tok) where
   Opens e (InBinary (suc l) v s t ∷ K) x = (y : List Tok) × (m : Bool) × Reads (Level (suc l)) e y (word v (Binary l m) s ∷ x) (one t) × (suc l ≤ top) × Stays (suc l) K × Expr K × Opens e K y
   Opens e (InWith v s t ∷ K) x = (y : List Tok) × Reads Chain e y (word v With s ∷ x) (one t) × Expr K × Opens e K y
   Opens e (InNear v s ts n ∷ K) x = (y : List Tok) × ((d : List Tok) (us : Nodes) → Reads (Sides n) e x d us → Reads Chain e y d (one (node (label.Named v) s (join ts us)))) × ((d : List Tok) (us : Nodes) → Reads (LastCall n) e x d us → Reads (Level zero) e y d (one (node (label.Named v) s (join ts us)))) × Expr K × Opens e K y
-  Opens e (InOf v s b ∷ K) x = (y : List Tok) × Reads (Arg (Within ReporterBlock)) e y (word v Of s ∷ x) (one b) × Expr K × Opens e K y
+  Opens e (InOf v s b ∷ K) x = (y : List Tok) × Reads (Arg (Within blocks.Reporter)) e y (word v Of s ∷ x) (one b) × Expr K × Opens e K y
   Opens e (InCall v s ts i is last ∷ K) x = (y : List Tok) × (js : List Need) × Extends (Args (i ∷ is)) e x (Args js) e y ts × Under last K × Opens e K (word v (class_with last js) s ∷ y)
   Opens e (InLastItem v s ts ∷ K) x = (y : List Tok) × (js : List Need) × Reads (Args js) e y x ts × Callable K × Opens e K (word v (Prefix js) s ∷ y)
   Opens e (InLastBlock v s ts k ∷ K) x = (y : List Tok) × (js : List Need) × Reads (Args js) e y x ts × Begins K × Opens e K (word v (Closing js k) s ∷ y)
@@ -175,12 +185,12 @@ module _ (kind : Form) (e0 : List (List ℕ)) (w : List Tok) where
   Opens e (InItems p l s ts ∷ K) x = (y : List Tok) × (v : List ℕ) × (m : ℕ) × (l ≡ label.Named v) × Extends AnyItems e x AnyItems e y ts × Begins K × Opens e K (open_paren p ∷ word v (Many m) s ∷ y)
   Opens e (InParen s ∷ K) x = Begins K × Opens e K (open_paren s ∷ x)
   Opens e (InMinus p s ∷ K) x = (v : List ℕ) × (l : ℕ) × Begins K × Opens e K (open_paren p ∷ word v (Binary l true) s ∷ x)
-  Opens e (InReporter s ∷ K) x = BlockTop ReporterBlock K × Opens e K (open_bracket s ∷ x)
+  Opens e (InReporter s ∷ K) x = BlockTop blocks.Reporter K × Opens e K (open_bracket s ∷ x)
   Opens e (InBracket s ∷ K) x = Expr K × Opens e K (open_bracket s ∷ x)
   Opens e (InList s ts ∷ K) x = (y : List Tok) × Extends Literals e x Literals e y ts × ListUnder K × Opens e K (open_bracket s ∷ y)
   Opens e (InLet v s n r ∷ K) x = StatementTop K × IsTrue (not (among n e)) × Opens e K (word v Let s ∷ word n Unknown r ∷ x)
   Opens e (InStatementParen s ∷ K) x = StatementTop K × Opens e K (open_paren s ∷ x)
-  Opens e (InStatements s AtBracket before ts ∷ K) x = (y : List Tok) × Extends (Statements AtBracket) e x (Statements AtBracket) before y ts × BlockTop CommandsBlock K × Opens before K (open_bracket s ∷ y)
+  Opens e (InStatements s AtBracket before ts ∷ K) x = (y : List Tok) × Extends (Statements AtBracket) e x (Statements AtBracket) before y ts × BlockTop blocks.Commands K × Opens before K (open_bracket s ∷ y)
   Opens e (InStatements s AtEnd before ts ∷ []) x = Extends (Statements AtEnd) e x (Statements AtEnd) e0 w ts × (kind ≡ form.Commands) × (s ≡ span_of_first w)
   Opens e (InStatements s AtEnd before ts ∷ f ∷ K) x = ⊥
 
@@ -191,7 +201,7 @@ module _ (kind : Form) (e0 : List (List ℕ)) (w : List Tok) where
   Reached (st Optional e K) c = MaybeTop K × Opens e K c
   Reached (st Choosing e K) c = VariableTop K × Opens e K c
   Reached (st (Have x t) e K) c = (a : List Tok) × Reads Chain e a c (one t) × Fits x e a c t × Expr K × Opens e K a
-  Reached (st (Blocked b) e K) c = (a : List Tok) × Reads (Arg (Within ReporterBlock)) e a c (one b) × Expr K × Opens e K a
+  Reached (st (Blocked b) e K) c = (a : List Tok) × Reads (Arg (Within blocks.Reporter)) e a c (one b) × Expr K × Opens e K a
   Reached (st (Shut x t) e K) c = (a : List Tok) × Reads (Level (shut_level K)) e a c (one t) × Fits x e a c t × ShutTop K × Opens e K a
   Reached (st Listing e K) c = ListTop K × Opens e K c
   Reached (st Stating e K) c = StatementTop K × Opens e K c
@@ -215,14 +225,14 @@ module _ (kind : Form) (e0 : List (List ℕ)) (w : List Tok) where
   pub reached_next : (v : List ℕ) (s : Span) (ts : Nodes) (is : List Need) (last : Last) (e : List (List ℕ)) (K : List Frame) (c y : List Tok) (js : List Need) → Extends (Args is) e c (Args js) e y ts → Under last K → Opens e K (word v (class_with last js) s ∷ y) → Reached (next v s ts is last e K) c
   reached_next v s ts (Item ∷ is) last e K c y js f u o = (tt, (y, js, f, u, o))
   reached_next v s ts (Whole ∷ is) last e K c y js f u o = (tt, (y, js, f, u, o))
-  reached_next v s ts (Within CommandsBlock ∷ is) last e K c y js f u o = (tt, (y, js, f, u, o))
-  reached_next v s ts (Within ReporterBlock ∷ is) last e K c y js f u o = (tt, (y, js, f, u, o))
+  reached_next v s ts (Within blocks.Commands ∷ is) last e K c y js f u o = (tt, (y, js, f, u, o))
+  reached_next v s ts (Within blocks.Reporter ∷ is) last e K c y js f u o = (tt, (y, js, f, u, o))
   reached_next v s ts (Maybe ∷ is) last e K c y js f u o = (tt, (y, js, f, u, o))
   reached_next v s ts (Variable ∷ is) last e K c y js f u o = (tt, (y, js, f, u, o))
-  reached_next v s ts [] ThenItem e K c y js f u o = (tt, (y, js, subst (λ us. Reads (Args js) e y c us) (join_none ts) (f c none no_arg), u, o))
-  reached_next v s ts [] (ThenBlock CommandsBlock) e K c y js f u o = (tt, (y, js, subst (λ us. Reads (Args js) e y c us) (join_none ts) (f c none no_arg), u, o))
-  reached_next v s ts [] (ThenBlock ReporterBlock) e K c y js f u o = (tt, (y, js, subst (λ us. Reads (Args js) e y c us) (join_none ts) (f c none no_arg), u, o))
-  reached_next v s ts [] ThenNothing e K c y js f u o = reached_end (node (label.Named v) s ts) e e K (word v (Command js) s ∷ y) c (command (subst (λ us. Reads (Args js) e y c us) (join_none ts) (f c none no_arg))) u o
+  reached_next v s ts [] lasts.Item e K c y js f u o = (tt, (y, js, subst (λ us. Reads (Args js) e y c us) (join_none ts) (f c none no_arg), u, o))
+  reached_next v s ts [] (lasts.Block blocks.Commands) e K c y js f u o = (tt, (y, js, subst (λ us. Reads (Args js) e y c us) (join_none ts) (f c none no_arg), u, o))
+  reached_next v s ts [] (lasts.Block blocks.Reporter) e K c y js f u o = (tt, (y, js, subst (λ us. Reads (Args js) e y c us) (join_none ts) (f c none no_arg), u, o))
+  reached_next v s ts [] lasts.Nothing e K c y js f u o = reached_end (node (label.Named v) s ts) e e K (word v (Command js) s ∷ y) c (command (subst (λ us. Reads (Args js) e y c us) (join_none ts) (f c none no_arg))) u o
 
   pub reached_closed : (x : Shape) (t : Node) (e : List (List ℕ)) (K : List Frame) (a c : List Tok) → Reads Closed e a c (one t) → Fits x e a c t → Begins K → Opens e K a → Reached (closed x t e K) c
   reached_closed x t e [] a c d fit u o = (a, chain_closed d, fit, u, o)
@@ -244,12 +254,12 @@ module _ (kind : Form) (e0 : List (List ℕ)) (w : List Tok) where
   one_more {e} {c} {y} ts t is js f z us g = subst (λ vs. Reads (Args js) e y z vs) (sym (join_last ts t us)) (f z us g)
 
   pub reached_supply : (t : Node) (e : List (List ℕ)) (K : List Frame) (b : Block) (a c : List Tok) → Reads (Arg (Within b)) e a c (one t) → BlockTop b K → Opens e K a → Reached (supply t e K) c
-  reached_supply t e (InCall v s ts (Within CommandsBlock) is last ∷ K) CommandsBlock a c d h o = reached_next v s (and_last ts t) is last e K c o.0 o.1 (one_more ts t is o.1 (λ z us g. o.2 z (more t us) (arg d g))) o.3 o.4
-  reached_supply t e (InCall v s ts (Within ReporterBlock) is last ∷ K) ReporterBlock a c d h o = reached_next v s (and_last ts t) is last e K c o.0 o.1 (one_more ts t is o.1 (λ z us g. o.2 z (more t us) (arg d g))) o.3 o.4
-  reached_supply t e (InCall v s ts Maybe is last ∷ K) CommandsBlock a c d h o = reached_next v s (and_last ts t) is last e K c o.0 o.1 (one_more ts t is o.1 (λ z us g. o.2 z (more t us) (maybe_there d g))) o.3 o.4
-  reached_supply t e (InLastBlock v s ts CommandsBlock ∷ K) CommandsBlock a c d h o = reached_closed Fixed (node (label.Named v) s (and_last ts t)) e K (word v (Closing o.1 CommandsBlock) s ∷ o.0) c (closed_block o.2 d) tt o.3 o.4
-  reached_supply t e (InLastBlock v s ts ReporterBlock ∷ K) ReporterBlock a c d h o = reached_closed Fixed (node (label.Named v) s (and_last ts t)) e K (word v (Closing o.1 ReporterBlock) s ∷ o.0) c (closed_block o.2 d) tt o.3 o.4
-  reached_supply t e (InWith v s l ∷ K) ReporterBlock a c d h o = (o.0, chain_with o.1 d, tt, o.2, o.3)
+  reached_supply t e (InCall v s ts (Within blocks.Commands) is last ∷ K) blocks.Commands a c d h o = reached_next v s (and_last ts t) is last e K c o.0 o.1 (one_more ts t is o.1 (λ z us g. o.2 z (more t us) (arg d g))) o.3 o.4
+  reached_supply t e (InCall v s ts (Within blocks.Reporter) is last ∷ K) blocks.Reporter a c d h o = reached_next v s (and_last ts t) is last e K c o.0 o.1 (one_more ts t is o.1 (λ z us g. o.2 z (more t us) (arg d g))) o.3 o.4
+  reached_supply t e (InCall v s ts Maybe is last ∷ K) blocks.Commands a c d h o = reached_next v s (and_last ts t) is last e K c o.0 o.1 (one_more ts t is o.1 (λ z us g. o.2 z (more t us) (maybe_there d g))) o.3 o.4
+  reached_supply t e (InLastBlock v s ts blocks.Commands ∷ K) blocks.Commands a c d h o = reached_closed Fixed (node (label.Named v) s (and_last ts t)) e K (word v (Closing o.1 blocks.Commands) s ∷ o.0) c (closed_block o.2 d) tt o.3 o.4
+  reached_supply t e (InLastBlock v s ts blocks.Reporter ∷ K) blocks.Reporter a c d h o = reached_closed Fixed (node (label.Named v) s (and_last ts t)) e K (word v (Closing o.1 blocks.Reporter) s ∷ o.0) c (closed_block o.2 d) tt o.3 o.4
+  reached_supply t e (InWith v s l ∷ K) blocks.Reporter a c d h o = (o.0, chain_with o.1 d, tt, o.2, o.3)
   reached_supply t e K b a c d h o = absurd h
 
   pub reached_variable : (t : Node) (e : List (List ℕ)) (K : List Frame) (a c : List Tok) → Reads (Arg Variable) e a c (one t) → VariableTop K → Opens e K a → Reached (supply t e K) c
@@ -373,10 +383,10 @@ module _ (kind : Form) (e0 : List (List ℕ)) (w : List Tok) where
   -- Where an expression begins.
 
   pub reached_begin_call : (v : List ℕ) (s : Span) (is : List Need) (e : List (List ℕ)) (K : List Frame) (c : List Tok) → Begins K → Opens e K (word v (Prefix is) s ∷ c) → ReachedStep (begin_call v s is e K) c
-  reached_begin_call v s is e [] c u o = reached_next v s none is ThenItem e [] c c is (λ z us d. d) u o
-  reached_begin_call v s is e (InNear n r us zero ∷ K) c u o = reached_next v s none is ThenItem e (InNear n r us zero ∷ K) c c is (λ z us d. d) u o
+  reached_begin_call v s is e [] c u o = reached_next v s none is lasts.Item e [] c c is (λ z us d. d) u o
+  reached_begin_call v s is e (InNear n r us zero ∷ K) c u o = reached_next v s none is lasts.Item e (InNear n r us zero ∷ K) c c is (λ z us d. d) u o
   reached_begin_call v s is e (InNear n r us (suc m) ∷ K) c u o = tt
-  reached_begin_call v s is e (f ∷ K) c u o = reached_next v s none is ThenItem e (f ∷ K) c c is (λ z us d. d) u o
+  reached_begin_call v s is e (f ∷ K) c u o = reached_next v s none is lasts.Item e (f ∷ K) c c is (λ z us d. d) u o
 
   pub reached_begin_many : (v : List ℕ) (s : Span) (n : ℕ) (e : List (List ℕ)) (K : List Frame) (c : List Tok) → Begins K → Opens e K (word v (Many n) s ∷ c) → ReachedStep (begin_many v s n e K) c
   reached_begin_many v s n e [] c u o = (tt, (c, n, (λ z us d. d), (λ z us d. d), u, o))
@@ -414,7 +424,7 @@ module _ (kind : Form) (e0 : List (List ℕ)) (w : List Tok) where
   reached_begin e K (word v Named s) c u o = reached_closed Fixed (leaf (label.Named v) s) e K (word v Named s ∷ c) c closed_variable tt u o
   reached_begin e K (word v (Prefix is) s) c u o = reached_begin_call v s is e K c u o
   reached_begin e K (word v (Many n) s) c u o = reached_begin_many v s n e K c u o
-  reached_begin e K (word v (Closing is b) s) c u o = reached_next v s none is (ThenBlock b) e K c c is (λ z us d. d) u o
+  reached_begin e K (word v (Closing is b) s) c u o = reached_next v s none is (lasts.Block b) e K c c is (λ z us d. d) u o
   reached_begin e K (word v (Binary l m) s) c u o = reached_begin_minus v l m s e K c o
   reached_begin e K (open_bracket s) c u o = reached_begin_bracket s e K c u o
   reached_begin e K (close_bracket s) c u o = reached_bracket_end e K s c o
@@ -425,10 +435,10 @@ module _ (kind : Form) (e0 : List (List ℕ)) (w : List Tok) where
   -- In the other modes.
 
   pub reached_opening : (b : Block) (e : List (List ℕ)) (K : List Frame) (tok : Tok) (c : List Tok) → BlockTop b K → Opens e K (tok ∷ c) → ReachedStep (feed_opening b e K tok) c
-  reached_opening CommandsBlock e K (open_bracket s) c u o = (tt, (c, (λ z us d. d), u, o))
-  reached_opening ReporterBlock e K (open_bracket s) c u o = (tt, (u, o))
-  reached_opening CommandsBlock e K tok c u o = tt
-  reached_opening ReporterBlock e K tok c u o = tt
+  reached_opening blocks.Commands e K (open_bracket s) c u o = (tt, (c, (λ z us d. d), u, o))
+  reached_opening blocks.Reporter e K (open_bracket s) c u o = (tt, (u, o))
+  reached_opening blocks.Commands e K tok c u o = tt
+  reached_opening blocks.Reporter e K tok c u o = tt
 
   pub reached_choosing : (e : List (List ℕ)) (K : List Frame) (tok : Tok) (c : List Tok) → VariableTop K → Opens e K (tok ∷ c) → ReachedStep (feed_choosing e K tok) c
   reached_choosing e K (word v Named s) c u o = reached_variable (leaf (label.Named v) s) e K (word v Named s ∷ c) c arg_variable u o
@@ -439,7 +449,7 @@ module _ (kind : Form) (e0 : List (List ℕ)) (w : List Tok) where
       at false q = tt
   reached_choosing e K tok c u o = tt
 
-  pub reached_blocked : (b : Node) (e : List (List ℕ)) (K : List Frame) (tok : Tok) (a c : List Tok) → Reads (Arg (Within ReporterBlock)) e a (tok ∷ c) (one b) → Expr K → Opens e K a → ReachedStep (feed_blocked b e K tok) c
+  pub reached_blocked : (b : Node) (e : List (List ℕ)) (K : List Frame) (tok : Tok) (a c : List Tok) → Reads (Arg (Within blocks.Reporter)) e a (tok ∷ c) (one b) → Expr K → Opens e K a → ReachedStep (feed_blocked b e K tok) c
   reached_blocked b e K (word v Of s) a c d u o = (tt, (a, d, u, o))
   reached_blocked b e K tok a c d u o = tt
 
@@ -460,8 +470,8 @@ module _ (kind : Form) (e0 : List (List ℕ)) (w : List Tok) where
   reached_minus t p s e K (close_paren r) a c d o = reached_closed Fixed (node label.Paren p (one (node label.Negate s (one t)))) e K (open_paren p ∷ word o.0 (Binary o.1 true) s ∷ a) c (paren_minus d) tt o.2 o.3
   reached_minus t p s e K tok a c d o = tt
 
-  pub reached_reporter : (t : Node) (s : Span) (e : List (List ℕ)) (K : List Frame) (tok : Tok) (a c : List Tok) → Reads (Level top) e a (tok ∷ c) (one t) → BlockTop ReporterBlock K → Opens e K (open_bracket s ∷ a) → ReachedStep (feed_reporter t s e K tok) c
-  reached_reporter t s e K (close_bracket r) a c d u o = reached_supply (node label.Reporter s (one t)) e K ReporterBlock (open_bracket s ∷ a) c (arg_reporter d) u o
+  pub reached_reporter : (t : Node) (s : Span) (e : List (List ℕ)) (K : List Frame) (tok : Tok) (a c : List Tok) → Reads (Level top) e a (tok ∷ c) (one t) → BlockTop blocks.Reporter K → Opens e K (open_bracket s ∷ a) → ReachedStep (feed_reporter t s e K tok) c
+  reached_reporter t s e K (close_bracket r) a c d u o = reached_supply (node label.Reporter s (one t)) e K blocks.Reporter (open_bracket s ∷ a) c (arg_reporter d) u o
   reached_reporter t s e K tok a c d u o = tt
 
   pub reached_whole : (t : Node) (e : List (List ℕ)) (tok : Tok) (a c : List Tok) → Reads (Level top) e a (tok ∷ c) (one t) → Opens e [] a → ReachedStep (feed_whole t e tok) c
@@ -479,14 +489,14 @@ module _ (kind : Form) (e0 : List (List ℕ)) (w : List Tok) where
   -- Statements.
 
   pub reached_ending : (k : Ending) (s : Span) (ts : Nodes) (e before : List (List ℕ)) (K : List Frame) (tok : Tok) (c : List Tok) → Opens e (InStatements s k before ts ∷ K) (tok ∷ c) → ReachedStep (feed_ending k s ts before K tok) c
-  reached_ending AtBracket s ts e before K (close_bracket r) c o = reached_supply (node label.Commands s ts) before K CommandsBlock (open_bracket s ∷ o.0) c (arg_commands (subst (λ vs. Reads (Statements AtBracket) before o.0 c vs) (join_none ts) (o.1 c none at_bracket))) o.2 o.3
+  reached_ending AtBracket s ts e before K (close_bracket r) c o = reached_supply (node label.Commands s ts) before K blocks.Commands (open_bracket s ∷ o.0) c (arg_commands (subst (λ vs. Reads (Statements AtBracket) before o.0 c vs) (join_none ts) (o.1 c none at_bracket))) o.2 o.3
   reached_ending AtEnd s ts e before [] (end r) c o = λ q. subst (λ f. IsText f e0 w (node label.Commands s ts)) (sym o.1) (ts, ap (λ z. node label.Commands z ts) o.2, subst (λ vs. Reads (Statements AtEnd) e0 w [] vs) (join_none ts) (o.0 [] none (subst (λ z. Reads (Statements AtEnd) e (end r ∷ z) [] none) (sym q) at_end)))
   reached_ending AtEnd s ts e before (f ∷ K) (end r) c o = absurd o
   reached_ending AtBracket s ts e before K tok c o = tt
   reached_ending AtEnd s ts e before K tok c o = tt
 
   pub reached_statement : (e : List (List ℕ)) (K : List Frame) (tok : Tok) (c : List Tok) → StatementTop K → Opens e K (tok ∷ c) → ReachedStep (feed_statement e K tok) c
-  reached_statement e K (word v (Command is) s) c u o = reached_next v s none is ThenNothing e K c c is (λ z us d. d) u o
+  reached_statement e K (word v (Command is) s) c u o = reached_next v s none is lasts.Nothing e K c c is (λ z us d. d) u o
   reached_statement e K (word v Let s) c u o = (u, o)
   reached_statement e K (open_paren s) c u o = (tt, (u, o))
   reached_statement e K tok c u o = tt

@@ -3,9 +3,13 @@ use Rattle.std.proofs.Common.{◌≡◌, ℕ, zero, suc, Bool, true, false, List
 use Rattle.nl_tree.specs.declared.tree.Label.TheVariants as label
 use Rattle.nl_tree.specs.declared.declared.Form.{Form}
 use Rattle.nl_tree.specs.Tree.{Node, node}
-use Rattle.nl_tree.specs.Tokens.{CommandsBlock, ReporterBlock, Tok}
-use Rattle.nl_tree.specs.Grammar.{two, and_last, top, AtBracket, AtEnd}
-use Rattle.nl_grammar.specs.Machine.{Frame, InBinary, InWith, InNear, InOf, InCall, InLastItem, InLastBlock, InMany, InItems, InParen, InMinus, InReporter, InBracket, InList, InLet, InStatementParen, InStatements, Shape, Growing, Fixed, Begin, Opening, Optional, Choosing, Have, Blocked, Shut, Listing, Stating, Naming, Ended, Over, Dead, State, st, Got, got, settle}
+use Rattle.nl_tree.specs.Tokens.{Tok}
+use Rattle.nl_tree.specs.declared.needs.Block.TheVariants as blocks
+use Rattle.nl_tree.specs.Grammar.{two, and_last, top}
+use Rattle.nl_tree.specs.declared.needs.Ending.TheVariants.{AtBracket, AtEnd}
+use Rattle.nl_grammar.specs.Machine.{Frame, InBinary, InWith, InNear, InOf, InCall, InLastItem, InLastBlock, InMany, InItems, InParen, InMinus, InReporter, InBracket, InList, InLet, InStatementParen, InStatements, Begin, Opening, Optional, Choosing, Have, Blocked, Shut, Listing, Stating, Naming, Ended, Over, Dead, State, st, Got, got, settle}
+use Rattle.nl_grammar.specs.declared.pending.Shape.{Shape}
+use Rattle.nl_grammar.specs.declared.pending.Shape.TheVariants.{Growing, Fixed}
 use Rattle.nl_grammar.proofs.Complete.{settle_on, settle_stop}
 use Rattle.nl_grammar.proofs.Sound.{Expr, Begins, Callable, BlockTop, MaybeTop, VariableTop, ShutTop, ListTop, StatementTop, EndedTop, ListUnder, Under, Opens, Reached}
 
@@ -23,12 +27,12 @@ Fine (InMany w s ts n ∷ K) = Callable K × Fine K
 Fine (InItems p l s ts ∷ K) = Begins K × Fine K
 Fine (InParen s ∷ K) = Begins K × Fine K
 Fine (InMinus p s ∷ K) = Begins K × Fine K
-Fine (InReporter s ∷ K) = BlockTop ReporterBlock K × Fine K
+Fine (InReporter s ∷ K) = BlockTop blocks.Reporter K × Fine K
 Fine (InBracket s ∷ K) = Expr K × Fine K
 Fine (InList s ts ∷ K) = ListUnder K × Fine K
 Fine (InLet w s n r ∷ K) = StatementTop K × Fine K
 Fine (InStatementParen s ∷ K) = StatementTop K × Fine K
-Fine (InStatements s AtBracket before ts ∷ K) = BlockTop CommandsBlock K × Fine K
+Fine (InStatements s AtBracket before ts ∷ K) = BlockTop blocks.Commands K × Fine K
 Fine (InStatements s AtEnd before ts ∷ []) = Unit {0}
 Fine (InStatements s AtEnd before ts ∷ f ∷ K) = ⊥
 

@@ -1,12 +1,20 @@
 -- What completes the tokens that begin a text: for each thing that is open, what it still misses, in its least form.
 use Rattle.std.specs.Prelude.{◌≡◌, ℕ, zero, suc, ◌+◌, Bool, true, false, List, [], ◌∷◌, ◌++◌, map, length, codes}
+use Rattle.nl_fixed.specs.Nouns.{Name, Names}
 use Rattle.nl_fixed.specs.declared.span.Span.{Span}
 use Rattle.nl_tree.specs.declared.declared.Form.{Form}
 use Rattle.nl_tree.specs.Term.{Term}
 use Rattle.nl_tree.specs.Vocabulary.{term_named}
-use Rattle.nl_tree.specs.Tokens.{Lexeme, Word, Open, Close, CloseParen, End, Token, Block, CommandsBlock, ReporterBlock, Need, Item, Whole, Within, Maybe, Variable, Constant, Named, Command, Of, class_of, marked}
-use Rattle.nl_tree.specs.Grammar.{AtBracket, AtEnd, span_of_first}
-use Rattle.nl_grammar.specs.Machine.{Last, ThenItem, ThenBlock, ThenNothing, Frame, InBinary, InWith, InNear, InOf, InCall, InLastItem, InLastBlock, InMany, InItems, InParen, InMinus, InReporter, InBracket, InList, InLet, InStatementParen, InStatements, Begin, Opening, Optional, Choosing, Have, Blocked, Shut, Listing, Stating, Naming, Ended, Over, Dead, State, st, Step, go, stop, run, start}
+use Rattle.nl_tree.specs.Tokens.{Lexeme, Word, Open, Close, CloseParen, End, Token, Constant, Named, Command, Of, class_of, marked}
+use Rattle.nl_tree.specs.declared.needs.Block.{Block}
+use Rattle.nl_tree.specs.declared.needs.Block.TheVariants as blocks
+use Rattle.nl_tree.specs.declared.needs.Need.{Need}
+use Rattle.nl_tree.specs.declared.needs.Need.TheVariants.{Item, Whole, Within, Maybe, Variable}
+use Rattle.nl_tree.specs.Grammar.{span_of_first}
+use Rattle.nl_tree.specs.declared.needs.Ending.TheVariants.{AtBracket, AtEnd}
+use Rattle.nl_grammar.specs.Machine.{Frame, InBinary, InWith, InNear, InOf, InCall, InLastItem, InLastBlock, InMany, InItems, InParen, InMinus, InReporter, InBracket, InList, InLet, InStatementParen, InStatements, Begin, Opening, Optional, Choosing, Have, Blocked, Shut, Listing, Stating, Naming, Ended, Over, Dead, State, st, Step, go, stop, run, start}
+use Rattle.nl_grammar.specs.declared.pending.Last.{Last}
+use Rattle.nl_grammar.specs.declared.pending.Last.TheVariants as lasts
 use Rattle.nl_grammar.specs.Depth.{is_literal}
 
 -- What may be missing.
@@ -15,7 +23,7 @@ pub data Piece : Type 0 where
   AVariable : Piece  -- `color`
   AStatement : Piece  -- `stop`
   AnOf : Piece  -- `of`
-  AName : List (List ℕ) → Piece  -- a new name, where these are known
+  AName : Names → Piece  -- a new name, where these are known
   ABracket : Piece
   ItsBracket : Piece  -- the bracket that closes
   ItsParen : Piece
@@ -23,13 +31,13 @@ pub data Piece : Type 0 where
 
 -- a block with nothing in it, or with a value
 abbrev pub block_pieces : Block → List Piece
-block_pieces CommandsBlock = ABracket ∷ ItsBracket ∷ []
-block_pieces ReporterBlock = ABracket ∷ AValue ∷ ItsBracket ∷ []
+block_pieces blocks.Commands = ABracket ∷ ItsBracket ∷ []
+block_pieces blocks.Reporter = ABracket ∷ AValue ∷ ItsBracket ∷ []
 
 abbrev pub last_pieces : Last → List Piece
-last_pieces ThenItem = AValue ∷ []
-last_pieces (ThenBlock b) = block_pieces b
-last_pieces ThenNothing = []
+last_pieces lasts.Item = AValue ∷ []
+last_pieces (lasts.Block b) = block_pieces b
+last_pieces lasts.Nothing = []
 
 -- whether a block must come, perhaps behind some that may be missing
 abbrev pub needs_bracket : List Need → Last → Bool
@@ -38,13 +46,13 @@ needs_bracket (Whole ∷ is) last = false
 needs_bracket (Within b ∷ is) last = true
 needs_bracket (Maybe ∷ is) last = needs_bracket is last
 needs_bracket (Variable ∷ is) last = false
-needs_bracket [] ThenItem = false
-needs_bracket [] (ThenBlock b) = true
-needs_bracket [] ThenNothing = false
+needs_bracket [] lasts.Item = false
+needs_bracket [] (lasts.Block b) = true
+needs_bracket [] lasts.Nothing = false
 
 -- A block that may be missing is missing, but not before one that must come: the first bracket is its own.
 abbrev pub maybe_pieces : Bool → List Piece
-maybe_pieces true = block_pieces CommandsBlock
+maybe_pieces true = block_pieces blocks.Commands
 maybe_pieces false = []
 
 -- inputs and what follows them
@@ -127,15 +135,15 @@ pieces (st (Over t) e K) = []
 pieces (st Dead e K) = []
 
 -- A name that is longer than all of these, and than all that have a row: so many times the letter `a`.
-abbrev pub lengths : List (List ℕ) → ℕ
+abbrev pub lengths : Names → ℕ
 lengths [] = 0
 lengths (name ∷ names) = length name + lengths names
 
-abbrev pub letters : ℕ → List ℕ
+abbrev pub letters : ℕ → Name
 letters zero = []
 letters (suc n) = 97 ∷ letters n
 
-abbrev pub unused : List Term → List (List ℕ) → List ℕ
+abbrev pub unused : List Term → Names → Name
 unused table names = letters (suc (lengths names + lengths (map (λ (t : Term). t.name) table)))
 
 abbrev pub lexeme_of : List Term → Piece → Lexeme
@@ -157,7 +165,7 @@ abbrev pub token_of : List Term → Piece → Token
 token_of table p = record { lexeme = lexeme_of table p; span = nowhere }
 
 -- the step to which these tokens lead
-abbrev pub reading : Form → List (List ℕ) → List Term → List Token → Step
+abbrev pub reading : Form → Names → List Term → List Token → Step
 reading form names table ts = run (start form names (span_of_first (marked table ts))) (marked table ts)
 
 abbrev pub completion_of : List Term → Step → List Token
@@ -165,7 +173,7 @@ completion_of table (go s) = map (token_of table) (pieces s)
 completion_of table stop = []
 
 -- what completes these tokens, by what they leave open
-abbrev pub completion : Form → List (List ℕ) → List Term → List Token → List Token
+abbrev pub completion : Form → Names → List Term → List Token → List Token
 completion form names table ts = completion_of table (reading form names table ts)
 
 -- the table has the words of which completions are made

@@ -2,13 +2,20 @@
 -- least parts.
 use Rattle.std.specs.Prelude.{ℕ, zero, suc, max, Bool, true, false, List, [], ◌∷◌}
 use Rattle.nl_tree.specs.Tree.{depth, depths}
-use Rattle.nl_tree.specs.Tokens.{Block, CommandsBlock, ReporterBlock, Need, Item, Whole, Within, Maybe, Variable}
-use Rattle.nl_grammar.specs.Machine.{Last, ThenItem, ThenBlock, ThenNothing, Frame, InBinary, InWith, InNear, InOf, InCall, InLastItem, InLastBlock, InMany, InItems, InParen, InMinus, InReporter, InBracket, InList, InLet, InStatementParen, InStatements, Shape, Literal, Growing, Fixed, Begin, Opening, Optional, Choosing, Have, Blocked, Shut, Listing, Stating, Naming, Ended, Over, Dead, State, st}
+use Rattle.nl_tree.specs.declared.needs.Block.{Block}
+use Rattle.nl_tree.specs.declared.needs.Block.TheVariants as blocks
+use Rattle.nl_tree.specs.declared.needs.Need.{Need}
+use Rattle.nl_tree.specs.declared.needs.Need.TheVariants.{Item, Whole, Within, Maybe, Variable}
+use Rattle.nl_grammar.specs.Machine.{Frame, InBinary, InWith, InNear, InOf, InCall, InLastItem, InLastBlock, InMany, InItems, InParen, InMinus, InReporter, InBracket, InList, InLet, InStatementParen, InStatements, Begin, Opening, Optional, Choosing, Have, Blocked, Shut, Listing, Stating, Naming, Ended, Over, Dead, State, st}
+use Rattle.nl_grammar.specs.declared.pending.Last.{Last}
+use Rattle.nl_grammar.specs.declared.pending.Last.TheVariants as lasts
+use Rattle.nl_grammar.specs.declared.pending.Shape.{Shape}
+use Rattle.nl_grammar.specs.declared.pending.Shape.TheVariants.{Literal, Growing, Fixed}
 
 -- a block with nothing in it, or with a value
 abbrev pub least_block : Block → ℕ
-least_block CommandsBlock = 1
-least_block ReporterBlock = 2
+least_block blocks.Commands = 1
+least_block blocks.Reporter = 2
 
 abbrev pub least_input : Need → ℕ
 least_input Item = 1
@@ -20,9 +27,9 @@ least_input Variable = 1
 -- inputs and what follows them
 abbrev pub least_inputs : List Need → Last → ℕ
 least_inputs (i ∷ is) last = max (least_input i) (least_inputs is last)
-least_inputs [] ThenItem = 1
-least_inputs [] (ThenBlock b) = least_block b
-least_inputs [] ThenNothing = 0
+least_inputs [] lasts.Item = 1
+least_inputs [] (lasts.Block b) = least_block b
+least_inputs [] lasts.Nothing = 0
 
 -- so many values
 abbrev pub least_values : ℕ → ℕ

@@ -3,6 +3,7 @@
 -- the other one has: a bracket where an expression begins is both a list and a block until a token decides, and a call in parentheses takes
 -- its usual number of items until another one comes.
 use Rattle.std.specs.Prelude.{ℕ, zero, suc, Bool, true, false, not, List, [], ◌∷◌, nat_lt, nat_le}
+use Rattle.nl_fixed.specs.Nouns.{Name, Names}
 use Rattle.nl_fixed.specs.declared.span.Span.{Span}
 use Rattle.nl_tree.specs.declared.tree.Label.{Label}
 use Rattle.nl_tree.specs.declared.tree.Label.TheVariants as label
@@ -10,40 +11,38 @@ use Rattle.nl_tree.specs.declared.declared.Form.{Form}
 use Rattle.nl_tree.specs.declared.declared.Form.TheVariants as form
 use Rattle.nl_tree.specs.Tree.{Node, node, Nodes, none, more}
 use Rattle.nl_tree.specs.Vocabulary.{among}
-use Rattle.nl_tree.specs.Tokens.{Block, CommandsBlock, ReporterBlock, Need, Item, Whole, Within, Maybe, Variable, Unknown, Constant, Plain, Named, Prefix, Many, Closing, Command, Let, With, Near, Of, Binary, Tok, number, text, word, open_bracket, close_bracket, open_paren, close_paren, end}
-use Rattle.nl_tree.specs.Grammar.{one, two, leaf, and_last, top, Ending, AtBracket, AtEnd}
-
--- what follows the inputs of a call: an item, a block, or nothing more of a command
-pub data Last : Type 0 where
-  ThenItem : Last
-  ThenBlock : Block → Last
-  ThenNothing : Last
+use Rattle.nl_grammar.specs.declared.pending.Last.{Last}
+use Rattle.nl_grammar.specs.declared.pending.Last.TheVariants as lasts
+use Rattle.nl_grammar.specs.declared.pending.Shape.{Shape}
+use Rattle.nl_grammar.specs.declared.pending.Shape.TheVariants.{Literal, Growing, Fixed}
+use Rattle.nl_tree.specs.Tokens.{Unknown, Constant, Plain, Named, Prefix, Many, Closing, Command, Let, With, Near, Of, Binary, Tok, number, text, word, open_bracket, close_bracket, open_paren, close_paren, end}
+use Rattle.nl_tree.specs.declared.needs.Block.{Block}
+use Rattle.nl_tree.specs.declared.needs.Block.TheVariants as blocks
+use Rattle.nl_tree.specs.declared.needs.Need.{Need}
+use Rattle.nl_tree.specs.declared.needs.Need.TheVariants.{Item, Whole, Within, Maybe, Variable}
+use Rattle.nl_tree.specs.Grammar.{one, two, leaf, and_last, top}
+use Rattle.nl_tree.specs.declared.needs.Ending.{Ending}
+use Rattle.nl_tree.specs.declared.needs.Ending.TheVariants.{AtBracket, AtEnd}
 
 -- Something that is open, with what is read of it. A word comes with its place.
 pub data Frame : Type 0 where
-  InBinary : (level : ℕ) (word : List ℕ) (place : Span) (left : Node) → Frame
-  InWith : (word : List ℕ) (place : Span) (left : Node) → Frame
-  InNear : (word : List ℕ) (place : Span) (sides : Nodes) (others : ℕ) → Frame  -- how many sides follow the one that is being read
-  InOf : (word : List ℕ) (place : Span) (block : Node) → Frame
-  InCall : (word : List ℕ) (place : Span) (inputs : Nodes) (now : Need) (others : List Need) (last : Last) → Frame
-  InLastItem : (word : List ℕ) (place : Span) (inputs : Nodes) → Frame
-  InLastBlock : (word : List ℕ) (place : Span) (inputs : Nodes) (block : Block) → Frame
-  InMany : (word : List ℕ) (place : Span) (items : Nodes) (others : ℕ) → Frame  -- how many items follow the one that is being read
+  InBinary : (level : ℕ) (word : Name) (place : Span) (left : Node) → Frame
+  InWith : (word : Name) (place : Span) (left : Node) → Frame
+  InNear : (word : Name) (place : Span) (sides : Nodes) (others : ℕ) → Frame  -- how many sides follow the one that is being read
+  InOf : (word : Name) (place : Span) (block : Node) → Frame
+  InCall : (word : Name) (place : Span) (inputs : Nodes) (now : Need) (others : List Need) (last : Last) → Frame
+  InLastItem : (word : Name) (place : Span) (inputs : Nodes) → Frame
+  InLastBlock : (word : Name) (place : Span) (inputs : Nodes) (block : Block) → Frame
+  InMany : (word : Name) (place : Span) (items : Nodes) (others : ℕ) → Frame  -- how many items follow the one that is being read
   InItems : (bracket : Span) (label : Label) (place : Span) (items : Nodes) → Frame  -- in parentheses, past that number
   InParen : (bracket : Span) → Frame
   InMinus : (bracket : Span) (place : Span) → Frame  -- in parentheses, after the minus sign
   InReporter : (bracket : Span) → Frame
   InBracket : (bracket : Span) → Frame  -- may become a list or a block
   InList : (bracket : Span) (items : Nodes) → Frame
-  InLet : (word : List ℕ) (place : Span) (name : List ℕ) (there : Span) → Frame
+  InLet : (word : Name) (place : Span) (name : Name) (there : Span) → Frame
   InStatementParen : (bracket : Span) → Frame
-  InStatements : (bracket : Span) (ending : Ending) (before : List (List ℕ)) (statements : Nodes) → Frame  -- with the names that are known outside
-
--- What a tree at hand may also be: an item of a literal list, or a call that more items may follow in parentheses.
-pub data Shape : Type 0 where
-  Literal : Shape
-  Growing : Shape
-  Fixed : Shape
+  InStatements : (bracket : Span) (ending : Ending) (before : Names) (statements : Nodes) → Frame  -- with the names that are known outside
 
 -- what may come next
 pub data Mode : Type 0 where
@@ -56,14 +55,14 @@ pub data Mode : Type 0 where
   Shut : Shape → Node → Mode  -- there is an expression, which must be closed
   Listing : Mode  -- an item of a literal list
   Stating : Mode  -- a statement
-  Naming : (word : List ℕ) (place : Span) → Mode  -- a new name
+  Naming : (word : Name) (place : Span) → Mode  -- a new name
   Ended : Node → Mode  -- there is a statement in parentheses, which must be closed
   Over : Node → Mode  -- there is the whole text
   Dead : Mode  -- never reached
 
 -- the names are those that are known
 pub data State : Type 0 where
-  st : (mode : Mode) (names : List (List ℕ)) (stack : List Frame) → State
+  st : (mode : Mode) (names : Names) (stack : List Frame) → State
 
 pub data Step : Type 0 where
   go : State → Step
@@ -83,27 +82,27 @@ begin_mode Variable = Choosing
 -- The functions below hand a tree to what waits for it.
 
 -- a statement, after which these names are known
-abbrev pub end_statement : Node → List (List ℕ) → List Frame → State
+abbrev pub end_statement : Node → Names → List Frame → State
 end_statement t e (InStatements s k before ts ∷ K) = st Stating e (InStatements s k before (and_last ts t) ∷ K)
 end_statement t e (InStatementParen s ∷ K) = st (Ended t) e (InStatementParen s ∷ K)
 end_statement t e (f ∷ K) = st Dead e K
 end_statement t e [] = st Dead e []
 
 -- nothing: a call goes on with its next input, or with what follows the inputs
-abbrev pub next : List ℕ → Span → Nodes → List Need → Last → List (List ℕ) → List Frame → State
+abbrev pub next : Name → Span → Nodes → List Need → Last → Names → List Frame → State
 next w s ts (i ∷ is) last e K = st (begin_mode i) e (InCall w s ts i is last ∷ K)
-next w s ts [] ThenItem e K = st Begin e (InLastItem w s ts ∷ K)
-next w s ts [] (ThenBlock b) e K = st (Opening b) e (InLastBlock w s ts b ∷ K)
-next w s ts [] ThenNothing e K = end_statement (node (label.Named w) s ts) e K
+next w s ts [] lasts.Item e K = st Begin e (InLastItem w s ts ∷ K)
+next w s ts [] (lasts.Block b) e K = st (Opening b) e (InLastBlock w s ts b ∷ K)
+next w s ts [] lasts.Nothing e K = end_statement (node (label.Named w) s ts) e K
 
 -- a closed
-abbrev pub closed : Shape → Node → List (List ℕ) → List Frame → State
+abbrev pub closed : Shape → Node → Names → List Frame → State
 closed x t e (InNear w s ts zero ∷ K) = st (Have Fixed (node (label.Named w) s (and_last ts t))) e K
 closed x t e (InNear w s ts (suc n) ∷ K) = st Begin e (InNear w s (and_last ts t) n ∷ K)
 closed x t e K = st (Have x t) e K
 
 -- a block, or a variable
-abbrev pub supply : Node → List (List ℕ) → List Frame → State
+abbrev pub supply : Node → Names → List Frame → State
 supply t e (InCall w s ts i is last ∷ K) = next w s (and_last ts t) is last e K
 supply t e (InLastBlock w s ts b ∷ K) = closed Fixed (node (label.Named w) s (and_last ts t)) e K
 supply t e (InWith w s l ∷ K) = st (Have Fixed (node (label.Named w) s (two l t))) e K
@@ -111,7 +110,7 @@ supply t e (f ∷ K) = st Dead e K
 supply t e [] = st Dead e []
 
 -- an expression, or an item, which no operator follows
-abbrev pub accept : Shape → Node → List (List ℕ) → List Frame → State
+abbrev pub accept : Shape → Node → Names → List Frame → State
 accept x t e (InCall w s ts i is last ∷ K) = next w s (and_last ts t) is last e K
 accept x t e (InMany w s ts (suc n) ∷ K) = st Begin e (InMany w s (and_last ts t) n ∷ K)
 accept x t e (InItems p l s ts ∷ K) = st Begin e (InItems p l s (and_last ts t) ∷ K)
@@ -119,7 +118,7 @@ accept x t e (InLet w s n r ∷ K) = end_statement (node (label.Named w) s (two 
 accept x t e K = st (Shut x t) e K
 
 -- a literal list
-abbrev pub end_list : Node → List (List ℕ) → List Frame → State
+abbrev pub end_list : Node → Names → List Frame → State
 end_list t e (InList s ts ∷ K) = st Listing e (InList s (and_last ts t) ∷ K)
 end_list t e K = closed Literal t e K
 
@@ -166,41 +165,41 @@ takes_operator K = false
 -- Steps where an expression begins.
 
 -- a word that has no row
-abbrev pub feed_local : Bool → List ℕ → Span → List (List ℕ) → List Frame → Step
+abbrev pub feed_local : Bool → Name → Span → Names → List Frame → Step
 feed_local true w s e K = go (closed Fixed (leaf (label.Named w) s) e K)
 feed_local false w s e K = stop
 
 -- of several right sides only the last may be a call with inputs
-abbrev pub begin_call : List ℕ → Span → List Need → List (List ℕ) → List Frame → Step
+abbrev pub begin_call : Name → Span → List Need → Names → List Frame → Step
 begin_call w s is e (InNear v r ts (suc n) ∷ K) = stop
-begin_call w s is e K = go (next w s none is ThenItem e K)
+begin_call w s is e K = go (next w s none is lasts.Item e K)
 
-abbrev pub begin_many : List ℕ → Span → ℕ → List (List ℕ) → List Frame → Step
+abbrev pub begin_many : Name → Span → ℕ → Names → List Frame → Step
 begin_many w s n e (InNear v r ts (suc m) ∷ K) = stop
 begin_many w s n e K = go (st Begin e (InMany w s none n ∷ K))
 
 -- right after an opening parenthesis the minus sign is a negation
-abbrev pub begin_minus : Bool → Span → List (List ℕ) → List Frame → Step
+abbrev pub begin_minus : Bool → Span → Names → List Frame → Step
 begin_minus true r e (InParen s ∷ K) = go (st Begin e (InMinus s r ∷ K))
 begin_minus m r e K = stop
 
 -- among right sides a bracket is always a list
-abbrev pub begin_bracket : Span → List (List ℕ) → List Frame → Step
+abbrev pub begin_bracket : Span → Names → List Frame → Step
 begin_bracket s e (InNear w r ts n ∷ K) = go (st Listing e (InList s none ∷ InNear w r ts n ∷ K))
 begin_bracket s e K = go (st Begin e (InBracket s ∷ K))
 
 -- a closing bracket ends a list in which nothing is
-abbrev pub end_bracket : List (List ℕ) → List Frame → Step
+abbrev pub end_bracket : Names → List Frame → Step
 end_bracket e (InBracket s ∷ K) = go (closed Literal (node label.List s none) e K)
 end_bracket e K = stop
 
 -- a closing parenthesis ends a call that has any number of items
-abbrev pub end_many : List (List ℕ) → List Frame → Step
+abbrev pub end_many : Names → List Frame → Step
 end_many e (InItems p l s ts ∷ K) = go (closed Fixed (node label.Paren p (one (node l s ts))) e K)
 end_many e (InMany w s ts n ∷ InParen p ∷ K) = go (closed Fixed (node label.Paren p (one (node (label.Named w) s ts))) e K)
 end_many e K = stop
 
-abbrev pub feed_begin : List (List ℕ) → List Frame → Tok → Step
+abbrev pub feed_begin : Names → List Frame → Tok → Step
 feed_begin e K (number n s) = go (closed Literal (leaf (label.Number n) s) e K)
 feed_begin e K (text bytes s) = go (closed Literal (leaf (label.Text bytes) s) e K)
 feed_begin e K (word w Unknown s) = feed_local (among w e) w s e K
@@ -209,7 +208,7 @@ feed_begin e K (word w Plain s) = go (closed Fixed (leaf (label.Named w) s) e K)
 feed_begin e K (word w Named s) = go (closed Fixed (leaf (label.Named w) s) e K)
 feed_begin e K (word w (Prefix is) s) = begin_call w s is e K
 feed_begin e K (word w (Many n) s) = begin_many w s n e K
-feed_begin e K (word w (Closing is b) s) = go (next w s none is (ThenBlock b) e K)
+feed_begin e K (word w (Closing is b) s) = go (next w s none is (lasts.Block b) e K)
 feed_begin e K (word w (Binary l m) s) = begin_minus m s e K
 feed_begin e K (open_bracket s) = begin_bracket s e K
 feed_begin e K (close_bracket s) = end_bracket e K
@@ -219,26 +218,26 @@ feed_begin e K tok = stop
 
 -- Steps in the other modes.
 
-abbrev pub feed_opening : Block → List (List ℕ) → List Frame → Tok → Step
-feed_opening CommandsBlock e K (open_bracket s) = go (st Stating e (InStatements s AtBracket e none ∷ K))
-feed_opening ReporterBlock e K (open_bracket s) = go (st Begin e (InReporter s ∷ K))
+abbrev pub feed_opening : Block → Names → List Frame → Tok → Step
+feed_opening blocks.Commands e K (open_bracket s) = go (st Stating e (InStatements s AtBracket e none ∷ K))
+feed_opening blocks.Reporter e K (open_bracket s) = go (st Begin e (InReporter s ∷ K))
 feed_opening b e K tok = stop
 
-abbrev pub feed_variable : Bool → List ℕ → Span → List (List ℕ) → List Frame → Step
+abbrev pub feed_variable : Bool → Name → Span → Names → List Frame → Step
 feed_variable true w s e K = go (supply (leaf (label.Named w) s) e K)
 feed_variable false w s e K = stop
 
-abbrev pub feed_choosing : List (List ℕ) → List Frame → Tok → Step
+abbrev pub feed_choosing : Names → List Frame → Tok → Step
 feed_choosing e K (word w Named s) = go (supply (leaf (label.Named w) s) e K)
 feed_choosing e K (word w Unknown s) = feed_variable (among w e) w s e K
 feed_choosing e K tok = stop
 
-abbrev pub feed_blocked : Node → List (List ℕ) → List Frame → Tok → Step
+abbrev pub feed_blocked : Node → Names → List Frame → Tok → Step
 feed_blocked b e K (word w Of s) = go (st Begin e (InOf w s b ∷ K))
 feed_blocked b e K tok = stop
 
 -- after the items of a literal list
-abbrev pub feed_items : Span → Nodes → List (List ℕ) → List Frame → Tok → Step
+abbrev pub feed_items : Span → Nodes → Names → List Frame → Tok → Step
 feed_items s ts e K (number n r) = go (st Listing e (InList s (and_last ts (leaf (label.Number n) r)) ∷ K))
 feed_items s ts e K (text bytes r) = go (st Listing e (InList s (and_last ts (leaf (label.Text bytes) r)) ∷ K))
 feed_items s ts e K (word w Constant r) = go (st Listing e (InList s (and_last ts (leaf (label.Named w) r)) ∷ K))
@@ -246,38 +245,38 @@ feed_items s ts e K (open_bracket r) = go (st Listing e (InList r none ∷ InLis
 feed_items s ts e K (close_bracket r) = go (end_list (node label.List s ts) e K)
 feed_items s ts e K tok = stop
 
-abbrev pub feed_listing : List (List ℕ) → List Frame → Tok → Step
+abbrev pub feed_listing : Names → List Frame → Tok → Step
 feed_listing e (InList s ts ∷ K) tok = feed_items s ts e K tok
 feed_listing e K tok = stop
 
 -- after an expression in a bracket: a literal is an item of a list, and anything else makes it a block
-abbrev pub feed_bracket : Shape → Node → Span → List (List ℕ) → List Frame → Tok → Step
+abbrev pub feed_bracket : Shape → Node → Span → Names → List Frame → Tok → Step
 feed_bracket Literal t s e K tok = feed_items s (one t) e K tok
 feed_bracket x t s e K (close_bracket r) = go (st (Blocked (node label.Reporter s (one t))) e K)
 feed_bracket x t s e K tok = stop
 
 -- after an expression in parentheses: a call may have more items than its usual number
-abbrev pub feed_paren : Shape → Node → Span → List (List ℕ) → List Frame → Tok → Step
+abbrev pub feed_paren : Shape → Node → Span → Names → List Frame → Tok → Step
 feed_paren x t p e K (close_paren r) = go (closed Fixed (node label.Paren p (one t)) e K)
 feed_paren Growing (node l s ts) p e K tok = feed_begin e (InItems p l s ts ∷ K) tok
 feed_paren x t p e K tok = stop
 
 -- after the item of a negation
-abbrev pub feed_minus : Node → Span → Span → List (List ℕ) → List Frame → Tok → Step
+abbrev pub feed_minus : Node → Span → Span → Names → List Frame → Tok → Step
 feed_minus t p s e K (close_paren r) = go (closed Fixed (node label.Paren p (one (node label.Negate s (one t)))) e K)
 feed_minus t p s e K tok = stop
 
 -- after the expression of a block
-abbrev pub feed_reporter : Node → Span → List (List ℕ) → List Frame → Tok → Step
+abbrev pub feed_reporter : Node → Span → Names → List Frame → Tok → Step
 feed_reporter t s e K (close_bracket r) = go (supply (node label.Reporter s (one t)) e K)
 feed_reporter t s e K tok = stop
 
 -- after the expression of a whole text
-abbrev pub feed_whole : Node → List (List ℕ) → Tok → Step
+abbrev pub feed_whole : Node → Names → Tok → Step
 feed_whole t e (end s) = go (st (Over t) e [])
 feed_whole t e tok = stop
 
-abbrev pub feed_shut : Shape → Node → List (List ℕ) → List Frame → Tok → Step
+abbrev pub feed_shut : Shape → Node → Names → List Frame → Tok → Step
 feed_shut x t e (InParen p ∷ K) tok = feed_paren x t p e K tok
 feed_shut x t e (InMinus p s ∷ K) tok = feed_minus t p s e K tok
 feed_shut x t e (InReporter s ∷ K) tok = feed_reporter t s e K tok
@@ -286,14 +285,14 @@ feed_shut x t e [] tok = feed_whole t e tok
 feed_shut x t e K tok = stop
 
 -- the token ends the statements
-abbrev pub feed_ending : Ending → Span → Nodes → List (List ℕ) → List Frame → Tok → Step
+abbrev pub feed_ending : Ending → Span → Nodes → Names → List Frame → Tok → Step
 feed_ending AtBracket s ts before K (close_bracket r) = go (supply (node label.Commands s ts) before K)
 feed_ending AtEnd s ts before K (end r) = go (st (Over (node label.Commands s ts)) before K)
 feed_ending k s ts before K tok = stop
 
 -- The token begins a statement, on what it is part of.
-abbrev pub feed_statement : List (List ℕ) → List Frame → Tok → Step
-feed_statement e K (word w (Command is) s) = go (next w s none is ThenNothing e K)
+abbrev pub feed_statement : Names → List Frame → Tok → Step
+feed_statement e K (word w (Command is) s) = go (next w s none is lasts.Nothing e K)
 feed_statement e K (word w Let s) = go (st (Naming w s) e K)
 feed_statement e K (open_paren s) = go (st Stating e (InStatementParen s ∷ K))
 feed_statement e K tok = stop
@@ -304,22 +303,22 @@ begins_statement (word w c s) = true
 begins_statement (open_paren s) = true
 begins_statement tok = false
 
-abbrev pub feed_stating : List (List ℕ) → List Frame → Tok → Step
+abbrev pub feed_stating : Names → List Frame → Tok → Step
 feed_stating e (InStatements s k before ts ∷ K) tok = elim (begins_statement tok) [ true ↦ feed_statement e (InStatements s k before ts ∷ K) tok | false ↦ feed_ending k s ts before K tok ]
 feed_stating e (InStatementParen s ∷ K) tok = feed_statement e (InStatementParen s ∷ K) tok
 feed_stating e K tok = stop
 
 -- a name that has no row may be made where it isn't known
-abbrev pub feed_fresh : Bool → List ℕ → Span → List ℕ → Span → List (List ℕ) → List Frame → Step
+abbrev pub feed_fresh : Bool → Name → Span → Name → Span → Names → List Frame → Step
 feed_fresh true w s n r e K = go (st Begin e (InLet w s n r ∷ K))
 feed_fresh false w s n r e K = stop
 
-abbrev pub feed_naming : List ℕ → Span → List (List ℕ) → List Frame → Tok → Step
+abbrev pub feed_naming : Name → Span → Names → List Frame → Tok → Step
 feed_naming w s e K (word n Unknown r) = feed_fresh (not (among n e)) w s n r e K
 feed_naming w s e K tok = stop
 
 -- after a statement in parentheses
-abbrev pub feed_ended : Node → List (List ℕ) → List Frame → Tok → Step
+abbrev pub feed_ended : Node → Names → List Frame → Tok → Step
 feed_ended t e (InStatementParen s ∷ K) (close_paren r) = go (end_statement (node label.Paren s (one t)) e K)
 feed_ended t e K tok = stop
 
@@ -345,7 +344,7 @@ without_maybes (Maybe ∷ is) = without_maybes is
 without_maybes is = is
 
 -- where a block may be missing
-abbrev pub feed_optional : List (List ℕ) → List Frame → Tok → Step
+abbrev pub feed_optional : Names → List Frame → Tok → Step
 feed_optional e (InCall w s ts i is last ∷ K) (open_bracket r) = go (st Stating e (InStatements r AtBracket e none ∷ InCall w s ts i is last ∷ K))
 feed_optional e (InCall w s ts i is last ∷ K) tok = feed_plain (next w s ts (without_maybes is) last e K) tok
 feed_optional e K tok = stop
@@ -358,28 +357,28 @@ feed_ready s tok = feed_plain s tok
 -- Steps where a chain is at hand.
 
 -- a token that is no operator: the chain is over, and all that waits for its end
-abbrev pub feed_broken : List (List ℕ) → Got → Tok → Step
+abbrev pub feed_broken : Names → Got → Tok → Step
 feed_broken e (got x t K) tok = feed_ready (accept x t e K) tok
 
 -- a token that is an operator, after its left side
-abbrev pub feed_operator : Bool → ℕ → List ℕ → Span → List (List ℕ) → Got → Step
+abbrev pub feed_operator : Bool → ℕ → Name → Span → Names → Got → Step
 feed_operator true l w s e (got x t K) = go (st Begin e (InBinary (suc l) w s t ∷ K))
 feed_operator false l w s e g = stop
 
 abbrev pub got_takes : Got → Bool
 got_takes (got x t K) = takes_operator K
 
-abbrev pub feed_binary : Bool → ℕ → List ℕ → Span → List (List ℕ) → Got → Step
+abbrev pub feed_binary : Bool → ℕ → Name → Span → Names → Got → Step
 feed_binary true l w s e g = feed_operator (got_takes g) l w s e g
 feed_binary false l w s e g = stop
 
 -- `of` makes a list of one literal a block
-abbrev pub feed_of : List ℕ → Span → Node → List (List ℕ) → List Frame → Step
+abbrev pub feed_of : Name → Span → Node → Names → List Frame → Step
 feed_of w s (node label.List r (more t none)) e K = go (st Begin e (InOf w s (node label.Reporter r (one t)) ∷ K))
 feed_of w s t e K = stop
 
-abbrev pub feed_have : Shape → Node → List (List ℕ) → List Frame → Tok → Step
-feed_have x t e K (word w With s) = go (st (Opening ReporterBlock) e (InWith w s t ∷ K))
+abbrev pub feed_have : Shape → Node → Names → List Frame → Tok → Step
+feed_have x t e K (word w With s) = go (st (Opening blocks.Reporter) e (InWith w s t ∷ K))
 feed_have x t e K (word w (Near n) s) = go (st Begin e (InNear w s (one t) n ∷ K))
 feed_have x t e K (word w Of s) = feed_of w s t e K
 feed_have x t e K (word w (Binary l m) s) = feed_binary (nat_lt l top) l w s e (settle (suc l) x t K)
@@ -399,6 +398,6 @@ abbrev pub run : State → List Tok → Step
 run s toks = run_from (go s) toks
 
 -- before the first token; the span is that token's
-abbrev pub start : Form → List (List ℕ) → Span → State
+abbrev pub start : Form → Names → Span → State
 start form.Commands e s = st Stating e (InStatements s AtEnd e none ∷ [])
 start form.Reporter e s = st Begin e []

@@ -2,3 +2,6 @@
 #![tactic(auto)]
 
 pub mod laws;
+pub mod pending;
+
+pub use pending::{Last, Shape};

@@ -86,23 +86,23 @@ moved_small axis at limits =
 pub wrapped_is : (axis : Axis) (at count : ℤ) → axis.wraps ≡ true → count ≡ moved_inside axis at → Some count ≡ wrapped axis at
 wrapped_is axis at count wraps is = ap (λ z. Some z) is ∙ sym (wrapped_moved axis at wraps)
 
--- the place of a coordinate that is inside
-pub place_is : (axis : Axis) (at : ℤ) (k : ℕ) → k * one ≤ unsigned_abs (at -ℤ begin_of axis) → unsigned_abs (at -ℤ begin_of axis) < k * one + one → IsInside axis at → pos k ≡ patch_coordinate at -ℤ axis.least
-place_is axis at k low high inside =
+-- the index of a coordinate that is inside
+pub index_is : (axis : Axis) (at : ℤ) (k : ℕ) → k * one ≤ unsigned_abs (at -ℤ begin_of axis) → unsigned_abs (at -ℤ begin_of axis) < k * one + one → IsInside axis at → pos k ≡ patch_coordinate at -ℤ axis.least
+index_is axis at k low high inside =
     let same : (axis.least +ℤ pos k) ≡ rounded_quotient at one = rounded_only at one (axis.least +ℤ pos k) (omega arith) (omega (arith, ints, low, high, inside.from)) (omega (arith, ints, low, high, inside.from)) in
     omega (arith, ints, same)
 
 -- the same, as the code computes it
-pub place_of_quotient : (axis : Axis) (at past : ℤ) → IsAxis axis → IsInside axis at → past ≡ at -ℤ begin_of axis → pos (unsigned_abs (to_z w64 (of_z w64 (int_div past (pos 1000000))))) ≡ patch_coordinate at -ℤ axis.least
-place_of_quotient axis at (pos p) limits inside is =
+pub index_of_quotient : (axis : Axis) (at past : ℤ) → IsAxis axis → IsInside axis at → past ≡ at -ℤ begin_of axis → pos (unsigned_abs (to_z w64 (of_z w64 (int_div past (pos 1000000))))) ≡ patch_coordinate at -ℤ axis.least
+index_of_quotient axis at (pos p) limits inside is =
     let quotient = p / 1000000 in
     let rest = div-add-mod' p 1000000 in
     let some : 0 < 1000000 = omega arith in
     let small : p % 1000000 < 1000000 = mod-lt p some in
     let k = unsigned_abs (to_z w64 (of_z w64 (int_div (pos p) (pos 1000000)))) in
     let equal : k ≡ quotient = omega (arith, ints, inside.below, end_is axis limits, limits.few) in
-    place_is axis at k (omega (arith, ints, rest, is, equal)) (omega (arith, ints, rest, small, is, equal)) inside
-place_of_quotient axis at (negsuc p) limits inside is = absurd (omega (arith, ints, inside.from, is))
+    index_is axis at k (omega (arith, ints, rest, is, equal)) (omega (arith, ints, rest, small, is, equal)) inside
+index_of_quotient axis at (negsuc p) limits inside is = absurd (omega (arith, ints, inside.from, is))
 
 pub wrapped_lies_inside : (axis : Axis) (at inside : ℤ) → IsAxis axis → wrapped axis at ≡ Some inside → IsInside axis inside
 unfolding wrapped
@@ -115,11 +115,11 @@ wrapped_lies_inside axis at inside limits is =
     (λ behind. absurd (grind (arith, ints, flat, behind, is)))))
 
 -- the centers of patches are inside
-pub center_inside_up : (axis : Axis) (place : ℕ) (at : ℤ) → IsAxis axis → place < side axis → at ≡ (axis.least +ℤ pos place) *ℤ pos one → IsInside axis at
-center_inside_up axis place at limits below is = record { from = omega (arith, ints, is); below = omega (arith, ints, is, below, limits.low, limits.high) }
+pub center_inside_up : (axis : Axis) (index : ℕ) (at : ℤ) → IsAxis axis → index < side axis → at ≡ (axis.least +ℤ pos index) *ℤ pos one → IsInside axis at
+center_inside_up axis index at limits below is = record { from = omega (arith, ints, is); below = omega (arith, ints, is, below, limits.low, limits.high) }
 
-pub center_inside_down : (axis : Axis) (place : ℕ) (at : ℤ) → IsAxis axis → place < side axis → at ≡ (axis.greatest -ℤ pos place) *ℤ pos one → IsInside axis at
-center_inside_down axis place at limits below is = record { from = omega (arith, ints, is, below, limits.low, limits.high); below = omega (arith, ints, is) }
+pub center_inside_down : (axis : Axis) (index : ℕ) (at : ℤ) → IsAxis axis → index < side axis → at ≡ (axis.greatest -ℤ pos index) *ℤ pos one → IsInside axis at
+center_inside_down axis index at limits below is = record { from = omega (arith, ints, is, below, limits.low, limits.high); below = omega (arith, ints, is) }
 
 -- what is inside is in the range of numbers
 pub inside_small : (axis : Axis) (at : ℤ) → IsAxis axis → IsInside axis at → unsigned_abs at ≤ limit

@@ -3,9 +3,10 @@ use Rattle.std.proofs.Common.{ℕ, ◌+◌, ◌*◌, ◌/◌, ◌%◌, ◌^◌, 
 use Rattle.std.specs.Option.{SomeIff}
 use Rattle.std.proofs.lemmas.Bool.{cases_lt, cases_eq}
 use Rattle.std.proofs.lemmas.Nat.{div-add-mod', div-mul-add, mod-mul-add, mod_below, mul-le, le-div, mul-add-lt}
-use Rattle.nl_grid.proofs.RangeLemmas.{in_filter, from_filter, head_found, head_none, find_above, find_none, next_place}
+use Rattle.nl_grid.proofs.RangeLemmas.{in_filter, from_filter, head_found, head_none, find_above, find_none, next_index}
 use Rattle.nl_grid.specs.declared.band.Band.{Band}
-use Rattle.nl_grid.specs.Bands.{in_band, in_bands, patches_in, IsBand, AreBands, IsFirstFrom}
+use Rattle.nl_grid.specs.Geometry.{ComesAfter}
+use Rattle.nl_grid.specs.inner.Bands.{in_band, in_bands, patches_in, IsBand, IsFirstIndex, NoIndexFrom, AreBands, IsFirstFrom, NoneFrom}
 
 -- the row and the column of a patch
 pub row_of : (r c w : ℕ) → c < w → (r * w + c) / w ≡ r
@@ -53,16 +54,16 @@ pub inside_bands : (columns rows : Band) (r c : ℕ) → c < columns.side → in
 inside_bands columns rows r c below column row = rw (row_of r c columns.side below, column_of r c columns.side below, column, row) refl
 
 -- the first one from a patch on lies in its row
-pub first_in_row : (columns rows : Band) (patch c : ℕ) → AreBands columns rows → in_band rows (patch / columns.side) ≡ true → patch % columns.side ≤ c → c < columns.side → in_band columns c ≡ true → ((other : ℕ) → patch % columns.side ≤ other → other < c → in_band columns other ≡ false) → IsFirstFrom columns rows patch (patch / columns.side * columns.side + c)
-first_in_row columns rows patch c bands row from below column first = record {
-  from = omega (arith, div-add-mod' patch columns.side, from);
-  passes = inside_bands columns rows (patch / columns.side) c below column row;
+pub first_in_row : (columns rows : Band) (patch c : ℕ) → AreBands columns rows → in_band rows (patch / columns.side) ≡ true → IsFirstIndex columns (patch % columns.side) c → IsFirstFrom columns rows patch (patch / columns.side * columns.side + c)
+first_in_row columns rows patch c bands at_row at_column = record {
+  from = omega (arith, div-add-mod' patch columns.side, at_column.start);
+  passes = inside_bands columns rows (patch / columns.side) c at_column.below at_column.passes at_row;
   first = λ other after before.
       let row_low = rows_ascend patch other columns.side bands.columns_are.some after in
       let row_high = rows_ascend other (patch / columns.side * columns.side + c) columns.side bands.columns_are.some (omega (arith, before)) in
-      let same : patch / columns.side ≡ other / columns.side = omega (arith, row_low, row_high, row_of (patch / columns.side) c columns.side below) in
+      let same : patch / columns.side ≡ other / columns.side = omega (arith, row_low, row_high, row_of (patch / columns.side) c columns.side at_column.below) in
       let product = ap (λ r. r * columns.side) same in
-      outside_by_column columns rows other (first (other % columns.side) (columns_ascend patch other columns.side same after) (omega (arith, div-add-mod' other columns.side, product, before)));
+      outside_by_column columns rows other (at_column.first (other % columns.side) (columns_ascend patch other columns.side same after) (omega (arith, div-add-mod' other columns.side, product, before)));
 }
 
 -- no patch of the row from this one on is in the bands
@@ -73,31 +74,31 @@ pub done_by_row : (columns rows : Band) (patch : ℕ) → in_band rows (patch / 
 unfolding RowIsDone
 done_by_row columns rows patch fails other after same = outside_by_row columns rows other (rw (← same) fails)
 
-pub done_by_columns : (columns rows : Band) (patch : ℕ) → ((place : ℕ) → patch % columns.side ≤ place → in_band columns place ≡ false) → RowIsDone columns rows patch
+pub done_by_columns : (columns rows : Band) (patch : ℕ) → NoIndexFrom columns (patch % columns.side) → RowIsDone columns rows patch
 unfolding RowIsDone
 done_by_columns columns rows patch none other after same = outside_by_column columns rows other (none (other % columns.side) (columns_ascend patch other columns.side same after))
 
 -- the first one from a patch on lies in a later row
-pub first_in_later_row : (columns rows : Band) (patch r c : ℕ) → AreBands columns rows → RowIsDone columns rows patch → patch / columns.side < r → in_band rows r ≡ true → ((other : ℕ) → patch / columns.side < other → other < r → in_band rows other ≡ false) → c < columns.side → in_band columns c ≡ true → ((other : ℕ) → other < c → in_band columns other ≡ false) → IsFirstFrom columns rows patch (r * columns.side + c)
+pub first_in_later_row : (columns rows : Band) (patch r c : ℕ) → AreBands columns rows → RowIsDone columns rows patch → IsFirstIndex rows (patch / columns.side + 1) r → IsFirstIndex columns 0 c → IsFirstFrom columns rows patch (r * columns.side + c)
 unfolding RowIsDone
-first_in_later_row columns rows patch r c bands done later row first_row below column first_column = record {
-  from = later_row patch r c columns.side bands.columns_are.some later;
-  passes = inside_bands columns rows r c below column row;
+first_in_later_row columns rows patch r c bands done at_row at_column = record {
+  from = later_row patch r c columns.side bands.columns_are.some (omega (arith, at_row.start));
+  passes = inside_bands columns rows r c at_column.below at_column.passes at_row.passes;
   first = λ other after before.
       let row_low = rows_ascend patch other columns.side bands.columns_are.some after in
       let row_high = rows_ascend other (r * columns.side + c) columns.side bands.columns_are.some (omega (arith, before)) in
-      let last = row_of r c columns.side below in
+      let last = row_of r c columns.side at_column.below in
       elim (cases_eq (patch / columns.side) (other / columns.side)) [
         | inl same ↦ done other after same
         | inr apart ↦ elim (cases_eq (other / columns.side) r) [
-          | inl here ↦ outside_by_column columns rows other (first_column (other % columns.side) (let product = ap (λ x. x * columns.side) here in omega (arith, div-add-mod' other columns.side, product, before)))
-          | inr between ↦ outside_by_row columns rows other (first_row (other / columns.side) (omega (arith, row_low, apart)) (omega (arith, row_high, last, between)))
+          | inl here ↦ outside_by_column columns rows other (at_column.first (other % columns.side) (omega arith) (let product = ap (λ x. x * columns.side) here in omega (arith, div-add-mod' other columns.side, product, before)))
+          | inr between ↦ outside_by_row columns rows other (at_row.first (other / columns.side) (omega (arith, row_low, apart)) (omega (arith, row_high, last, between)))
         ]
       ];
 }
 
 -- no later row is in the bands
-pub none_by_rows : (columns rows : Band) (patch : ℕ) → AreBands columns rows → RowIsDone columns rows patch → ((other : ℕ) → patch / columns.side < other → in_band rows other ≡ false) → (other : ℕ) → patch ≤ other → in_bands columns rows other ≡ false
+pub none_by_rows : (columns rows : Band) (patch : ℕ) → AreBands columns rows → RowIsDone columns rows patch → NoIndexFrom rows (patch / columns.side + 1) → NoneFrom columns rows patch
 unfolding RowIsDone
 none_by_rows columns rows patch bands done none other after =
     let row_low = rows_ascend patch other columns.side bands.columns_are.some after in
@@ -107,13 +108,13 @@ none_by_rows columns rows patch bands done none other after =
     ]
 
 -- no column is
-pub none_by_columns : (columns rows : Band) → ((place : ℕ) → in_band columns place ≡ false) → (other : ℕ) → in_bands columns rows other ≡ false
-none_by_columns columns rows none other = outside_by_column columns rows other (none (other % columns.side))
+pub none_by_columns : (columns rows : Band) (patch : ℕ) → NoIndexFrom columns 0 → NoneFrom columns rows patch
+none_by_columns columns rows patch none other after = outside_by_column columns rows other (none (other % columns.side) (omega arith))
 
 -- ---- the list of the patches in bands
 
-band_below : (band : Band) (place : ℕ) → IsBand band → in_band band place ≡ true → place < band.side
-band_below band place is passes = grind (arith, is.ends, passes)
+band_below : (band : Band) (index : ℕ) → IsBand band → in_band band index ≡ true → index < band.side
+band_below band index is passes = grind (arith, is.ends, passes)
 
 and_true_right : (a b : Bool) → (a && b) ≡ true → b ≡ true
 and_true_right true b passes = passes
@@ -137,7 +138,7 @@ contains_is columns rows list patch answer bands view is =
       λ found. is ∙ (from_filter (in_bands columns rows) 0 (columns.side * rows.side) patch (subst P (sym view) found)).2,
     )
 
-pub first_is : (columns rows : Band) (list : List ℕ) (answer : Option ℕ) → AreBands columns rows → patches_in columns rows ≡ list → IfSome answer (IsFirstFrom columns rows 0) → IfNone answer ((other : ℕ) → 0 ≤ other → in_bands columns rows other ≡ false) → answer ≡ slice_get list 0
+pub first_is : (columns rows : Band) (list : List ℕ) (answer : Option ℕ) → AreBands columns rows → patches_in columns rows ≡ list → IfSome answer (IsFirstFrom columns rows 0) → IfNone answer (NoneFrom columns rows 0) → answer ≡ slice_get list 0
 first_is columns rows list (Some found) bands view is none =
     let P : List ℕ → Type 0 = λ xs. Some found ≡ slice_get xs 0 in
     subst P view (sym (head_found (in_bands columns rows) 0 (columns.side * rows.side) found is.from (omega (arith, in_bands_below columns rows found bands is.passes)) is.passes is.first))
@@ -145,7 +146,7 @@ first_is columns rows list None bands view is none =
     let P : List ℕ → Type 0 = λ xs. None ≡ slice_get xs 0 in
     subst P view (sym (head_none (in_bands columns rows) 0 (columns.side * rows.side) (λ other from below. none other from)))
 
-pub next_is : (columns rows : Band) (list : List ℕ) (patch from : ℕ) (answer : Option ℕ) → AreBands columns rows → patches_in columns rows ≡ list → from ≡ patch + 1 → IfSome answer (IsFirstFrom columns rows from) → IfNone answer ((other : ℕ) → from ≤ other → in_bands columns rows other ≡ false) → answer ≡ find (λ other. nat_lt patch other) list
+pub next_is : (columns rows : Band) (list : List ℕ) (patch from : ℕ) (answer : Option ℕ) → AreBands columns rows → patches_in columns rows ≡ list → from ≡ patch + 1 → IfSome answer (IsFirstFrom columns rows from) → IfNone answer (NoneFrom columns rows from) → answer ≡ find (λ other. nat_lt patch other) list
 next_is columns rows list patch from (Some found) bands view after is none =
     let P : List ℕ → Type 0 = λ xs. Some found ≡ find (λ other. nat_lt patch other) xs in
     subst P view (sym (find_above (in_bands columns rows) patch 0 (columns.side * rows.side) found (omega (arith, after, is.from)) (omega arith) (omega (arith, in_bands_below columns rows found bands is.passes)) is.passes (λ other over start below. is.first other (omega (arith, after, over)) below)))
@@ -159,11 +160,11 @@ none_beyond columns rows list patch bands view beyond =
     let P : List ℕ → Type 0 = λ xs. None ≡ find (λ other. nat_lt patch other) xs in
     subst P view (sym (find_none (in_bands columns rows) patch 0 (columns.side * rows.side) (λ other over start below. absurd (omega (arith, over, below, beyond, bands.few)))))
 
--- a walk goes from place to place
-pub walk_is : (columns rows : Band) (list : List ℕ) (patch : ℕ) (answer : Option ℕ) → patches_in columns rows ≡ list → answer ≡ find (λ other. nat_lt patch other) list → (place : ℕ) → slice_get list place ≡ Some patch → answer ≡ slice_get list (place + 1)
-walk_is columns rows list patch answer view is place here =
-    let P : List ℕ → Type 0 = λ xs. slice_get xs place ≡ Some patch → find (λ other. nat_lt patch other) xs ≡ slice_get xs (place + 1) in
-    is ∙ subst P view (next_place (in_bands columns rows) 0 (columns.side * rows.side) place patch) here
+-- a walk goes from index to index
+pub walk_is : (columns rows : Band) (list : List ℕ) (patch : ℕ) (answer : Option ℕ) → patches_in columns rows ≡ list → answer ≡ find (λ other. nat_lt patch other) list → ComesAfter list patch answer
+walk_is columns rows list patch answer view is index here =
+    let P : List ℕ → Type 0 = λ xs. slice_get xs index ≡ Some patch → find (λ other. nat_lt patch other) xs ≡ slice_get xs (index + 1) in
+    is ∙ subst P view (next_index (in_bands columns rows) 0 (columns.side * rows.side) index patch) here
 
 -- what follows where there is no answer
 pub if_none : {P : Type 0} (answer : Option ℕ) → answer ≡ None → IfNone answer P → P

@@ -66,11 +66,11 @@ rounded_side axis a =
 pub le_true : (a b : ℤ) → a ≤ℤ b → int_le a b ≡ true
 le_true a b h = grind (arith, ints)
 
-offset_flat : (axis : Axis) (from to : ℤ) → axis.wraps ≡ false → axis_offset axis from to ≡ to -ℤ from
+pub offset_flat : (axis : Axis) (from to : ℤ) → axis.wraps ≡ false → axis_offset axis from to ≡ to -ℤ from
 unfolding axis_offset
 offset_flat axis from to flat = rw flat refl
 
--- on one axis: two places are within the reach of a radius that the offset doesn't pass
+-- on one axis: two indices are within the reach of a radius that the offset doesn't pass
 pub axis_covers : (axis : Axis) (at to radius : ℤ) (i j : ℕ) → IsAxis axis → i < side axis → j < side axis → (i - j) + (j - i) ≡ unsigned_abs (patch_coordinate to -ℤ patch_coordinate at) → pos (unsigned_abs (axis_offset axis at to)) ≤ℤ radius → is_within axis (reach_of radius) i j ≡ true
 axis_covers axis at to radius i j limits below_i below_j apart near =
     let plain = (i - j) + (j - i) in
@@ -91,7 +91,7 @@ axis_covers axis at to radius i j limits below_i below_j apart near =
     let straight = offset_flat axis at to flat in
     rw steps (le_true (pos plain) (reach_of radius) (omega (arith, ints, apart, rounded_near at to radius (omega (arith, ints, near, straight))))))
 
--- ---- the places of the patch of a point
+-- ---- the indices of the patch of a point
 
 rounded_inside : (axis : Axis) (at : ℤ) → IsAxis axis → IsInside axis at → (axis.least ≤ℤ patch_coordinate at) × (patch_coordinate at ≤ℤ axis.greatest)
 rounded_inside axis at limits inside =

@@ -31,7 +31,7 @@ near_self : (plane : Plane) (patch : ℕ) → is_near plane (pos 1) patch patch 
 unfolding is_near
 near_self plane patch = let across = within_self plane.x (column plane patch) in let up = within_self plane.y (row plane patch) in rw (across, up) refl
 
-pub neighbors_few : (plane : Plane) (patch : ℕ) → patch < patches_of plane → length (patches_near plane (pos 1) patch) ≤ 9 → length (neighbors_of plane patch) ≤ 8
+neighbors_few : (plane : Plane) (patch : ℕ) → patch < patches_of plane → length (patches_near plane (pos 1) patch) ≤ 9 → length (neighbors_of plane patch) ≤ 8
 unfolding neighbors_of patches_near
 neighbors_few plane patch below few =
     let near = is_near plane (pos 1) patch in
@@ -43,11 +43,11 @@ neighbors_few plane patch below few =
 true_le : (m : ℕ) → int_le (pos m) (pos 1) ≡ true → m ≤ 1
 true_le m passes = leb-true m 1 passes
 
-or_right : (a b : Bool) → b ≡ true → (a || b) ≡ true
+pub or_right : (a b : Bool) → b ≡ true → (a || b) ≡ true
 or_right true b passes = refl
 or_right false b passes = passes
 
--- at most three places of an axis are at most one step away
+-- at most three indices of an axis are at most one step away
 within_few : (axis : Axis) (i : ℕ) → i < side axis → tally (is_within axis (pos 1) i) 0 (side axis) ≤ 3
 within_few axis i below =
     let n = side axis in
@@ -80,7 +80,7 @@ within_few axis i below =
     true_le ((i - j) + (j - i)) (sym (ap (λ s. int_le (pos s) (pos 1)) steps) ∙ passes) in
     omega (arith, (tally_between (is_within axis (pos 1) i) 0 n (i - 1) (i + 2) (λ j start end passes. (omega (arith, near j passes), omega (arith, near j passes)))).0))
 
--- other places of an axis one step away
+-- other indices of an axis one step away
 beside : Axis → ℕ → ℕ → Bool
 beside axis i j = is_within axis (pos 1) i j && not (j == i)
 
@@ -114,10 +114,10 @@ unfolding in_row
 in_row_few plane patch below = omega (arith, product_few (beside plane.x (column plane patch)) (λ y. y == row plane patch) (side plane.x) (side plane.y) 2 1 (beside_few plane.x (column plane patch) (column_below plane patch)) (only_one (row plane patch) (side plane.y)))
 
 -- a patch is known by its column and row
-same_patch : (a b w : ℕ) → a % w ≡ b % w → a / w ≡ b / w → a ≡ b
-same_patch a b w place line =
+pub same_patch : (a b w : ℕ) → a % w ≡ b % w → a / w ≡ b / w → a ≡ b
+same_patch a b w index line =
     let product = ap (λ r. r * w) line in
-    omega (arith, div-add-mod' a w, div-add-mod' b w, product, place)
+    omega (arith, div-add-mod' a w, div-add-mod' b w, product, index)
 
 in_line_cases : (plane : Plane) (patch other : ℕ) → ((is_near plane (pos 1) patch other && is_other patch other) && is_in_line plane patch other) ≡ true → (in_column plane patch other || in_row plane patch other) ≡ true
 unfolding is_near in_column in_row beside
@@ -129,12 +129,12 @@ in_line_cases plane patch other passes =
     let across = and_first (is_within plane.x (pos 1) (column plane patch) (column plane other)) (is_within plane.y (pos 1) (row plane patch) (row plane other)) near in
     let up = and_second (is_within plane.x (pos 1) (column plane patch) (column plane other)) (is_within plane.y (pos 1) (row plane patch) (row plane other)) near in
     by_test (column plane other == column plane patch)
-    (λ place.
+    (λ index.
     let lines : (row plane other == row plane patch) ≡ false = ne_eqb (row plane other) (row plane patch) (λ line_too.
-    let same = same_patch other patch (side plane.x) (eqb-true (column plane other) (column plane patch) place) line_too in
+    let same = same_patch other patch (side plane.x) (eqb-true (column plane other) (column plane patch) index) line_too in
     let known = eq-eqb other patch same in
     let wrong = sym (ap not known) ∙ apart in cc) in
-    rw (place, up, lines) refl)
+    rw (index, up, lines) refl)
     (λ other_column.
     let lines = or_second (column plane other == column plane patch) (row plane other == row plane patch) other_column line in
     rw (other_column, across, lines) refl)
@@ -147,3 +147,13 @@ neighbors4_few plane patch below =
     let once = ap (filter line) (filter_twice near (is_other patch) (all_patches plane)) ∙ filter_twice (λ x. near x && is_other patch x) line (all_patches plane) in
     let count = ap length once ∙ length_is_tally (λ x. (near x && is_other patch x) && line x) 0 (patches_of plane) in
     omega (arith, count, tally_either (λ x. (near x && is_other patch x) && line x) (in_column plane patch) (in_row plane patch) 0 (patches_of plane) (λ j start end passes. in_line_cases plane patch j passes), in_column_few plane patch below, in_row_few plane patch below)
+
+-- at most nine patches are at most one step away on each axis
+near_few : (plane : Plane) (patch : ℕ) → patch < patches_of plane → length (patches_near plane (pos 1) patch) ≤ 9
+unfolding patches_near is_near
+near_few plane patch below =
+    let count = length_is_tally (is_near plane (pos 1) patch) 0 (patches_of plane) in
+    omega (arith, count, product_few (is_within plane.x (pos 1) (column plane patch)) (is_within plane.y (pos 1) (row plane patch)) (side plane.x) (side plane.y) 3 3 (within_few plane.x (column plane patch) (column_below plane patch)) (within_few plane.y (row plane patch) (row_below plane patch below)))
+
+pub neighbors_at_most : (plane : Plane) (patch : ℕ) → patch < patches_of plane → length (neighbors_of plane patch) ≤ 8
+neighbors_at_most plane patch below = neighbors_few plane patch below (near_few plane patch below)

@@ -1,27 +1,27 @@
 -- The laws of the geometry.
-use Rattle.std.proofs.Common.{ℕ, zero, suc, ◌+◌, ◌-◌, ◌*◌, ◌<◌, ◌≡◌, ◌≢◌, ◌↔◌, min, true, false, not, ◌&&◌, if◌then◌else◌, int_le, ℤ, pos, negsuc, ◌+ℤ◌, ◌-ℤ◌, ◌*ℤ◌, neg_ℤ, unsigned_abs, List, Contains, Some, None, inl, inr, arith, refl, sym, ap, subst, ◌∙◌}
+use Rattle.std.proofs.Common.{ℕ, zero, suc, ◌+◌, ◌-◌, ◌*◌, ◌<◌, ◌≡◌, ◌≢◌, ◌↔◌, min, true, false, not, ◌&&◌, ◌||◌, ◌==◌, if◌then◌else◌, int_le, ℤ, pos, negsuc, ◌+ℤ◌, ◌-ℤ◌, ◌*ℤ◌, neg_ℤ, unsigned_abs, List, Contains, Some, None, inl, inr, arith, refl, sym, ap, subst, ◌∙◌}
 use Rattle.std.specs.List.{range_with_len}
 use Rattle.std.specs.List.Sorted.{IsStrictlyIncreasing}
 use Rattle.std.proofs.lemmas.Int.{ints, clamps, by_lt_z}
 use Rattle.std.proofs.Math.Nat.{add_comm}
 use Rattle.std.proofs.lemmas.List.Kept.{IsStrictlyIncreasing-filter}
 use Rattle.std.proofs.lemmas.List.FromFn.{length-range_with_len, get_or-range_with_len}
-use Rattle.std.proofs.lemmas.Bool.{ne_eqb, eq-eqb}
+use Rattle.std.proofs.lemmas.Bool.{ne_eqb, eq-eqb, eqb-true}
 use Rattle.std.proofs.lemmas.Nat.{div-add-mod'}
 use Rattle.nl_fixed.specs.Numbers.{one, floor_quotient, whole_root}
 use Rattle.nl_fixed.proofs.Integers.{rounded_only}
 use Rattle.nl_grid.specs.declared.axis.Axis.{Axis}
 use Rattle.nl_grid.specs.declared.point.Point.{Point}
 use Rattle.nl_grid.specs.Ways.{shorter}
-use Rattle.nl_grid.specs.Geometry.{Plane, IsAxis, IsWithinLimits, IsInside, side, length_of, begin_of, end_of, patches_of, all_patches, moved_inside, wrapped, patch_coordinate, number_of_patch, patch_at, center_of, column, row, pxcor_of, pycor_of, axis_offset, x_offset, y_offset, distance_of, is_within, is_near, is_in_line, patches_near, neighbors_of, neighbors4_of, reach_of, box_patches}
-use Rattle.nl_grid.specs.GeometryLaws.{IsMovedInside, IsNoShorter, IsShortest}
+use Rattle.nl_grid.specs.Geometry.{Plane, IsAxis, IsWithinLimits, IsInside, IsPointOf, side, length_of, begin_of, end_of, patches_of, all_patches, moved_inside, wrapped, patch_coordinate, number_of_patch, patch_at, center_of, column, row, pxcor_of, pycor_of, axis_offset, x_offset, y_offset, distance_of, is_within, is_near, is_in_line, ArePatchesOf, patches_near, neighbors_of, neighbors4_of, reach_of, box_patches}
+use Rattle.nl_grid.specs.GeometryLaws.{HasRoundedCoordinates, IsMovedInside, IsNoShorter, IsShortest}
 use Rattle.nl_grid.proofs.AxisLemmas.{by_bool, some_same, wrapped_moved, wrapped_beyond, wrapped_lies_inside}
-use Rattle.nl_grid.proofs.RangeLemmas.{in_filter, from_filter}
+use Rattle.nl_grid.proofs.RangeLemmas.{in_filter, from_filter, in_kept, kept_in, same_test}
 use Rattle.nl_grid.proofs.WayLemmas.{shorter_small}
 use Rattle.nl_grid.proofs.WalkLemmas.{is_other}
 use Rattle.nl_grid.proofs.FewLemmas.{filter_twice}
 use Rattle.nl_grid.proofs.TallyLemmas.{and_first, and_second}
-use Rattle.nl_grid.proofs.CoverLemmas.{offset_is_way, shorter_is_one}
+use Rattle.nl_grid.proofs.CoverLemmas.{column_at, row_at, offset_is_way, shorter_is_one}
 
 -- ---- points and patches
 
@@ -36,6 +36,12 @@ center_patch plane patch limits below =
     let across : unsigned_abs (pxcor_of plane patch -ℤ plane.x.least) ≡ column plane patch = omega (arith, ints) in
     let up : unsigned_abs (plane.y.greatest -ℤ pycor_of plane patch) ≡ row plane patch = omega (arith, ints) in
     rw (is_x, is_y, across, up) (div-add-mod' patch (side plane.x))
+
+pub rounded_coordinates : (plane : Plane) (at : Point) → IsWithinLimits plane → IsPointOf plane at → HasRoundedCoordinates plane at (patch_at plane at)
+rounded_coordinates plane at limits point = record {
+  x = omega (arith, ints, column_at plane at limits point);
+  y = omega (arith, ints, row_at plane at limits point);
+}
 
 -- ---- wrapping
 
@@ -196,7 +202,7 @@ pub box_ascends : (plane : Plane) (at : Point) (radius : ℤ) → IsStrictlyIncr
 unfolding box_patches
 box_ascends plane at radius = near_ascend plane (reach_of radius) (patch_at plane at)
 
-pub box_of_world : (plane : Plane) (at : Point) (radius : ℤ) (patch : ℕ) → Contains (box_patches plane at radius) patch → patch < patches_of plane
+pub box_of_world : (plane : Plane) (at : Point) (radius : ℤ) → ArePatchesOf plane (box_patches plane at radius)
 unfolding box_patches patches_near
 box_of_world plane at radius patch held = let known = from_filter (is_near plane (reach_of radius) (patch_at plane at)) 0 (patches_of plane) patch held in omega (arith, known.1)
 
@@ -227,6 +233,9 @@ other_from_apart patch other apart = ap not (ne_eqb other patch apart)
 pub neighbors_are_others : (plane : Plane) (patch other : ℕ) → Contains (neighbors_of plane patch) other → (other ≢ patch) × (other < patches_of plane)
 neighbors_are_others plane patch other held = let known = from_neighbors plane patch other held in (apart_from_other patch other known.2, known.0)
 
+pub neighbors_of_world : (plane : Plane) (patch : ℕ) → ArePatchesOf plane (neighbors_of plane patch)
+neighbors_of_world plane patch other held = (from_neighbors plane patch other held).0
+
 within_back : (axis : Axis) (reach : ℤ) (i j : ℕ) → is_within axis reach i j ≡ is_within axis reach j i
 within_back axis reach i j =
     let same = add_comm (i - j) (j - i) in
@@ -242,3 +251,33 @@ pub neighbors_mutual : (plane : Plane) (patch other : ℕ) → patch < patches_o
 neighbors_mutual plane patch other below held =
     let known = from_neighbors plane patch other held in
     into_neighbors plane other patch below (sym (near_back plane (pos 1) patch other) ∙ known.1) (other_from_apart other patch (λ same. apart_from_other patch other known.2 (sym same)))
+
+-- ---- neighbors in line
+
+eqb_back : (a b : ℕ) → (a == b) ≡ (b == a)
+eqb_back a b = same_test (a == b) (b == a) (λ one. eq-eqb b a (sym (eqb-true a b one))) (λ one. eq-eqb a b (sym (eqb-true b a one)))
+
+line_back : (plane : Plane) (patch other : ℕ) → is_in_line plane patch other ≡ is_in_line plane other patch
+line_back plane patch other =
+    ap (λ a. a || (row plane other == row plane patch)) (eqb_back (column plane other) (column plane patch))
+    ∙ ap (λ b. (column plane patch == column plane other) || b) (eqb_back (row plane other) (row plane patch))
+
+-- a neighbor in line is a neighbor, and in line
+pub from_neighbors4 : (plane : Plane) (patch other : ℕ) → Contains (neighbors4_of plane patch) other → Contains (neighbors_of plane patch) other × (is_in_line plane patch other ≡ true)
+unfolding neighbors4_of
+from_neighbors4 plane patch other held = in_kept (is_in_line plane patch) (neighbors_of plane patch) other held
+
+pub into_neighbors4 : (plane : Plane) (patch other : ℕ) → Contains (neighbors_of plane patch) other → is_in_line plane patch other ≡ true → Contains (neighbors4_of plane patch) other
+unfolding neighbors4_of
+into_neighbors4 plane patch other held line = kept_in (is_in_line plane patch) (neighbors_of plane patch) other held line
+
+pub neighbors4_are_neighbors : (plane : Plane) (patch other : ℕ) → Contains (neighbors4_of plane patch) other → Contains (neighbors_of plane patch) other
+neighbors4_are_neighbors plane patch other held = (from_neighbors4 plane patch other held).0
+
+pub neighbors4_of_world : (plane : Plane) (patch : ℕ) → ArePatchesOf plane (neighbors4_of plane patch)
+neighbors4_of_world plane patch other held = neighbors_of_world plane patch other (neighbors4_are_neighbors plane patch other held)
+
+pub neighbors4_mutual : (plane : Plane) (patch other : ℕ) → patch < patches_of plane → Contains (neighbors4_of plane patch) other → Contains (neighbors4_of plane other) patch
+neighbors4_mutual plane patch other below held =
+    let known = from_neighbors4 plane patch other held in
+    into_neighbors4 plane other patch (neighbors_mutual plane patch other below known.0) (sym (line_back plane patch other) ∙ known.1)

@@ -1,3 +1,4 @@
+pub mod AheadLemmas
 pub mod AxisLemmas
 pub mod BandLemmas
 pub mod CoverLemmas

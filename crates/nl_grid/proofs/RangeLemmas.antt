@@ -1,5 +1,5 @@
 -- Filters of a run of numbers: their members, their first one, and the next one after a number.
-use Rattle.std.proofs.Common.{ℕ, zero, suc, ◌+◌, ◌<◌, ◌≤◌, ◌≡◌, Bool, true, false, cond, nat_lt, List, ◌∷◌, filter, find, slice_get, Contains, ◌⊎◌, Some, None, inl, inr, unwrap_or, arith, refl, sym, ap, subst, ◌∙◌}
+use Rattle.std.proofs.Common.{ℕ, zero, suc, ◌+◌, ◌<◌, ◌≤◌, ◌≡◌, Bool, true, false, cond, nat_lt, List, [], ◌∷◌, filter, find, slice_get, Contains, ◌⊎◌, Some, None, inl, inr, unwrap_or, arith, refl, sym, ap, subst, ◌∙◌}
 use Rattle.std.specs.List.{range_with_len}
 use Rattle.std.proofs.lemmas.Bool.{cases_lt, cases_eq, lt-ltb, le-ltb}
 
@@ -25,6 +25,28 @@ contains_later x xs q (k, below, is) = (suc k, omega (arith, below), is)
 contains_cases : (x : ℕ) (xs : List ℕ) (q : ℕ) → Contains (x ∷ xs) q → (x ≡ q) ⊎ Contains xs q
 contains_cases x xs q (zero, below, is) = inl is
 contains_cases x xs q (suc k, below, is) = inr (k, omega (arith, below), is)
+
+-- a filter of a list has those of the list that pass
+pub in_kept : (p : ℕ → Bool) (xs : List ℕ) (q : ℕ) → Contains (filter p xs) q → Contains xs q × (p q ≡ true)
+in_kept p [] q (k, below, is) = absurd (omega (arith, below))
+in_kept p (x ∷ xs) q held =
+    let P : List ℕ → Type 0 = λ ys. Contains ys q in
+    let later : Contains (filter p xs) q → Contains (x ∷ xs) q × (p q ≡ true) =
+    λ rest. let known = in_kept p xs q rest in (contains_later x xs q known.0, known.1) in
+    by_test (p x)
+    (λ yes. elim (contains_cases x (filter p xs) q (subst P (ap (λ b. cond b (x ∷ filter p xs) (filter p xs)) yes) held))
+    [ inl same ↦ rw (← same) (contains_here x xs, yes) | inr rest ↦ later rest ])
+    (λ no. later (subst P (ap (λ b. cond b (x ∷ filter p xs) (filter p xs)) no) held))
+
+pub kept_in : (p : ℕ → Bool) (xs : List ℕ) (q : ℕ) → Contains xs q → p q ≡ true → Contains (filter p xs) q
+kept_in p [] q (k, below, is) passes = absurd (omega (arith, below))
+kept_in p (x ∷ xs) q held passes =
+    elim (contains_cases x xs q held) [
+      | inl same ↦ let here = ap p same ∙ passes in rw here (rw (← same) (contains_here x (filter p xs)))
+      | inr rest ↦
+          let later = kept_in p xs q rest passes in
+          by_test (p x) (λ yes. rw yes (contains_later x (filter p xs) q later)) (λ no. rw no later)
+    ]
 
 -- a number of the run that passes is in the filter
 pub in_filter : (p : ℕ → Bool) (a n q : ℕ) → a ≤ q → q < a + n → p q ≡ true → Contains (filter p (range_with_len a n)) q
@@ -123,14 +145,14 @@ next_of_cons p a n zero q is later =
 next_of_cons p a n (suc i) q is later =
     let start = from_on p (a + 1) n i q is in
     let test = le-ltb q a (omega (arith, start)) in
-    let place : suc i + 1 ≡ suc (i + 1) = omega arith in
-    rw (test, place) (later i is)
+    let index : suc i + 1 ≡ suc (i + 1) = omega arith in
+    rw (test, index) (later i is)
 
--- the next one after a number of the filter is the one at the next place
-pub next_place : (p : ℕ → Bool) (a n i q : ℕ) → slice_get (filter p (range_with_len a n)) i ≡ Some q → find (λ j. nat_lt q j) (filter p (range_with_len a n)) ≡ slice_get (filter p (range_with_len a n)) (i + 1)
-next_place p a zero i q is = absurd (let wrong = is in cc)
-next_place p a (suc n) i q is =
+-- the next one after a number of the filter is the one at the next index
+pub next_index : (p : ℕ → Bool) (a n i q : ℕ) → slice_get (filter p (range_with_len a n)) i ≡ Some q → find (λ j. nat_lt q j) (filter p (range_with_len a n)) ≡ slice_get (filter p (range_with_len a n)) (i + 1)
+next_index p a zero i q is = absurd (let wrong = is in cc)
+next_index p a (suc n) i q is =
     let P : List ℕ → Type 0 = λ xs. slice_get xs i ≡ Some q in
     by_test (p a)
-    (λ yes. rw yes (next_of_cons p a n i q (subst P (filter_yes p a n yes) is) (λ j later. next_place p (a + 1) n j q later)))
-    (λ fails. rw fails (next_place p (a + 1) n i q (subst P (filter_no p a n fails) is)))
+    (λ yes. rw yes (next_of_cons p a n i q (subst P (filter_yes p a n yes) is) (λ j later. next_index p (a + 1) n j q later)))
+    (λ fails. rw fails (next_index p (a + 1) n i q (subst P (filter_no p a n fails) is)))

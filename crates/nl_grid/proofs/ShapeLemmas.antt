@@ -11,7 +11,7 @@ use Rattle.nl_grid.specs.declared.point.Point.{Point}
 use Rattle.nl_grid.specs.Geometry.{Plane, IsAxis, IsWithinLimits, IsInside, side, patches_of, patch_coordinate, number_of_patch, patch_at, wrapped_point, patch_by_coordinates, axis_offset, x_offset, y_offset, distance_of, column, row, pxcor_of, pycor_of, center_of}
 use Rattle.nl_grid.proofs.WayLemmas.{offset_small}
 
--- the patch by its places on the axes
+-- the patch by its indices on the axes
 pub patch_is : (plane : Plane) (at : Point) (across up patch : ℕ) → IsWithinLimits plane → pos across ≡ patch_coordinate at.x -ℤ plane.x.least → pos up ≡ patch_coordinate at.y -ℤ plane.y.least → up < side plane.y → patch ≡ (side plane.y - 1 - up) * side plane.x + across → patch ≡ patch_at plane at
 unfolding patch_at number_of_patch
 patch_is plane at across up patch limits is_across is_up below is =
@@ -30,10 +30,10 @@ unfolding center_of
 center_is plane patch x y is_x is_y = rw (is_x, is_y) refl
 
 -- a center as the code makes it
-pub center_number : (axis : Axis) (pycor number : ℤ) (place : ℕ) → IsAxis axis → place < side axis → number ≡ to_z w64 (of_z w64 (pycor *ℤ pos 1000000)) → pycor ≡ axis.greatest -ℤ pos place → number ≡ (axis.greatest -ℤ pos place) *ℤ pos one
-center_number axis pycor number place limits below is is_pycor = omega (arith, ints, is, is_pycor, below, limits.low, limits.high, limits.few)
+pub center_number : (axis : Axis) (pycor number : ℤ) (index : ℕ) → IsAxis axis → index < side axis → number ≡ to_z w64 (of_z w64 (pycor *ℤ pos 1000000)) → pycor ≡ axis.greatest -ℤ pos index → number ≡ (axis.greatest -ℤ pos index) *ℤ pos one
+center_number axis pycor number index limits below is is_pycor = omega (arith, ints, is, is_pycor, below, limits.low, limits.high, limits.few)
 
--- the places of a patch of the plane
+-- the indices of a patch of the plane
 pub column_below : (plane : Plane) (patch : ℕ) → column plane patch < side plane.x
 column_below plane patch = mod_below patch (side plane.x) (omega arith)
 

@@ -4,7 +4,7 @@ use Rattle.std.specs.List.{range_with_len}
 use Rattle.std.proofs.lemmas.Bool.{cases_eq, eq-eqb, ne_eqb, leb-true, ltb-true}
 use Rattle.std.proofs.lemmas.Nat.{mul-le, div-mul-add, mod-mul-add}
 use Rattle.nl_grid.specs.declared.band.Band.{Band}
-use Rattle.nl_grid.specs.Bands.{in_band, in_bands, patches_in, size_of}
+use Rattle.nl_grid.specs.inner.Bands.{in_band, in_bands, patches_in, size_of}
 use Rattle.nl_grid.proofs.RangeLemmas.{by_test}
 use Rattle.nl_grid.proofs.BandLemmas.{and_false_right}
 use Rattle.std.proofs.Math.Nat.{mul_comm}
@@ -88,8 +88,8 @@ and_true : (a : Bool) → (a && true) ≡ a
 and_true true = refl
 and_true false = refl
 
-row_of_place : (j r w : ℕ) → r * w ≤ j → j < r * w + w → j / w ≡ r
-row_of_place j r w start below =
+row_of_index : (j r w : ℕ) → r * w ≤ j → j < r * w + w → j / w ≡ r
+row_of_index j r w start below =
     let apart : j ≡ r * w + (j - r * w) = omega (arith, start) in
     ap (λ n. n / w) apart ∙ div-mul-add r w (j - r * w) (omega (arith, start, below))
 
@@ -135,14 +135,14 @@ tally_row p q w r =
     by_test (q r)
     (λ known.
     let same = tally_same passes p (r * w) 0 w (λ j below.
-    let place = mod-mul-add r w j below in
+    let index = mod-mul-add r w j below in
     let line = div-mul-add r w j below in
     let zeroth : 0 + j ≡ j = omega arith in
-    rw (place, line, known, zeroth) (and_true (p j))) in
+    rw (index, line, known, zeroth) (and_true (p j))) in
     rw known (omega (arith, same)))
     (λ fails.
     let none = tally_none passes (r * w) w (λ j start below.
-    let here = row_of_place j r w start below in
+    let here = row_of_index j r w start below in
     let row_fails = ap q here ∙ fails in
     and_false_right (p (j % w)) (q (j / w)) row_fails) in
     rw fails (omega (arith, none)))
@@ -160,7 +160,7 @@ tally_rows p q w r (suc h) =
     let here = tally_row p q w r in
     ap (tally passes (r * w)) long ∙ split ∙ ap (λ start. tally passes (r * w) w + tally passes start (h * w)) next ∙ omega (arith, here, later)
 
--- a band has no more places than its runs
+-- a band has no more indices than its runs
 pub tally_band : (band : Band) → tally (in_band band) 0 band.side ≤ size_of band
 tally_band band =
     let first : ℕ → Bool = λ j. nat_le band.from j && nat_lt j band.to in
@@ -172,7 +172,7 @@ tally_band band =
       tally_between second 0 band.side band.again band.side (λ j start below one. run_between band.again band.side j one),
     )
 
--- the patches in bands are no more than the places of both
+-- the patches in bands are no more than the indices of both
 pub bands_few : (columns rows : Band) (m : ℕ) → size_of columns ≤ m → size_of rows ≤ m → length (patches_in columns rows) ≤ m * m
 bands_few columns rows m narrow low =
     let count = length_is_tally (in_bands columns rows) 0 (columns.side * rows.side) in

@@ -1,4 +1,6 @@
-pub mod Bands
-pub mod Geometry
+pub mod Nouns
 pub mod Ways
+pub mod Geometry
 pub mod GeometryLaws
+pub mod Codes
+pub mod inner

@@ -9,9 +9,9 @@ use nl_fixed::Num;
 /// An axis: the coordinates of its first and of its last patch, and whether it goes on at the first behind the last.
 #[derive(Clone, Copy, Debug, PartialEq, Eq)]
 pub struct Axis {
-    pub(crate) least: i32,
-    pub(crate) greatest: i32,
-    pub(crate) wraps: bool,
+    pub least: i32,
+    pub greatest: i32,
+    pub wraps: bool,
 }
 
 /// How many millionths make 1.
@@ -50,8 +50,8 @@ fn shortest(plain: i64, length: i64) -> i64
 }
 
 impl Axis {
-    ghost use Rattle.nl_grid.specs.Bands.{in_band, IsBand, size_of};
-    ghost use Rattle.std.specs.Prelude.{◌≡◌, ◌<◌, ◌≤◌, ◌↔◌, IsTrue, IfSome, ℕ};
+    ghost use Rattle.nl_grid.specs.inner.Bands.{IsBand, HasIndices, size_of};
+    ghost use Rattle.std.specs.Prelude.{◌≡◌, ◌<◌, ◌≤◌, ◌↔◌, IsTrue, IfSome};
     ghost use Rattle.nl_grid.specs.Geometry.{IsAxis, IsInside, side, begin_of, length_of, wrapped, patch_coordinate, axis_offset, is_within, steps_across};
 
     /// Is 0 one of the coordinates, and are there no more than a world may have along one axis?
@@ -111,12 +111,12 @@ impl Axis {
         Some(number(self.begin() + past.rem_euclid(self.length())))
     }
 
-    /// The place of a coordinate that is inside: of the patch on which it lies, counted from the first one on the axis.
-    pub(crate) fn place(self, at: Num) -> u32
+    /// The index of a coordinate that is inside: of the patch on which it lies, counted from the first one on the axis.
+    pub(crate) fn index(self, at: Num) -> u32
         requires axis { IsAxis self }
         requires inside { IsInside self at }
         ensures below { result < side self }
-        ensures place { pos result ≡ patch_coordinate at -ℤ self.least }
+        ensures index { pos result ≡ patch_coordinate at -ℤ self.least }
     {
         ((at.millionths() - self.begin()) / ONE) as u32
     }
@@ -137,14 +137,14 @@ impl Axis {
         }
     }
 
-    /// The places at most so many steps from a place: on an axis that wraps by the shorter way round.
-    pub(crate) fn band(self, place: u32, reach: i64) -> Band
+    /// The indices at most so many steps from an index: on an axis that wraps by the shorter way round.
+    pub(crate) fn band(self, index: u32, reach: i64) -> Band
         requires axis { IsAxis self }
-        requires place { place < side self }
+        requires index { index < side self }
         ensures side { result.side ≡ side self }
         ensures band { IsBand result }
         ensures few { size_of result ≤ steps_across reach }
-        ensures places { (other : ℕ) → other < side self → in_band result other ≡ is_within self reach place other }
+        ensures indices { HasIndices result (side self) (is_within self reach index) }
     {
         let side = self.side();
         if reach < 0 {
@@ -157,9 +157,9 @@ impl Axis {
         }
         let steps = reach.min(MOST_PER_SIDE) as u32;
         if self.wraps {
-            Band::around(place, steps, side)
+            Band::around(index, steps, side)
         } else {
-            Band::along(place, steps, side)
+            Band::along(index, steps, side)
         }
     }
 }

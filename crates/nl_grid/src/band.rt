@@ -1,6 +1,6 @@
-//! The places of one axis that a box takes.
+//! The indices of one axis that a box takes.
 
-/// A set of places of an axis with `side` places: those from `from` on and below `to`, and those from `again` on.
+/// A set of indices of an axis with `side` patches: those from `from` on and below `to`, and those from `again` on.
 #[derive(Clone, Copy, Debug, PartialEq, Eq)]
 pub struct Band {
     pub(crate) from: u32,
@@ -10,39 +10,40 @@ pub struct Band {
 }
 
 impl Band {
-    ghost use Rattle.std.specs.Prelude.{◌≡◌, ◌↔◌, ◌+◌, ◌-◌, ◌*◌, min, nat_le, IsTrue, IfSome, IfNone, MatchOption, ℕ, ◌<◌, ◌≤◌, true, false};
-    ghost use Rattle.nl_grid.specs.Bands.{in_band, IsBand, size_of};
+    ghost use Rattle.std.specs.Prelude.{◌≡◌, ◌+◌, ◌*◌, nat_le, IfSome, IfNone, ◌<◌, ◌≤◌};
+    ghost use Rattle.nl_grid.specs.Geometry.{apart, apart_round};
+    ghost use Rattle.nl_grid.specs.inner.Bands.{in_band, IsBand, HasIndices, IsFirstIndex, NoIndexFrom, size_of};
 
-    /// The places at most so many steps from a place, on an axis with ends.
-    pub(crate) fn along(place: u32, steps: u32, side: u32) -> Band
-        requires place { place < side }
+    /// The indices at most so many steps from an index, on an axis with ends.
+    pub(crate) fn along(index: u32, steps: u32, side: u32) -> Band
+        requires index { index < side }
         requires side { side ≤ 1001 }
         requires steps { steps ≤ 1001 }
         ensures side { result.side ≡ side }
         ensures band { IsBand result }
         ensures few { size_of result ≤ 2 * steps + 1 }
-        ensures places { (other : ℕ) → other < side → in_band result other ≡ nat_le ((place - other) + (other - place)) steps }
+        ensures indices { HasIndices result side (λ j. nat_le (apart index j) steps) }
     {
-        let to = (place + steps + 1).min(side);
+        let to = (index + steps + 1).min(side);
         Band {
-            from: place.saturating_sub(steps),
+            from: index.saturating_sub(steps),
             to,
             again: side,
             side,
         }
     }
 
-    /// The places at most so many steps from a place, on an axis that goes on at its beginning.
-    pub(crate) fn around(place: u32, steps: u32, side: u32) -> Band
-        requires place { place < side }
+    /// The indices at most so many steps from an index, on an axis that goes on at its beginning.
+    pub(crate) fn around(index: u32, steps: u32, side: u32) -> Band
+        requires index { index < side }
         requires side { side ≤ 1001 }
         requires steps { steps ≤ 1001 }
         ensures side { result.side ≡ side }
         ensures band { IsBand result }
         ensures few { size_of result ≤ 2 * steps + 1 }
-        ensures places { (other : ℕ) → other < side → in_band result other ≡ nat_le (min ((place - other) + (other - place)) (side - ((place - other) + (other - place)))) steps }
+        ensures indices { HasIndices result side (λ j. nat_le (apart_round side index j) steps) }
     {
-        let end = place + steps + 1;
+        let end = index + steps + 1;
         if side <= 2 * steps {
             return Band {
                 from: 0,
@@ -51,11 +52,11 @@ impl Band {
                 side,
             };
         }
-        if place < steps {
+        if index < steps {
             return Band {
                 from: 0,
                 to: end,
-                again: side + place - steps,
+                again: side + index - steps,
                 side,
             };
         }
@@ -63,59 +64,56 @@ impl Band {
             return Band {
                 from: 0,
                 to: end - side,
-                again: place - steps,
+                again: index - steps,
                 side,
             };
         }
         Band {
-            from: place - steps,
+            from: index - steps,
             to: end,
             again: side,
             side,
         }
     }
 
-    /// Is this place in the band?
-    pub(crate) fn contains(self, place: u32) -> bool
-        ensures { result ≡ in_band self place }
+    /// Is this index in the band?
+    pub(crate) fn contains(self, index: u32) -> bool
+        ensures { result ≡ in_band self index }
     {
-        (self.from <= place && place < self.to) || (self.again <= place && place < self.side)
+        (self.from <= index && index < self.to) || (self.again <= index && index < self.side)
     }
 
-    /// The first place of the band from this one on.
-    pub(crate) fn from_place(self, place: u32) -> Option<u32>
+    /// The first index of the band from this one on.
+    pub(crate) fn from_index(self, index: u32) -> Option<u32>
         requires { IsBand self }
-        ensures found { IfSome result (λ found. (place ≤ found) × (found < self.side) × (in_band self found ≡ true)) }
-        ensures first { IfSome result (λ found. (other : ℕ) → place ≤ other → other < found → in_band self other ≡ false) }
-        ensures none { IfNone result ((other : ℕ) → place ≤ other → in_band self other ≡ false) }
+        ensures found { IfSome result (IsFirstIndex self index) }
+        ensures none { IfNone result (NoIndexFrom self index) }
     {
-        let near = place.max(self.from);
+        let near = index.max(self.from);
         if near < self.to {
             return Some(near);
         }
-        let far = place.max(self.again);
+        let far = index.max(self.again);
         if far < self.side { Some(far) } else { None }
     }
 
-    /// The first place of the band.
+    /// The first index of the band.
     pub(crate) fn first(self) -> Option<u32>
         requires { IsBand self }
-        ensures found { IfSome result (λ found. (found < self.side) × (in_band self found ≡ true)) }
-        ensures first { IfSome result (λ found. (other : ℕ) → other < found → in_band self other ≡ false) }
-        ensures none { IfNone result ((other : ℕ) → in_band self other ≡ false) }
+        ensures found { IfSome result (IsFirstIndex self 0) }
+        ensures none { IfNone result (NoIndexFrom self 0) }
     {
-        self.from_place(0)
+        self.from_index(0)
     }
 
-    /// The first place of the band after this one.
-    pub(crate) fn after(self, place: u32) -> Option<u32>
+    /// The first index of the band after this one.
+    pub(crate) fn after(self, index: u32) -> Option<u32>
         requires { IsBand self }
-        ensures found { IfSome result (λ found. (place < found) × (found < self.side) × (in_band self found ≡ true)) }
-        ensures first { IfSome result (λ found. (other : ℕ) → place < other → other < found → in_band self other ≡ false) }
-        ensures none { IfNone result ((other : ℕ) → place < other → in_band self other ≡ false) }
+        ensures found { IfSome result (IsFirstIndex self (index + 1)) }
+        ensures none { IfNone result (NoIndexFrom self (index + 1)) }
     {
-        if place < self.side {
-            self.from_place(place + 1)
+        if index < self.side {
+            self.from_index(index + 1)
         } else {
             None
         }

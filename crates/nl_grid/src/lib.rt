@@ -2,7 +2,7 @@
 //! and the box of patches around a point.
 #![tactic(auto)]
 
-mod axis;
+pub mod axis;
 mod band;
 pub mod laws;
 pub mod nearby;
@@ -12,6 +12,7 @@ pub mod shape;
 #[cfg(test)]
 mod tests;
 
+pub use axis::Axis;
 pub use patch_box::PatchBox;
 pub use point::{Point, SamePoint};
 pub use shape::Shape;

@@ -1,7 +1,6 @@
 //! Patches near a patch or a point: neighbors, and the box of a radius.
-ghost use Rattle.std.specs.Prelude.{◌≡◌, ◌*◌, ◌<◌, ◌≤◌, ◌≤ℤ◌, pos, take, length, Contains};
-ghost use Rattle.nl_grid.specs.declared.point.Point.{Point};
-ghost use Rattle.nl_grid.specs.Geometry.{IsPointOf, patches_of, patch_at, distance_of, patches_near, neighbors_of, neighbors4_of, is_in_line, box_patches, steps_across, most_in_box};
+ghost use Rattle.std.specs.Prelude.{◌≡◌, ◌*◌, ◌<◌, ◌≤◌, take, length};
+ghost use Rattle.nl_grid.specs.Geometry.{IsPointOf, patches_of, ArePatchesOf, CoversRadius, patches_near, neighbors_of, neighbors4_of, is_in_line, box_patches, steps_across, most_in_box};
 
 use crate::axis::ONE;
 use crate::patch_box::PatchBox;
@@ -27,7 +26,7 @@ impl Shape {
     pub fn box_of(&self, at: Point, radius: Num) -> PatchBox
         requires { IsPointOf self.now at }
         ensures patches { result ≡ box_patches self.now at radius }
-        ensures covers { (to : Point) → IsPointOf self.now to → pos (distance_of self.now at to) ≤ℤ radius → Contains result (patch_at self.now to) }
+        ensures covers { CoversRadius self.now at radius result }
         ensures few { length result ≤ most_in_box radius }
     {
         let _ = &self.x;
@@ -36,10 +35,12 @@ impl Shape {
     }
 
     /// The neighbors of a patch: the other patches one step away on an axis or on both. They come in ascending order
-    /// into the first places of `out`, and their number is answered.
+    /// at the front of `out`, and how many there are is answered.
     pub fn neighbors(&self, patch: u32, out: &mut [u32; 8]) -> usize
         requires { patch < patches_of self.now }
         ensures count { result ≡ length (neighbors_of self.now patch) }
+        ensures few { result ≤ 8 }
+        ensures world { ArePatchesOf self.now (take result out.new) }
         ensures patches { take result out.new ≡ neighbors_of self.now patch }
     {
         let around = self.around(patch, 1);
@@ -67,6 +68,8 @@ impl Shape {
     pub fn neighbors4(&self, patch: u32, out: &mut [u32; 4]) -> usize
         requires { patch < patches_of self.now }
         ensures count { result ≡ length (neighbors4_of self.now patch) }
+        ensures few { result ≤ 4 }
+        ensures world { ArePatchesOf self.now (take result out.new) }
         ensures patches { take result out.new ≡ neighbors4_of self.now patch }
     {
         let mut all = [0; 8];

@@ -1,6 +1,7 @@
 //! The patches around a point.
-ghost use Rattle.std.specs.Prelude.{◌≡◌, ◌↔◌, ◌+◌, ◌≤◌, IsTrue, IfSome, IfNone, false, Contains, find, nat_lt, slice_get, Some, ℕ};
-ghost use Rattle.nl_grid.specs.Bands.{AreBands, IsFirstFrom, in_bands};
+ghost use Rattle.std.specs.Prelude.{◌≡◌, ◌↔◌, IsTrue, IfSome, IfNone, Contains, find, nat_lt, slice_get};
+ghost use Rattle.nl_grid.specs.Geometry.{ComesAfter};
+ghost use Rattle.nl_grid.specs.inner.Bands.{AreBands, IsFirstFrom, NoneFrom};
 
 use crate::band::Band;
 use std::marker::Model;
@@ -13,10 +14,10 @@ pub struct PatchBox {
 }
 
 impl Model for PatchBox {
-    ghost use Rattle.std.specs.Prelude.{List, ℕ};
-    ghost use Rattle.nl_grid.specs.Bands.{AreBands, patches_in};
+    ghost use Rattle.nl_grid.specs.Nouns.{Patches};
+    ghost use Rattle.nl_grid.specs.inner.Bands.{AreBands, patches_in};
 
-    ghost Value = { List ℕ };
+    ghost Value = { Patches };
 
     ghost view = { λ box. patches_in box.columns box.rows };
 
@@ -27,11 +28,11 @@ impl Model for PatchBox {
 fn first_from(columns: Band, rows: Band, patch: u32) -> Option<u32>
     requires { AreBands columns rows }
     ensures found { IfSome result (IsFirstFrom columns rows patch) }
-    ensures none { IfNone result ((other : ℕ) → patch ≤ other → in_bands columns rows other ≡ false) }
+    ensures none { IfNone result (NoneFrom columns rows patch) }
 {
     let row = patch / columns.side;
     if rows.contains(row) {
-        if let Some(column) = columns.from_place(patch % columns.side) {
+        if let Some(column) = columns.from_index(patch % columns.side) {
             return Some(row * columns.side + column);
         }
     }
@@ -59,7 +60,7 @@ impl PatchBox {
     /// The first patch of the box after this one, which itself may be outside of it.
     pub fn next(&self, patch: u32) -> Option<u32>
         ensures after { result ≡ find (λ other. nat_lt patch other) self.now }
-        ensures walk { (place : ℕ) → slice_get self.now place ≡ Some patch → result ≡ slice_get self.now (place + 1) }
+        ensures walk { ComesAfter self.now patch result }
     {
         let _ = &self.columns;
         let from = patch.checked_add(1)?;

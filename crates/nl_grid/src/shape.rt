@@ -1,11 +1,12 @@
 //! The shape of a world.
-ghost use Rattle.std.specs.Prelude.{◌≡◌, ◌↔◌, ◌<◌, IsTrue, IsSome, IfSome, IsErr, unsigned_abs, pos};
+ghost use Rattle.std.specs.Prelude.{◌≡◌, ◌↔◌, ◌<◌, IsTrue, IsSome, IfSome, IsErr, IfErr, pos};
 ghost use Rattle.std.specs.Result.{result_ok};
-ghost use Rattle.nl_grid.specs.Geometry.{Plane, IsWithinLimits, IsPointOf, IsSamePlace, plane_of, side, patches_of, wrapped_point, patch_at, patch_by_coordinates, center_of, x_offset, y_offset, distance_of, heading_between};
+ghost use Rattle.nl_fixed.specs.Sines.{IsUnit};
+ghost use Rattle.nl_grid.specs.Geometry.{Plane, IsWithinLimits, IsPointOf, IsSamePoint, plane_of, side, patches_of, wrapped_point, point_beside, share_of, point_ahead, FindsPointOf, patch_at, patch_by_coordinates, center_of, x_offset, y_offset, distance_of, heading_between};
 
 use crate::axis::{Axis, ONE, number};
 use crate::point::{Point, SamePoint};
-use nl_fixed::{Num, whole_root};
+use nl_fixed::{Num, NumFault, whole_root};
 use std::marker::Model;
 
 /// The shape of a world: the coordinates of its outermost patches, and which axes wrap.
@@ -28,6 +29,16 @@ impl Model for Shape {
 /// The greatest number of patches of a world.
 const MOST_PATCHES: u32 = 262_144;
 
+/// How far a distance leads along an axis, by the sine or the cosine of its heading. No such product is out of range.
+fn share(distance: Num, sine: Num) -> Num
+    requires { IsUnit sine }
+    ensures { result ≡ share_of distance sine }
+{
+    // what tells a number's count tells that it is in range
+    let _count = distance.millionths();
+    distance.mul(sine).unwrap()
+}
+
 impl Shape {
     /// The shape with these outermost coordinates. On each axis 0 is one of the coordinates, and there are at most
     /// 1,001 patches; the world has at most 262,144.
@@ -39,8 +50,10 @@ impl Shape {
         wrap_x: bool,
         wrap_y: bool,
     ) -> Option<Shape>
-        ensures within { IsSome result ↔ IsWithinLimits (plane_of min_x max_x min_y max_y wrap_x wrap_y) }
-        ensures shape { IfSome result (λ shape. shape ≡ plane_of min_x max_x min_y max_y wrap_x wrap_y) }
+        ensures within { let plane = plane_of min_x max_x min_y max_y wrap_x wrap_y in
+            IsSome result ↔ IsWithinLimits plane }
+        ensures shape { let plane = plane_of min_x max_x min_y max_y wrap_x wrap_y in
+            IfSome result (λ shape. shape ≡ plane) }
     {
         let x = Axis {
             least: min_x,
@@ -145,14 +158,38 @@ impl Shape {
         Some(Point { x, y })
     }
 
+    /// The point at this offset from a point, moved by whole sides where an axis wraps. None where it is outside on an
+    /// axis that doesn't, and `Overflow`, which comes first, where a sum is out of the range of numbers.
+    pub fn beside(&self, at: Point, dx: Num, dy: Num) -> Result<Option<Point>, NumFault>
+        ensures value { result ≡ point_beside self.now at dx dy }
+        ensures inside { FindsPointOf self.now result }
+        ensures overflow { IfErr result (λ fault. fault ≡ NumFault.Overflow) }
+    {
+        let x = at.x.add(dx)?;
+        let y = at.y.add(dy)?;
+        Ok(self.wrap(x, y))
+    }
+
+    /// The point so far ahead of a point under a heading in degrees: `beside` it by the distance times the heading's
+    /// sine along x, and times its cosine along y. A negative distance leads backwards.
+    pub fn ahead(&self, at: Point, heading: Num, distance: Num) -> Result<Option<Point>, NumFault>
+        ensures value { result ≡ point_ahead self.now at heading distance }
+        ensures inside { FindsPointOf self.now result }
+        ensures overflow { IfErr result (λ fault. fault ≡ NumFault.Overflow) }
+    {
+        let dx = share(distance, heading.sin());
+        let dy = share(distance, heading.cos());
+        self.beside(at, dx, dy)
+    }
+
     /// The patch on which a point lies.
     pub fn patch_of(&self, at: Point) -> u32
         requires { IsPointOf self.now at }
         ensures patch { result ≡ patch_at self.now at }
         ensures below { result < patches_of self.now }
     {
-        let row = self.y.side() - 1 - self.y.place(at.y);
-        row * self.x.side() + self.x.place(at.x)
+        let row = self.y.side() - 1 - self.y.index(at.y);
+        row * self.x.side() + self.x.index(at.x)
     }
 
     /// The patch at these whole coordinates, each moved by whole sides where its axis wraps. None where one is outside
@@ -205,14 +242,14 @@ impl Shape {
         number(whole_root(x * x + y * y) as i64)
     }
 
-    /// The heading in degrees from a point to another one, the arctangent of the offset. Refused where both lie at one
-    /// place.
+    /// The heading in degrees from a point to another one, the arctangent of the offset. Refused where both are one
+    /// point.
     #[tactic(auto, unfolding(crate::specs::Geometry::heading_between))]
     pub fn towards(&self, from: Point, to: Point) -> Result<Num, SamePoint>
         requires from { IsPointOf self.now from }
         requires to { IsPointOf self.now to }
         ensures heading { result_ok result ≡ heading_between self.now from to }
-        ensures same_point { IsErr result ↔ IsSamePlace self.now from to }
+        ensures same_point { IsErr result ↔ IsSamePoint self.now from to }
     {
         let (x, y) = self.offset(from, to);
         Num::atan(x, y).map_err(|_| SamePoint)

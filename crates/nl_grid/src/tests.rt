@@ -5,7 +5,7 @@ ghost use Rattle.nl_grid.specs.Geometry.{IsPointOf, patches_of};
 use crate::patch_box::PatchBox;
 use crate::point::{Point, SamePoint};
 use crate::shape::Shape;
-use nl_fixed::Num;
+use nl_fixed::{Num, NumFault};
 use std::process::Abort;
 use std::test::Fail;
 
@@ -129,6 +129,83 @@ fn nothing_is_outside_of_a_box_but_beyond_its_ends(rt: HostRuntime) -> Result<()
     }
     assert_eq!(rt; walls.patch_at(3, 0), None);
     assert_eq!(rt; walls.patch_at(2, -2), Some(24));
+    Ok(())
+}
+
+/// What a call has found: the coordinates in millionths, none outside, or the fault of a sum.
+fn found(point: Result<Option<Point>, NumFault>) -> Result<Option<(i64, i64)>, NumFault> {
+    match point {
+        Ok(Some(at)) => Ok(Some((at.x.millionths(), at.y.millionths()))),
+        Ok(None) => Ok(None),
+        Err(fault) => Err(fault),
+    }
+}
+
+#[test]
+fn a_point_beside_is_wrapped_or_outside_or_out_of_range(rt: HostRuntime) -> Result<(), Fail> {
+    let torus = Shape::new(-2, 2, -2, 2, true, true).ok_or("refused")?;
+    let walls = Shape::new(-2, 2, -2, 2, false, false).ok_or("refused")?;
+    let most = 9_000_000_000_000_000_000;
+    let rows = [
+        (
+            torus,
+            (1_000_000, 1_000_000),
+            (2_000_000, -5_000_000),
+            Ok(Some((-2_000_000, 1_000_000))),
+        ),
+        (
+            walls,
+            (1_000_000, 1_000_000),
+            (-2_000_000, 500_000),
+            Ok(Some((-1_000_000, 1_500_000))),
+        ),
+        (walls, (1_000_000, 1_000_000), (2_000_000, 0), Ok(None)),
+        (walls, (1_000_000, 1_000_000), (0, -4_000_000), Ok(None)),
+        (torus, (-1_000_000, 0), (most, 0), Ok(Some((-1_000_000, 0)))),
+        (torus, (1, 0), (most, 0), Err(NumFault::Overflow)),
+        (torus, (0, -1), (0, -most), Err(NumFault::Overflow)),
+        (
+            walls,
+            (2_000_000, 1),
+            (1_000_000, most),
+            Err(NumFault::Overflow),
+        ),
+    ];
+    for (shape, from, by, expected) in rows {
+        let at = point(&shape, from.0, from.1)?;
+        let dx = Num::new(by.0).ok_or("out of range")?;
+        let dy = Num::new(by.1).ok_or("out of range")?;
+        assert_eq!(rt; found(shape.beside(at, dx, dy)), expected);
+    }
+    Ok(())
+}
+
+// The sine of 30 degrees is 0.5 and their cosine 0.866025, so that products of a millionth are rounded.
+#[test]
+fn a_point_ahead_goes_by_the_heading(rt: HostRuntime) -> Result<(), Fail> {
+    let torus = Shape::new(-2, 2, -2, 2, true, true).ok_or("refused")?;
+    let walls = Shape::new(-2, 2, -2, 2, false, false).ok_or("refused")?;
+    let most = 9_000_000_000_000_000_000;
+    let rows = [
+        (walls, (0, 0), 0, 1_000_000, Ok(Some((0, 1_000_000)))),
+        (walls, (0, 0), 90, 1_000_000, Ok(Some((1_000_000, 0)))),
+        (walls, (0, 0), 45, 1_000_000, Ok(Some((707_107, 707_107)))),
+        (walls, (0, 0), 90, -1_000_000, Ok(Some((-1_000_000, 0)))),
+        (walls, (0, 0), 30, 1, Ok(Some((1, 1)))),
+        (walls, (0, 0), 30, -1, Ok(Some((0, -1)))),
+        (torus, (0, 0), 180, 3_000_000, Ok(Some((0, 2_000_000)))),
+        (walls, (0, 0), 180, 3_000_000, Ok(None)),
+        (torus, (-1_000_000, 0), 90, most, Ok(Some((-1_000_000, 0)))),
+        (walls, (-1_000_000, 0), 90, most, Ok(None)),
+        (walls, (1_000_000, 0), 90, most, Err(NumFault::Overflow)),
+        (torus, (0, 1_000_000), 0, most, Err(NumFault::Overflow)),
+    ];
+    for (shape, from, heading, distance, expected) in rows {
+        let at = point(&shape, from.0, from.1)?;
+        let heading = Num::whole(heading).ok_or("out of range")?;
+        let distance = Num::new(distance).ok_or("out of range")?;
+        assert_eq!(rt; found(shape.ahead(at, heading, distance)), expected);
+    }
     Ok(())
 }
 

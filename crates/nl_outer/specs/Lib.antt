@@ -3,3 +3,4 @@ pub mod Faults
 pub mod Folder
 pub mod Host
 pub mod Memory
+pub mod Nouns

@@ -13,9 +13,10 @@ pub struct Args {
 }
 
 impl Model for Args {
-    ghost use Rattle.std.specs.Prelude.{ℕ, List, map, string_bytes};
+    ghost use Rattle.nl_outer.specs.Nouns.{Words};
+    ghost use Rattle.std.specs.Prelude.{map, string_bytes};
 
-    ghost Value = { List (List ℕ) };
+    ghost Value = { Words };
 
     ghost view = { λ args. map string_bytes args.words.items };
 }
@@ -47,11 +48,11 @@ impl Args {
         self.words.len()
     }
 
-    /// The word at a place, counted from 0.
-    pub fn word(&self, at: usize) -> Option<&str>
-        ensures { option_map (λ word. word.now) result ≡ slice_get self.now at }
+    /// The word of an index, counted from 0.
+    pub fn word(&self, index: usize) -> Option<&str>
+        ensures { option_map (λ word. word.now) result ≡ slice_get self.now index }
     {
-        match self.words.get(at) {
+        match self.words.get(index) {
             Some(word) => Some(word.as_str()),
             None => None,
         }

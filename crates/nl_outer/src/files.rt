@@ -1,6 +1,6 @@
 //! Files that are read whole.
 ghost use Rattle.nl_outer.specs.declared.files.ReadFail.TheVariants as ReadFail;
-ghost use Rattle.std.specs.Prelude.{◌≡◌, ℕ, ◌+◌, ◌≤◌, List, Bool, true, length, Option, Some, IfOk, IfSome, IsErrOf};
+ghost use Rattle.std.specs.Prelude.{◌≡◌, ℕ, ◌+◌, ◌≤◌, Bool, true, length, Option, Some, IfOk, IfSome, IsErrOf, OnOk};
 ghost use Rattle.nl_outer.specs.Faults.{Rose};
 
 use nl_fixed::{NoMemory, Str};
@@ -42,17 +42,18 @@ impl From<AllocError> for ReadFail {
 /// tells which paths may be asked for; `folder` is what is there, where it tells that.
 pub trait Files {
     ghost use Rattle.nl_outer.specs.Folder.{Folder, read_of};
+    ghost use Rattle.nl_outer.specs.Nouns.{Path};
 
     ghost faults: { Self → ℕ };
 
-    ghost last_fault: { Self → List ℕ };
+    ghost last_fault: { Self → Path };
 
-    ghost serves: { Self → List ℕ → Bool };
+    ghost serves: { Self → Path → Bool };
 
     ghost folder: { Self → Option Folder };
 
     /// All bytes of a file, or its first `most + 1` where it is longer. A file that isn't there is a
-    /// fault.
+    /// fault; a read that is done and want of memory are none.
     fn read_file(&mut self, alloc: Global, path: &str, most: u64) -> Result<Vec<u8>, ReadFail>
         requires { serves self.old path.now ≡ true }
         ensures bytes { IfOk result (λ bytes. IfSome (folder self.old) (λ files.
@@ -60,6 +61,8 @@ pub trait Files {
         ensures bound { IfOk result (λ bytes. length bytes.items ≤ most + 1) }
         ensures cause { IsErrOf result ReadFail.Failed → Rose (faults self.old) (faults self.new) }
         ensures place { IsErrOf result ReadFail.Failed → last_fault self.new ≡ path.now }
+        ensures ok { OnOk result (faults self.new ≡ faults self.old) }
+        ensures want { IsErrOf result ReadFail.NoMemory → faults self.new ≡ faults self.old }
         ensures later { faults self.old ≤ faults self.new }
         ensures same_folder { folder self.new ≡ folder self.old }
         ensures same_paths { serves self.new ≡ serves self.old };

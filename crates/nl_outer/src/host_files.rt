@@ -60,11 +60,14 @@ impl<'a, R: rt::Files> Files for HostFiles<'a, R> {
         ensures bound { IfOk result (λ bytes. length bytes.items ≤ most + 1) }
         ensures cause { IsErrOf result ReadFail.Failed → Rose self.old.faults self.new.faults }
         ensures place { IsErrOf result ReadFail.Failed → self.new.last_fault ≡ path.now }
+        ensures ok { OnOk result (self.new.faults ≡ self.old.faults) }
+        ensures want { IsErrOf result ReadFail.NoMemory → self.new.faults ≡ self.old.faults }
         ensures later { self.old.faults ≤ self.new.faults }
 
         // A fault counts once, and without one nothing changes.
         ensures after { OnOk result (self.new ≡ self.old) }
-        ensures after_fault { IsErrOf result ReadFail.Failed → self.new ≡ failed_at self.old path.now }
+        ensures after_fault { IsErrOf result ReadFail.Failed
+            → self.new ≡ failed_at self.old path.now }
         ensures after_want { IsErrOf result ReadFail.NoMemory → self.new ≡ self.old }
     {
         // The copy comes first, so that a fault always has its path.
@@ -85,10 +88,12 @@ impl<'a, R: rt::Files> Files for HostFiles<'a, R> {
 fn read_on<F: Read>(alloc: Global, file: &mut F, most: u64) -> Result<Vec<u8>, ReadFail>
     ensures bound { IfOk result (λ bytes. length bytes.items ≤ most + 1) }
 
-    // Where the file tells its bytes: just those were read, and if they aren't too many it has ended.
+    // Where the file tells its bytes: just those were read, and if they aren't too many it has
+    // ended.
     ensures given { IfOk result (λ bytes.
         Consumes (F.remaining file.old) (F.remaining file.new) bytes.items) }
-    ensures ended { IfOk result (λ bytes. length bytes.items ≤ most → IsAtEnd (F.remaining file.new)) }
+    ensures ended { IfOk result (λ bytes.
+        length bytes.items ≤ most → IsAtEnd (F.remaining file.new)) }
 {
     let mut bytes = Vec::new(alloc);
     let mut buffer = [0u8; PIECE];

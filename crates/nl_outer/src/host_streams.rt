@@ -1,6 +1,8 @@
-//! Standard streams of the host. What becomes of their bytes no contract can tell: this is the trusted edge.
-ghost use Rattle.std.specs.Prelude.{◌≡◌, ◌≤◌, ℕ, take, IsTrue, None, OnOk, OnErr};
+//! Standard streams of the host. What becomes of their bytes no contract can tell: this is the
+//! trusted edge.
+ghost use Rattle.std.specs.Prelude.{◌≡◌, ◌≤◌, IsTrue, None, OnOk, OnErr};
 ghost use Rattle.std.specs.Io.KnownBytes.{Appends};
+ghost use Rattle.nl_outer.specs.Bytes.{AppendsFront};
 ghost use Rattle.nl_outer.specs.Faults.{counted};
 
 use crate::sinks::{Sink, WriteFail};
@@ -23,9 +25,9 @@ impl<W: Write + Drop> Stream<W> {
     }
 
     fn put(&mut self, bytes: &[u8]) -> Result<(), WriteFail>
-        ensures whole { OnOk result (Appends (W.contents self.old.to) (W.contents self.new.to) bytes.now) }
-        ensures part { (kept : ℕ) ×
-            Appends (W.contents self.old.to) (W.contents self.new.to) (take kept bytes.now) }
+        ensures whole { OnOk result
+            (Appends (W.contents self.old.to) (W.contents self.new.to) bytes.now) }
+        ensures part { AppendsFront (W.contents self.old.to) (W.contents self.new.to) bytes.now }
         ensures ok { OnOk result (self.new.faults ≡ self.old.faults) }
         ensures err { OnErr result (self.new.faults ≡ counted self.old.faults) }
         ensures later { self.old.faults ≤ self.new.faults }
@@ -42,7 +44,7 @@ impl<W: Write + Drop> Stream<W> {
 fn write_whole<W: Write>(to: &mut W, bytes: &[u8]) -> bool
     // Where the writer tells its bytes: all of the piece is there, or where it failed a prefix.
     ensures whole { IsTrue result → Appends (W.contents to.old) (W.contents to.new) bytes.now }
-    ensures part { (kept : ℕ) × Appends (W.contents to.old) (W.contents to.new) (take kept bytes.now) }
+    ensures part { AppendsFront (W.contents to.old) (W.contents to.new) bytes.now }
 {
     let mut done = 0;
     'pieces: for _ in 0..u64::MAX {
@@ -95,9 +97,10 @@ impl<W: Write + Drop> Sink for HostOut<W> {
         ensures err { OnErr result (self.new.faults ≡ counted self.old.faults) }
         ensures later { self.old.faults ≤ self.new.faults }
 
-        // Where the writer tells its bytes: all of the piece went there, or where that failed a prefix.
+        // Where the writer tells its bytes: all of the piece went there, or where that failed a
+        // prefix.
         ensures whole { OnOk result (Appends self.old.contents self.new.contents bytes.now) }
-        ensures part { (kept : ℕ) × Appends self.old.contents self.new.contents (take kept bytes.now) }
+        ensures part { AppendsFront self.old.contents self.new.contents bytes.now }
     {
         self.stream.put(bytes)
     }
@@ -139,9 +142,10 @@ impl<W: Write + Drop> Sink for HostErr<W> {
         ensures err { OnErr result (self.new.faults ≡ counted self.old.faults) }
         ensures later { self.old.faults ≤ self.new.faults }
 
-        // Where the writer tells its bytes: all of the piece went there, or where that failed a prefix.
+        // Where the writer tells its bytes: all of the piece went there, or where that failed a
+        // prefix.
         ensures whole { OnOk result (Appends self.old.contents self.new.contents bytes.now) }
-        ensures part { (kept : ℕ) × Appends self.old.contents self.new.contents (take kept bytes.now) }
+        ensures part { AppendsFront self.old.contents self.new.contents bytes.now }
     {
         self.stream.put(bytes)
     }

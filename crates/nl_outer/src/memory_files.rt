@@ -48,7 +48,8 @@ impl MemFiles {
         }
     }
 
-    /// Adds a file behind the others, or leaves them as they were. Of two files at one path the first counts.
+    /// Adds a file behind the others, or leaves them as they were. Of two files at one path the
+    /// first counts.
     pub fn add(&mut self, alloc: Global, path: &str, bytes: &[u8]) -> Result<(), NoMemory>
         ensures ok { OnOk result (self.new ≡ with_file self.old path.now bytes.now) }
         ensures err { OnErr result (self.new ≡ self.old) }
@@ -83,19 +84,25 @@ impl Files for MemFiles {
 
     #[tactic(auto, unfolding(crate::specs::Folder::read_of))]
     fn read_file(&mut self, alloc: Global, path: &str, most: u64) -> Result<Vec<u8>, ReadFail>
-        ensures bytes { IfOk result (λ bytes. read_of path.now most self.old.files ≡ Some bytes.items) }
+        ensures bytes { IfOk result (λ bytes.
+            read_of path.now most self.old.files ≡ Some bytes.items) }
         ensures bound { IfOk result (λ bytes. length bytes.items ≤ most + 1) }
         ensures cause { IsErrOf result ReadFail.Failed → Rose self.old.faults self.new.faults }
         ensures place { IsErrOf result ReadFail.Failed → self.new.last_fault ≡ path.now }
+        ensures ok { OnOk result (self.new.faults ≡ self.old.faults) }
+        ensures want { IsErrOf result ReadFail.NoMemory → self.new.faults ≡ self.old.faults }
         ensures later { self.old.faults ≤ self.new.faults }
 
-        // A fault comes exactly where this read is listed or no file has the path, unless memory is wanting.
-        ensures only_where { IsErrOf result ReadFail.Failed → IsTrue (read_fails self.old path.now) }
+        // A fault comes exactly where this read is listed or no file has the path, unless memory is
+        // wanting.
+        ensures only_where { IsErrOf result ReadFail.Failed
+            → IsTrue (read_fails self.old path.now) }
         ensures exactly { OnOk result (IsFalse (read_fails self.old path.now)) }
 
         // What is left: the files as they were, one more call, and where it failed one more fault.
         ensures after { OnOk result (self.new ≡ after_read self.old) }
-        ensures after_fault { IsErrOf result ReadFail.Failed → self.new ≡ after_failed_read self.old path.now }
+        ensures after_fault { IsErrOf result ReadFail.Failed
+            → self.new ≡ after_failed_read self.old path.now }
         ensures after_want { IsErrOf result ReadFail.NoMemory → self.new ≡ after_read self.old }
     {
         self.calls = self.calls.saturating_add(1);

@@ -86,8 +86,11 @@ impl Sink for MemSink {
     ghost written = { λ s. Some s.bytes };
 
     fn put(&mut self, bytes: &[u8]) -> Result<(), WriteFail>
-        ensures whole { OnOk result (Appended (Some self.old.bytes) (Some self.new.bytes) bytes.now) }
-        ensures part { OnErr result (PartAppended (Some self.old.bytes) (Some self.new.bytes) bytes.now) }
+        ensures whole { OnOk result
+            (Appended (Some self.old.bytes) (Some self.new.bytes) bytes.now) }
+        ensures part { OnErr result
+            (PartAppended (Some self.old.bytes) (Some self.new.bytes) bytes.now) }
+        ensures ok { OnOk result (self.new.faults ≡ self.old.faults) }
         ensures cause { OnErr result (Rose self.old.faults self.new.faults) }
         ensures later { self.old.faults ≤ self.new.faults }
 

@@ -78,3 +78,36 @@ fn a_sink_in_memory_keeps_what_fits_and_what_a_failing_put_may_keep(
     assert!(rt; small.bytes() == b"ab".as_slice());
     Ok(())
 }
+
+#[test]
+fn the_outside_in_memory_holds_far_more_than_the_usual(rt: HostRuntime) -> Result<(), Fail> {
+    let mut words = Args::new(rt.alloc());
+    let mut files = MemFiles::new(rt.alloc());
+    let bytes = vec![in rt.alloc(); b'x'; 100_000]?;
+    'words: for at in 0..300u64 {
+        let word = format!(in rt.alloc(); "word {at}")?;
+        words.push(rt.alloc(), word.as_str())?;
+        files.add(rt.alloc(), word.as_str(), &bytes.as_slice()[..at as usize])?;
+        files.fail_call(rt.alloc(), at + 2)?;
+    }
+    assert_eq!(rt; words.len(), 300);
+    assert!(rt; words.word(299) == Some("word 299"));
+    files.add(rt.alloc(), "many", bytes.as_slice())?;
+    let read = files.read_file(rt.alloc(), "many", u64::MAX).ok();
+    assert!(rt; read.is_some_and(|read| read.as_slice() == bytes.as_slice()));
+    // A read that is to fail does, where it finds a file and where it finds none.
+    for path in ["many", "word 299", "none"] {
+        let result = files.read_file(rt.alloc(), path, u64::MAX);
+        assert!(rt; result.err() == Some(ReadFail::Failed));
+    }
+
+    let mut sink = MemSink::with_room(rt.alloc(), 200_000)?;
+    'calls: for call in 0..300 {
+        sink.fail_call(rt.alloc(), call + 3, 0)?;
+    }
+    assert!(rt; sink.put(bytes.as_slice()) == Ok(()));
+    assert!(rt; sink.put(bytes.as_slice()) == Ok(()));
+    assert!(rt; sink.put(b"x") == Err(WriteFail));
+    assert_eq!(rt; sink.bytes().len(), 200_000);
+    Ok(())
+}

@@ -11,13 +11,14 @@ use Rattle.nl_tree.specs.Tokens.{Tok, end, mark, marked, span_of}
 use Rattle.nl_tree.specs.Tokens as plain
 use Rattle.nl_tree.specs.Grammar.{span_of_first}
 use Rattle.nl_tree.specs.BodyFault.{IsGood, IsTextFault, ends_at, deepest}
-use Rattle.nl_decl.specs.Texts.{plain_token, plain_tokens}
+use Rattle.nl_text.specs.Texts.{plain_token, plain_tokens}
 use Rattle.nl_grammar.specs.Machine.{State, st, Frame, Over, Step, go, stop, feed, run_from, run, start}
 use Rattle.nl_grammar.specs.Depth.{least_depth}
 use Rattle.nl_grammar.specs.Fault.{reading_to}
 use Rattle.nl_grammar.specs.Completion.{HasWords}
-use Rattle.nl_parse.specs.Outcome.{first_span, kind_of, Stops, StopsAt, StopsIn, Refuses}
-use Rattle.nl_parse.specs.declared.body.BodyKind.{BodyKind}
+use Rattle.nl_parse.specs.Outcome.{Refuses}
+use Rattle.nl_parse.specs.inner.Stops.{first_span, Stops, StopsAt, StopsIn}
+use Rattle.nl_tree.specs.declared.faults.BodyKind.{BodyKind}
 use Rattle.nl_parse.specs.declared.body.BodyRefusal.{BodyRefusal}
 use Rattle.nl_grammar.proofs.Taken.{taken_text}
 use Rattle.nl_grammar.proofs.Good.{run_append}
@@ -61,7 +62,7 @@ toks_length table text (t ∷ ts) = ap suc (toks_length table text ts)
 span_marked : (table : List Term) (text : List ℕ) (t : Token) → span_of (tok_of table text t) ≡ t.span
 span_marked table text t = at t.lexeme
   where
-    at : (l : _) → span_of (plain.marked_as table t.span (Rattle.nl_decl.specs.Texts.lexeme_as text t l)) ≡ t.span
+    at : (l : _) → span_of (plain.marked_as table t.span (Rattle.nl_text.specs.Texts.lexeme_as text t l)) ≡ t.span
     at scanned.Word = refl
     at (scanned.Number n) = refl
     at scanned.Text = refl
@@ -108,7 +109,7 @@ good_text f names table text ts e s t known K q r h =
     (taken_text f names known K (marked table (whole text ts e)) t all, h)
 
 -- what stops at a token of the whole text
-refused_by : (f : Form) (names : List (List ℕ)) (table : List Term) (w : List plain.Token) (k : ℕ) (z : State) (t : plain.Token) (kind : BodyKind) → HasWords table → k < length w → reading_to f names table w k ≡ go z → least_depth z ≤ deepest → slice_get w k ≡ Some t → Stops z (mark table t) (kind_of kind) → IsTextFault f names table w k (kind_of kind)
+refused_by : (f : Form) (names : List (List ℕ)) (table : List Term) (w : List plain.Token) (k : ℕ) (z : State) (t : plain.Token) (kind : BodyKind) → HasWords table → k < length w → reading_to f names table w k ≡ go z → least_depth z ≤ deepest → slice_get w k ≡ Some t → Stops z (mark table t) kind → IsTextFault f names table w k kind
 refused_by f names table w k z t BodyKind.TooDeep words within q small at (y, (go_y, deep)) = (faults_are_told f names table w k z t words within q small at).1 y go_y deep
 refused_by f names table w k z t BodyKind.UnknownName words within q small at (stops, kind) = subst (IsTextFault f names table w k) kind ((faults_are_told f names table w k z t words within q small at).0 stops)
 refused_by f names table w k z t BodyKind.Unexpected words within q small at (stops, kind) = subst (IsTextFault f names table w k) kind ((faults_are_told f names table w k z t words within q small at).0 stops)
@@ -137,4 +138,4 @@ refused_end f names table text ts e s (BodyRefusal.Fault kind k) words q small (
     let z = start f names (first_span ts e) in
     let (there, within) = token_end text ts e in
     let here : reading_to f names table (whole text ts e) (length ts) ≡ go s = reading_within f names table text ts e (length ts) (omega arith) ∙ ap (run_from (go z)) (all_toks table text ts (length ts) (omega arith)) ∙ q in
-    subst (λ n. IsTextFault f names table (whole text ts e) n (kind_of kind)) (sym at) (refused_by f names table (whole text ts e) (length ts) s (ends_at e) kind words within here small there stops)
+    subst (λ n. IsTextFault f names table (whole text ts e) n kind) (sym at) (refused_by f names table (whole text ts e) (length ts) s (ends_at e) kind words within here small there stops)

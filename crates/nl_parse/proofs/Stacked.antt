@@ -1,18 +1,22 @@
 -- Steps that turn on the top of the machine's stack.
-use Rattle.std.proofs.Common.{◌≡◌, ℕ, suc, true, false, List, ◌∷◌, refl}
+use Rattle.std.proofs.Common.{◌≡◌, ℕ, suc, true, false, List, [], ◌∷◌, refl}
 use Rattle.nl_fixed.specs.declared.span.Span.{Span}
 use Rattle.nl_tree.specs.Tree.{Node, Nodes, node, none, more}
 use Rattle.nl_tree.specs.declared.tree.Label.TheVariants as label
-use Rattle.nl_parse.specs.Limit.{is_one}
-use Rattle.nl_tree.specs.Tokens.{Need}
-use Rattle.nl_grammar.specs.Machine.{Shape, Literal, Have, closed, end_list, Frame, InNear, InMany, InOf, InList, InBracket, ThenItem, Begin, Listing, st, go, stop, next, begin_call, begin_many, begin_bracket, feed_of}
-use Rattle.nl_parse.specs.Asked.{more_sides, is_at_side, is_in_list}
+use Rattle.nl_reading.specs.inner.Limit.{is_one}
+use Rattle.nl_tree.specs.Tokens.{Tok, word, open_paren}
+use Rattle.nl_tree.specs.declared.needs.Need.{Need}
+use Rattle.nl_grammar.specs.declared.pending.Shape.{Shape}
+use Rattle.nl_grammar.specs.declared.pending.Shape.TheVariants.{Literal}
+use Rattle.nl_grammar.specs.declared.pending.Last.TheVariants as lasts
+use Rattle.nl_grammar.specs.Machine.{Have, closed, end_list, Frame, InNear, InMany, InOf, InList, InBracket, Begin, Listing, st, go, stop, next, begin_call, begin_many, begin_bracket, feed_of, InStatements, InStatementParen, begins_statement, feed_statement, feed_stating, got, settle}
+use Rattle.nl_parse.specs.inner.Asked.{more_sides, is_at_side, is_in_list, is_stating, ends_newest}
 
 pub no_call : (w : List ℕ) (s : Span) (is : List Need) (e : List (List ℕ)) (K : List Frame) → more_sides K ≡ true → begin_call w s is e K ≡ stop
 no_call w s is e (InNear v r ts (suc n) ∷ K) h = refl
 no_call w s is e K h = cc h
 
-pub a_call : (w : List ℕ) (s : Span) (is : List Need) (e : List (List ℕ)) (K : List Frame) → more_sides K ≡ false → begin_call w s is e K ≡ go (next w s none is ThenItem e K)
+pub a_call : (w : List ℕ) (s : Span) (is : List Need) (e : List (List ℕ)) (K : List Frame) → more_sides K ≡ false → begin_call w s is e K ≡ go (next w s none is lasts.Item e K)
 a_call w s is e (InNear v r ts (suc n) ∷ K) h = cc h
 a_call w s is e K h = refl
 
@@ -50,3 +54,27 @@ pub no_block : (w : List ℕ) (s r : Span) (ts : Nodes) (e : List (List ℕ)) (K
 no_block w s r none e K h = refl
 no_block w s r (more t none) e K h = cc h
 no_block w s r (more t (more u ts)) e K h = refl
+
+-- Statements.
+
+pub not_stating : (e : List (List ℕ)) (K : List Frame) (tok : Tok) → is_stating K ≡ false → feed_stating e K tok ≡ stop
+not_stating e (InStatements s k before ts ∷ K) tok h = cc h
+not_stating e (InStatementParen s ∷ K) tok h = cc h
+not_stating e K tok h = refl
+
+pub a_statement : (e : List (List ℕ)) (K : List Frame) (tok : Tok) → is_stating K ≡ true → begins_statement tok ≡ true → feed_stating e K tok ≡ feed_statement e K tok
+a_statement e (InStatements s k before ts ∷ K) (word w c r) h b = refl
+a_statement e (InStatements s k before ts ∷ K) (open_paren r) h b = refl
+a_statement e (InStatements s k before ts ∷ K) tok h b = cc b
+a_statement e (InStatementParen s ∷ K) tok h b = refl
+a_statement e K tok h b = cc h
+
+pub no_statement : (e : List (List ℕ)) (K : List Frame) (tok : Tok) → begins_statement tok ≡ false → feed_statement e K tok ≡ stop
+no_statement e K (word w c r) h = cc h
+no_statement e K (open_paren r) h = cc h
+no_statement e K tok h = refl
+
+-- an operator ends nothing more
+pub nothing_ends : (l : ℕ) (x : Shape) (t : Node) (K : List Frame) → ends_newest l K ≡ false → settle l x t K ≡ got x t K
+nothing_ends l x t [] h = refl
+nothing_ends l x t (f ∷ K) h = rw (h, settle) refl

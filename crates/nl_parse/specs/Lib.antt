@@ -1,9 +1,2 @@
-pub mod Around
-pub mod Asked
-pub mod Counts
-pub mod Limit
-pub mod NodesCode
 pub mod Outcome
-pub mod Reading
-pub mod State
-pub mod View
+pub mod inner

@@ -1,30 +1,32 @@
 //! Tokens where an expression begins.
 ghost use Rattle.std.specs.Prelude.{◌≡◌, ◌∷◌, ℕ, List, OnOk};
+ghost use Rattle.nl_fixed.specs.Nouns.{Names};
 ghost use Rattle.std.specs.Result.{IsErrOf};
 ghost use Rattle.nl_tree.specs.Vocabulary.{among};
 ghost use Rattle.nl_grammar.specs.Machine.{go, stop, feed_begin, feed_local, begin_call, begin_many, begin_minus, begin_bracket, end_bracket, end_many, closed, InMany};
 ghost use Rattle.nl_grammar.specs.Machine as M;
 ghost use Rattle.nl_parse.specs.declared.reader.Refusal.TheVariants.{Unexpected};
-ghost use Rattle.nl_parse.specs.View.{class_of, mark_of, needs_of};
-ghost use Rattle.nl_parse.specs.State.{stack_of, names_of, state_of};
-ghost use Rattle.nl_parse.specs.Reading.{frame_of, shape_of};
-ghost use Rattle.nl_parse.specs.Asked.{more_sides};
+ghost use Rattle.nl_reading.specs.inner.View.{class_of, mark_of, needs_of};
+ghost use Rattle.nl_parse.specs.inner.State.{stack_of, names_of, state_of};
+ghost use Rattle.nl_parse.specs.inner.Steps.{Follows, Reaches};
+ghost use Rattle.nl_reading.specs.inner.Reading.{frame_of};
+ghost use Rattle.nl_parse.specs.inner.Asked.{more_sides};
 ghost use Rattle.nl_tree.specs.Tokens.{word};
 ghost use Rattle.nl_tree.specs.Grammar.{leaf};
 ghost use Rattle.nl_tree.specs.declared.tree.Label.TheVariants as label;
 
-use crate::frames::{Frame, Last, Mode, Shape};
-use crate::marks::{Class, Head, Inputs, Mark};
-use crate::parts::{Grouped, Grown};
 use crate::reader::{Reader, Refusal, refuse};
-use nl_fixed::Span;
+use nl_fixed::{NoMemory, Span};
+use nl_grammar::{Last, Shape};
+use nl_reading::frames::{Frame, Mode};
+use nl_reading::marks::{Class, Head, Inputs, Mark};
+use nl_reading::parts::{Grouped, Grown};
 use nl_tree::Label;
 
 impl<'a> Reader<'a> {
     /// A token where an expression begins.
     pub fn feed_begin(&mut self, mark: Mark) -> Result<(), Refusal>
-        ensures ok { OnOk result (feed_begin (names_of self.old) (stack_of self.old) (mark_of mark) ≡ go (state_of self.new)) }
-        ensures fault { IsErrOf result Unexpected → feed_begin (names_of self.old) (stack_of self.old) (mark_of mark) ≡ stop }
+        ensures { Follows result self.old self.new (λ e K. feed_begin e K (mark_of mark)) }
     {
         match mark {
             Mark::Number(number, place) => {
@@ -51,14 +53,23 @@ impl<'a> Reader<'a> {
 
     // A word where an expression begins.
     fn begin_word(&mut self, head: Head, class: Class) -> Result<(), Refusal>
-        ensures ok { OnOk result (feed_begin (names_of self.old) (stack_of self.old) (word head.name (class_of class) head.place) ≡ go (state_of self.new)) }
-        ensures fault { IsErrOf result Unexpected → feed_begin (names_of self.old) (stack_of self.old) (word head.name (class_of class) head.place) ≡ stop }
+        ensures { Follows result self.old self.new
+            (λ e K. feed_begin e K (word head.name (class_of class) head.place)) }
     {
         match class {
             Class::Unknown => self.begin_local(head),
-            Class::Constant => self.begin_leaf(head, Shape::Literal),
-            Class::Plain => self.begin_leaf(head, Shape::Fixed),
-            Class::Named => self.begin_leaf(head, Shape::Fixed),
+            Class::Constant => {
+                self.begin_leaf(head, Shape::Literal)?;
+                Ok(())
+            }
+            Class::Plain => {
+                self.begin_leaf(head, Shape::Fixed)?;
+                Ok(())
+            }
+            Class::Named => {
+                self.begin_leaf(head, Shape::Fixed)?;
+                Ok(())
+            }
             Class::Prefix(inputs) => self.begin_call(head, inputs),
             Class::Many(others) => self.begin_many(head, others),
             Class::Closing(inputs, block) => {
@@ -72,31 +83,31 @@ impl<'a> Reader<'a> {
     }
 
     // A word that is an expression by itself.
-    fn begin_leaf(&mut self, head: Head, shape: Shape) -> Result<(), Refusal>
-        ensures ok { OnOk result (go (closed (shape_of shape) (leaf (label.Named head.name) head.place) (names_of self.old) (stack_of self.old)) ≡ go (state_of self.new)) }
-        ensures fault { IsErrOf result Unexpected → ⊥ }
+    fn begin_leaf(&mut self, head: Head, shape: Shape) -> Result<(), NoMemory>
+        ensures { Reaches result self.old self.new
+            (closed shape (leaf (label.Named head.name) head.place)) }
     {
         let tree = Grown::leaf(self.alloc, Label::Named(head.name), head.place);
-        self.closed(shape, tree)?;
-        Ok(())
+        self.closed(shape, tree)
     }
 
     // A word that has no row.
     fn begin_local(&mut self, head: Head) -> Result<(), Refusal>
-        ensures ok { OnOk result (feed_local (among head.name (names_of self.old)) head.name head.place (names_of self.old) (stack_of self.old) ≡ go (state_of self.new)) }
-        ensures fault { IsErrOf result Unexpected → feed_local (among head.name (names_of self.old)) head.name head.place (names_of self.old) (stack_of self.old) ≡ stop }
+        ensures { Follows result self.old self.new
+            (λ e K. feed_local (among head.name e) head.name head.place e K) }
     {
         if !self.knows(head.name.as_bytes()) {
             return Err(Refusal::Unexpected);
         }
-        self.begin_leaf(head, Shape::Fixed)
+        self.begin_leaf(head, Shape::Fixed)?;
+        Ok(())
     }
 
     // A call whose last input is an item.
     #[tactic(auto, using(crate::proofs::Stacked::no_call, crate::proofs::Stacked::a_call))]
     fn begin_call(&mut self, head: Head, inputs: Inputs) -> Result<(), Refusal>
-        ensures ok { OnOk result (begin_call head.name head.place (needs_of inputs) (names_of self.old) (stack_of self.old) ≡ go (state_of self.new)) }
-        ensures fault { IsErrOf result Unexpected → begin_call head.name head.place (needs_of inputs) (names_of self.old) (stack_of self.old) ≡ stop }
+        ensures { Follows result self.old self.new
+            (begin_call head.name head.place (needs_of inputs)) }
     {
         if self.has_more_sides() {
             return Err(Refusal::Unexpected);
@@ -109,8 +120,7 @@ impl<'a> Reader<'a> {
     // A call of any number of items.
     #[tactic(auto, using(crate::proofs::Stacked::no_many, crate::proofs::Stacked::a_many))]
     fn begin_many(&mut self, head: Head, others: u64) -> Result<(), Refusal>
-        ensures ok { OnOk result (begin_many head.name head.place others (names_of self.old) (stack_of self.old) ≡ go (state_of self.new)) }
-        ensures fault { IsErrOf result Unexpected → begin_many head.name head.place others (names_of self.old) (stack_of self.old) ≡ stop }
+        ensures { Follows result self.old self.new (begin_many head.name head.place others) }
     {
         if self.has_more_sides() {
             return Err(Refusal::Unexpected);
@@ -132,8 +142,7 @@ impl<'a> Reader<'a> {
 
     // An operator, which is a negation where it is the minus sign and opens parentheses.
     fn begin_minus(&mut self, place: Span, minus: bool) -> Result<(), Refusal>
-        ensures ok { OnOk result (begin_minus minus place (names_of self.old) (stack_of self.old) ≡ go (state_of self.new)) }
-        ensures fault { IsErrOf result Unexpected → begin_minus minus place (names_of self.old) (stack_of self.old) ≡ stop }
+        ensures { Follows result self.old self.new (begin_minus minus place) }
     {
         if !minus {
             return Err(Refusal::Unexpected);
@@ -150,8 +159,7 @@ impl<'a> Reader<'a> {
     // A bracket: a literal list where a right side begins, since that has no block.
     #[tactic(auto, using(crate::proofs::Stacked::a_list, crate::proofs::Stacked::a_bracket))]
     fn begin_bracket(&mut self, place: Span) -> Result<(), Refusal>
-        ensures ok { OnOk result (begin_bracket place (names_of self.old) (stack_of self.old) ≡ go (state_of self.new)) }
-        ensures fault { IsErrOf result Unexpected → begin_bracket place (names_of self.old) (stack_of self.old) ≡ stop }
+        ensures { Follows result self.old self.new (begin_bracket place) }
     {
         if self.is_at_side() {
             let none = Grouped::new(self.alloc);
@@ -164,8 +172,7 @@ impl<'a> Reader<'a> {
 
     // A closing bracket, which ends a list in which nothing is.
     fn end_bracket(&mut self) -> Result<(), Refusal>
-        ensures ok { OnOk result (end_bracket (names_of self.old) (stack_of self.old) ≡ go (state_of self.new)) }
-        ensures fault { IsErrOf result Unexpected → end_bracket (names_of self.old) (stack_of self.old) ≡ stop }
+        ensures { Follows result self.old self.new end_bracket }
     {
         match self.take() {
             Some(Frame::Bracket(place)) => {
@@ -179,8 +186,7 @@ impl<'a> Reader<'a> {
 
     // A closing parenthesis, which ends a call of any number of items.
     fn end_many(&mut self) -> Result<(), Refusal>
-        ensures ok { OnOk result (end_many (names_of self.old) (stack_of self.old) ≡ go (state_of self.new)) }
-        ensures fault { IsErrOf result Unexpected → end_many (names_of self.old) (stack_of self.old) ≡ stop }
+        ensures { Follows result self.old self.new end_many }
     {
         match self.take() {
             Some(Frame::Items(bracket, label, place, items)) => {
@@ -196,8 +202,8 @@ impl<'a> Reader<'a> {
 
     // A closing parenthesis behind less than a call's usual number of items.
     fn end_usual(&mut self, head: Head, items: Grouped) -> Result<(), Refusal>
-        ensures ok { (n : ℕ) → OnOk result (end_many (names_of self.old) (InMany head.name head.place items n ∷ stack_of self.old) ≡ go (state_of self.new)) }
-        ensures fault { (n : ℕ) → IsErrOf result Unexpected → end_many (names_of self.old) (InMany head.name head.place items n ∷ stack_of self.old) ≡ stop }
+        ensures { (n : ℕ) → Follows result self.old self.new
+            (λ e K. end_many e (InMany head.name head.place items n ∷ K)) }
     {
         match self.take() {
             Some(Frame::Paren(bracket)) => {
@@ -213,7 +219,7 @@ impl<'a> Reader<'a> {
 
 // Whether the frame is that of a right side that others follow.
 fn is_more_sides(frame: &Frame) -> bool
-    ensures { (e : List (List ℕ)) (below : List M.Frame) → result ≡ more_sides (frame_of e frame.now ∷ below) }
+    ensures { (e : Names) (below : List M.Frame) → result ≡ more_sides (frame_of e frame.now ∷ below) }
 {
     match frame {
         Frame::Near(_, _, others) => *others > 0,

@@ -1,7 +1,8 @@
 //! The reader of one text.
 ghost use Rattle.std.specs.Prelude.{◌≡◌, ℕ, List, [], ◌∷◌, ◌+◌, ◌++◌, ◌≤◌, OnOk, IfOk, IfErr, IfSome, IfNone, All, length};
+ghost use Rattle.nl_fixed.specs.Nouns.{Names};
 ghost use Rattle.nl_scan.specs.Tokens.{IsTokenOf};
-ghost use Rattle.nl_decl.specs.Texts.{plain_token, plain_tokens, word_at};
+ghost use Rattle.nl_text.specs.Texts.{plain_token, plain_tokens};
 ghost use Rattle.nl_tree.specs.Tree.{Node, depth};
 ghost use Rattle.nl_tree.specs.Tokens as T;
 ghost use Rattle.nl_grammar.specs.Machine as M;
@@ -13,33 +14,22 @@ ghost use Rattle.nl_tree.specs.BodyFault.{IsGood, ends_at, deepest};
 ghost use Rattle.nl_grammar.specs.Machine.{start, feed, go, st, Over, run_from};
 ghost use Rattle.nl_grammar.specs.Depth.{least_depth};
 ghost use Rattle.nl_tree.specs.declared.declared.Form.{Form};
-ghost use Rattle.nl_parse.specs.View.{mark_of};
-ghost use Rattle.nl_parse.specs.Outcome.{Refuses, StopsAt, StopsIn, first_span};
-ghost use Rattle.nl_parse.specs.Reading.{mode_of};
-ghost use Rattle.nl_parse.specs.State.{state_of};
+ghost use Rattle.nl_reading.specs.inner.View.{mark_of};
+ghost use Rattle.nl_parse.specs.Outcome.{Refuses};
+ghost use Rattle.nl_parse.specs.inner.Stops.{StopsAt, StopsIn, first_span};
+ghost use Rattle.nl_reading.specs.inner.Reading.{mode_of};
+ghost use Rattle.nl_parse.specs.inner.State.{state_of};
 
-use crate::classes::class_of_word;
-use crate::frames::{Ending, Frame, Mode};
-use crate::known_names::KnownNames;
-use crate::marks::{Head, Mark};
-use crate::parts::{Grouped, Grown, TOO_DEEP};
 use crate::reader::{Reader, Refusal};
-use nl_decl::word;
-use nl_fixed::{Names, NoMemory, Span, Str};
-use nl_scan::{Lexeme, Token, text_of};
-use nl_tree::{Declared, Form, Tree};
+use nl_fixed::{Names, NoMemory, Span};
+use nl_reading::classes::class_of_word;
+use nl_reading::frames::{Frame, Mode};
+use nl_reading::known_names::KnownNames;
+use nl_reading::marks::{Head, Mark};
+use nl_reading::parts::{Grouped, Grown, TOO_DEEP};
+use nl_scan::{Lexeme, Token, text_of, word_of};
+use nl_tree::{BodyKind, Declared, Ending, Form, Tree, word};
 use std::alloc::Global;
-
-/// What is wrong with a text.
-#[derive(Clone, Copy, Debug, PartialEq, Eq)]
-pub enum BodyKind {
-    /// A word that has no row and is no known local or input.
-    UnknownName,
-    /// A token that can't follow those before it.
-    Unexpected,
-    /// The tokens can still be read, but only as a tree of more than 200 levels.
-    TooDeep,
-}
 
 /// Why a text isn't read: its first fault with the place of the token with which it can no longer be good, or want of memory.
 ///
@@ -76,8 +66,12 @@ pub fn read_body(
 ) -> Result<Tree, BodyRefusal>
     requires declared { IsDeclared declared.now }
     requires tokens { All (IsTokenOf text.now) tokens.now }
-    ensures ok { IfOk result (λ tree. IsGood form inputs.now (terms declared.now) (plain_tokens text.now tokens.now ++ ends_at end ∷ []) (plain tree)) }
-    ensures fault { IfErr result (Refuses form inputs.now (terms declared.now) (plain_tokens text.now tokens.now ++ ends_at end ∷ [])) }
+    ensures ok { IfOk result (λ tree.
+        IsGood form inputs.now (terms declared.now)
+        (plain_tokens text.now tokens.now ++ ends_at end ∷ []) (plain tree)) }
+    ensures fault { IfErr result
+        (Refuses form inputs.now (terms declared.now)
+        (plain_tokens text.now tokens.now ++ ends_at end ∷ [])) }
 {
     let inputs = KnownNames::of(alloc, inputs.as_slice())?;
     let mut reader = begin(alloc, form, &inputs, first_place(tokens, end))?;
@@ -133,8 +127,16 @@ impl<'a> Reader<'a> {
         requires declared { IsDeclared declared.now }
         requires tokens { All (IsTokenOf text.now) tokens.now }
         requires allowed { least_depth (state_of self.old) ≤ deepest }
-        ensures ok { (form : Form) (names : List (List ℕ)) → state_of self.old ≡ start form names (first_span tokens.now end) → IfOk result (λ tree. IsGood form names (terms declared.now) (plain_tokens text.now tokens.now ++ ends_at end ∷ []) (plain tree)) }
-        ensures fault { (form : Form) (names : List (List ℕ)) → state_of self.old ≡ start form names (first_span tokens.now end) → IfErr result (Refuses form names (terms declared.now) (plain_tokens text.now tokens.now ++ ends_at end ∷ [])) }
+        ensures ok { (form : Form) (names : Names) →
+            state_of self.old ≡ start form names (first_span tokens.now end) →
+            IfOk result (λ tree.
+            IsGood form names (terms declared.now)
+            (plain_tokens text.now tokens.now ++ ends_at end ∷ []) (plain tree)) }
+        ensures fault { (form : Form) (names : Names) →
+            state_of self.old ≡ start form names (first_span tokens.now end) →
+            IfErr result
+            (Refuses form names (terms declared.now)
+            (plain_tokens text.now tokens.now ++ ends_at end ∷ [])) }
     {
         if let Err(refusal) = self.read_tokens(text, tokens, declared) {
             return Err(refusal);
@@ -152,7 +154,10 @@ impl<'a> Reader<'a> {
         requires declared { IsDeclared declared.now }
         requires tokens { All (IsTokenOf text.now) tokens.now }
         requires allowed { least_depth (state_of self.old) ≤ deepest }
-        ensures ok { OnOk result (run_from (go (state_of self.old)) (marked (terms declared.now) (plain_tokens text.now tokens.now)) ≡ go (state_of self.new)) }
+        ensures ok { OnOk result
+            (run_from (go (state_of self.old))
+            (marked (terms declared.now) (plain_tokens text.now tokens.now))
+            ≡ go (state_of self.new)) }
         ensures allowed { OnOk result (least_depth (state_of self.new) ≤ deepest) }
         ensures fault { IfErr result (StopsIn (terms declared.now) text.now (state_of self.old) tokens.now) }
     {
@@ -186,7 +191,10 @@ impl<'a> Reader<'a> {
 
     // Goes over what ends the text, and gives the tree.
     fn finish(&mut self, end: Span, place: usize) -> Result<Tree, BodyRefusal>
-        ensures ok { IfOk result (λ tree. (e : List (List ℕ)) × (K : List M.Frame) × ((feed (state_of self.old) (T.end end) ≡ go (st (Over (plain tree)) e K)) × (depth (plain tree) ≤ deepest))) }
+        ensures ok { IfOk result (λ tree.
+            (e : Names) × (K : List M.Frame)
+            × ((feed (state_of self.old) (T.end end) ≡ go (st (Over (plain tree)) e K))
+            × (depth (plain tree) ≤ deepest))) }
         ensures fault { IfErr result (StopsAt (state_of self.old) (T.end end) place) }
     {
         if let Err(refusal) = self.step(place, Mark::End(end)) {
@@ -214,12 +222,13 @@ impl<'a> Reader<'a> {
 fn mark_at(alloc: Global, text: &[u8], token: &Token, declared: &Declared) -> Result<Mark, NoMemory>
     requires declared { IsDeclared declared.now }
     requires token { IsTokenOf text.now token.now }
-    ensures { IfOk result (λ made. mark_of made ≡ mark (terms declared.now) (plain_token text.now token.now)) }
+    ensures { IfOk result (λ made.
+        mark_of made ≡ mark (terms declared.now) (plain_token text.now token.now)) }
 {
     let span = token.span;
     match token.lexeme {
         Lexeme::Word => {
-            let name = name_at(alloc, text, span)?;
+            let name = word_of(alloc, text, token)?;
             let class = class_of_word(name.as_bytes(), word(declared, name.as_bytes()));
             Ok(Mark::Word(Head { name, place: span }, class))
         }
@@ -230,14 +239,4 @@ fn mark_at(alloc: Global, text: &[u8], token: &Token, declared: &Declared) -> Re
         Lexeme::OpenParen => Ok(Mark::OpenParen(span)),
         Lexeme::CloseParen => Ok(Mark::CloseParen(span)),
     }
-}
-
-// The word at a place, in lower case.
-fn name_at(alloc: Global, text: &[u8], place: Span) -> Result<Str, NoMemory>
-    requires { place.start + place.len ≤ length text.now }
-    ensures { IfOk result (λ name. name ≡ word_at text.now place) }
-{
-    let start = place.start as usize;
-    let end = start + place.len as usize;
-    Ok(Str::of_vec(text[start..end].to_ascii_lowercase(alloc)?))
 }

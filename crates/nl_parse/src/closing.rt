@@ -1,24 +1,28 @@
 //! Tokens behind what is at hand, and those of lists.
 ghost use Rattle.std.specs.Prelude.{◌≡◌, ℕ, List, [], ◌∷◌, OnOk};
+ghost use Rattle.nl_fixed.specs.Nouns.{Names};
 ghost use Rattle.nl_tree.specs.Grammar.{leaf, and_last};
 ghost use Rattle.nl_tree.specs.Tokens.{Tok, close_paren, word};
 ghost use Rattle.std.specs.Result.{IsErrOf};
 ghost use Rattle.nl_grammar.specs.Machine.{go, stop, feed_blocked, feed_items, feed_listing, feed_bracket, feed_paren, feed_minus, feed_reporter, feed_whole, feed_shut, feed_ended, st, Listing, InList};
 ghost use Rattle.nl_parse.specs.declared.reader.Refusal.TheVariants.{Unexpected};
-ghost use Rattle.nl_parse.specs.Asked.{feed_more};
-ghost use Rattle.nl_parse.specs.Around.{shut_in};
+ghost use Rattle.nl_parse.specs.inner.Asked.{feed_more};
+ghost use Rattle.nl_parse.specs.inner.Around.{shut_in};
 ghost use Rattle.nl_parse.specs.declared.closing.Around.TheVariants as Around;
 ghost use Rattle.nl_grammar.specs.Machine as M;
+ghost use Rattle.nl_grammar.specs.declared.pending.Shape.{Shape};
 ghost use Rattle.nl_tree.specs.Tree.{Node};
-ghost use Rattle.nl_parse.specs.View.{class_of, mark_of};
-ghost use Rattle.nl_parse.specs.Reading.{frame_of, names_with, shape_of, maybe_over};
-ghost use Rattle.nl_parse.specs.State.{stack_of, names_of, state_of};
+ghost use Rattle.nl_reading.specs.inner.View.{class_of, mark_of};
+ghost use Rattle.nl_reading.specs.inner.Reading.{frame_of, names_with, maybe_over};
+ghost use Rattle.nl_parse.specs.inner.State.{stack_of, names_of, state_of};
+ghost use Rattle.nl_parse.specs.inner.Steps.{Follows, Reaches};
 
-use crate::frames::{Frame, Mode, Shape};
-use crate::marks::{Class, Head, Mark};
-use crate::parts::{Grouped, Grown};
 use crate::reader::{Reader, Refusal, refuse};
 use nl_fixed::{NoMemory, Span, Str};
+use nl_grammar::Shape;
+use nl_reading::frames::{Frame, Mode};
+use nl_reading::marks::{Class, Head, Mark};
+use nl_reading::parts::{Grouped, Grown};
 use nl_tree::Label;
 
 /// What stands around an expression that is over.
@@ -36,7 +40,9 @@ enum Around {
 
 // What a frame is around an expression.
 fn what_is(frame: &Frame) -> Around
-    ensures shut { (x : M.Shape) (t : Node) (tok : Tok) (e : List (List ℕ)) (below : List M.Frame) → feed_shut x t (names_with frame.now e) (frame_of e frame.now ∷ below) tok ≡ shut_in result x t e below tok }
+    ensures shut { (x : Shape) (t : Node) (tok : Tok) (e : Names) (below : List M.Frame) →
+        feed_shut x t (names_with frame.now e) (frame_of e frame.now ∷ below) tok
+        ≡ shut_in result x t e below tok }
     ensures something { result ≡ Around.Nothing → ⊥ }
 {
     match frame {
@@ -51,8 +57,7 @@ fn what_is(frame: &Frame) -> Around
 impl<'a> Reader<'a> {
     /// A token behind a block, which is `of`.
     pub fn feed_blocked(&mut self, block: Grown, mark: Mark) -> Result<(), Refusal>
-        ensures ok { OnOk result (feed_blocked block (names_of self.old) (stack_of self.old) (mark_of mark) ≡ go (state_of self.new)) }
-        ensures fault { IsErrOf result Unexpected → feed_blocked block (names_of self.old) (stack_of self.old) (mark_of mark) ≡ stop }
+        ensures { Follows result self.old self.new (λ e K. feed_blocked block e K (mark_of mark)) }
     {
         match mark {
             Mark::Word(head, class) => self.begin_of(block, head, class),
@@ -62,8 +67,8 @@ impl<'a> Reader<'a> {
 
     // A word behind a block.
     fn begin_of(&mut self, block: Grown, head: Head, class: Class) -> Result<(), Refusal>
-        ensures ok { OnOk result (feed_blocked block (names_of self.old) (stack_of self.old) (word head.name (class_of class) head.place) ≡ go (state_of self.new)) }
-        ensures fault { IsErrOf result Unexpected → feed_blocked block (names_of self.old) (stack_of self.old) (word head.name (class_of class) head.place) ≡ stop }
+        ensures { Follows result self.old self.new
+            (λ e K. feed_blocked block e K (word head.name (class_of class) head.place)) }
     {
         match class {
             Class::Of => {
@@ -76,8 +81,8 @@ impl<'a> Reader<'a> {
 
     /// A token behind the items of a literal list.
     fn feed_items(&mut self, bracket: Span, items: Grouped, mark: Mark) -> Result<(), Refusal>
-        ensures ok { OnOk result (feed_items bracket items (names_of self.old) (stack_of self.old) (mark_of mark) ≡ go (state_of self.new)) }
-        ensures fault { IsErrOf result Unexpected → feed_items bracket items (names_of self.old) (stack_of self.old) (mark_of mark) ≡ stop }
+        ensures { Follows result self.old self.new
+            (λ e K. feed_items bracket items e K (mark_of mark)) }
     {
         match mark {
             Mark::Number(number, place) => {
@@ -111,8 +116,8 @@ impl<'a> Reader<'a> {
         head: Head,
         class: Class,
     ) -> Result<(), Refusal>
-        ensures ok { OnOk result (feed_items bracket items (names_of self.old) (stack_of self.old) (word head.name (class_of class) head.place) ≡ go (state_of self.new)) }
-        ensures fault { IsErrOf result Unexpected → feed_items bracket items (names_of self.old) (stack_of self.old) (word head.name (class_of class) head.place) ≡ stop }
+        ensures { Follows result self.old self.new
+            (λ e K. feed_items bracket items e K (word head.name (class_of class) head.place)) }
     {
         match class {
             Class::Constant => {
@@ -131,7 +136,8 @@ impl<'a> Reader<'a> {
         label: Label,
         place: Span,
     ) -> Result<(), NoMemory>
-        ensures { OnOk result (state_of self.new ≡ st Listing (names_of self.old) (InList bracket (and_last items (leaf label place)) ∷ stack_of self.old)) }
+        ensures { Reaches result self.old self.new
+            (λ e K. st Listing e (InList bracket (and_last items (leaf label place)) ∷ K)) }
     {
         let mut items = items;
         items.add(self.alloc, Grown::leaf(self.alloc, label, place))?;
@@ -140,8 +146,7 @@ impl<'a> Reader<'a> {
 
     /// A token in a literal list.
     pub fn feed_listing(&mut self, mark: Mark) -> Result<(), Refusal>
-        ensures ok { OnOk result (feed_listing (names_of self.old) (stack_of self.old) (mark_of mark) ≡ go (state_of self.new)) }
-        ensures fault { IsErrOf result Unexpected → feed_listing (names_of self.old) (stack_of self.old) (mark_of mark) ≡ stop }
+        ensures { Follows result self.old self.new (λ e K. feed_listing e K (mark_of mark)) }
     {
         match self.take() {
             Some(Frame::List(bracket, items)) => self.feed_items(bracket, items, mark),
@@ -151,8 +156,8 @@ impl<'a> Reader<'a> {
 
     /// A token behind an expression, which closes it.
     pub fn feed_shut(&mut self, shape: Shape, tree: Grown, mark: Mark) -> Result<(), Refusal>
-        ensures ok { OnOk result (feed_shut (shape_of shape) tree (names_of self.old) (stack_of self.old) (mark_of mark) ≡ go (state_of self.new)) }
-        ensures fault { IsErrOf result Unexpected → feed_shut (shape_of shape) tree (names_of self.old) (stack_of self.old) (mark_of mark) ≡ stop }
+        ensures { Follows result self.old self.new
+            (λ e K. feed_shut shape tree e K (mark_of mark)) }
     {
         match self.take_around() {
             Around::Paren(bracket) => self.feed_paren(shape, tree, bracket, mark),
@@ -166,7 +171,9 @@ impl<'a> Reader<'a> {
 
     // Takes what stands around an expression.
     fn take_around(&mut self) -> Around
-        ensures shut { (x : M.Shape) (t : Node) (tok : Tok) → feed_shut x t (names_of self.old) (stack_of self.old) tok ≡ shut_in result x t (names_of self.new) (stack_of self.new) tok }
+        ensures shut { (x : Shape) (t : Node) (tok : Tok) →
+            feed_shut x t (names_of self.old) (stack_of self.old) tok
+            ≡ shut_in result x t (names_of self.new) (stack_of self.new) tok }
         ensures nothing { result ≡ Around.Nothing → stack_of self.new ≡ [] }
     {
         match self.take() {
@@ -183,8 +190,8 @@ impl<'a> Reader<'a> {
         bracket: Span,
         mark: Mark,
     ) -> Result<(), Refusal>
-        ensures ok { OnOk result (feed_bracket (shape_of shape) tree bracket (names_of self.old) (stack_of self.old) (mark_of mark) ≡ go (state_of self.new)) }
-        ensures fault { IsErrOf result Unexpected → feed_bracket (shape_of shape) tree bracket (names_of self.old) (stack_of self.old) (mark_of mark) ≡ stop }
+        ensures { Follows result self.old self.new
+            (λ e K. feed_bracket shape tree bracket e K (mark_of mark)) }
     {
         if let Shape::Literal = shape {
             let items = Grouped::of(self.alloc, tree)?;
@@ -208,8 +215,8 @@ impl<'a> Reader<'a> {
         bracket: Span,
         mark: Mark,
     ) -> Result<(), Refusal>
-        ensures ok { OnOk result (feed_paren (shape_of shape) tree bracket (names_of self.old) (stack_of self.old) (mark_of mark) ≡ go (state_of self.new)) }
-        ensures fault { IsErrOf result Unexpected → feed_paren (shape_of shape) tree bracket (names_of self.old) (stack_of self.old) (mark_of mark) ≡ stop }
+        ensures { Follows result self.old self.new
+            (λ e K. feed_paren shape tree bracket e K (mark_of mark)) }
     {
         match mark {
             Mark::CloseParen(_) => {
@@ -229,8 +236,8 @@ impl<'a> Reader<'a> {
         bracket: Span,
         mark: Mark,
     ) -> Result<(), Refusal>
-        ensures ok { OnOk result (feed_more (shape_of shape) tree bracket (names_of self.old) (stack_of self.old) (mark_of mark) ≡ go (state_of self.new)) }
-        ensures fault { IsErrOf result Unexpected → feed_more (shape_of shape) tree bracket (names_of self.old) (stack_of self.old) (mark_of mark) ≡ stop }
+        ensures { Follows result self.old self.new
+            (λ e K. feed_more shape tree bracket e K (mark_of mark)) }
     {
         if let Shape::Growing = shape {
             let (label, place, items) = tree.taken_apart();
@@ -248,8 +255,8 @@ impl<'a> Reader<'a> {
         place: Span,
         mark: Mark,
     ) -> Result<(), Refusal>
-        ensures ok { OnOk result (feed_minus tree bracket place (names_of self.old) (stack_of self.old) (mark_of mark) ≡ go (state_of self.new)) }
-        ensures fault { IsErrOf result Unexpected → feed_minus tree bracket place (names_of self.old) (stack_of self.old) (mark_of mark) ≡ stop }
+        ensures { Follows result self.old self.new
+            (λ e K. feed_minus tree bracket place e K (mark_of mark)) }
     {
         match mark {
             Mark::CloseParen(_) => {
@@ -264,8 +271,8 @@ impl<'a> Reader<'a> {
 
     // A token behind the expression of a block.
     fn feed_reporter(&mut self, tree: Grown, bracket: Span, mark: Mark) -> Result<(), Refusal>
-        ensures ok { OnOk result (feed_reporter tree bracket (names_of self.old) (stack_of self.old) (mark_of mark) ≡ go (state_of self.new)) }
-        ensures fault { IsErrOf result Unexpected → feed_reporter tree bracket (names_of self.old) (stack_of self.old) (mark_of mark) ≡ stop }
+        ensures { Follows result self.old self.new
+            (λ e K. feed_reporter tree bracket e K (mark_of mark)) }
     {
         match mark {
             Mark::CloseBracket(_) => {
@@ -280,8 +287,7 @@ impl<'a> Reader<'a> {
     // A token behind the expression of a whole text, where nothing is open.
     fn feed_whole(&mut self, tree: Grown, mark: Mark) -> Result<(), Refusal>
         requires { stack_of self.old ≡ [] }
-        ensures ok { OnOk result (feed_whole tree (names_of self.old) (mark_of mark) ≡ go (state_of self.new)) }
-        ensures fault { IsErrOf result Unexpected → feed_whole tree (names_of self.old) (mark_of mark) ≡ stop }
+        ensures { Follows result self.old self.new (λ e K. feed_whole tree e (mark_of mark)) }
     {
         match mark {
             Mark::End(_) => {
@@ -294,8 +300,8 @@ impl<'a> Reader<'a> {
 
     /// A token behind a statement in parentheses, which makes this name.
     pub fn feed_ended(&mut self, tree: Grown, made: Option<Str>, mark: Mark) -> Result<(), Refusal>
-        ensures ok { OnOk result (feed_ended tree (maybe_over made (names_of self.old)) (stack_of self.old) (mark_of mark) ≡ go (state_of self.new)) }
-        ensures fault { IsErrOf result Unexpected → feed_ended tree (maybe_over made (names_of self.old)) (stack_of self.old) (mark_of mark) ≡ stop }
+        ensures { Follows result self.old self.new
+            (λ e K. feed_ended tree (maybe_over made e) K (mark_of mark)) }
     {
         match mark {
             Mark::CloseParen(place) => self.close_statement(tree, made, place),
@@ -310,8 +316,8 @@ impl<'a> Reader<'a> {
         made: Option<Str>,
         place: Span,
     ) -> Result<(), Refusal>
-        ensures ok { OnOk result (feed_ended tree (maybe_over made (names_of self.old)) (stack_of self.old) (close_paren place) ≡ go (state_of self.new)) }
-        ensures fault { IsErrOf result Unexpected → feed_ended tree (maybe_over made (names_of self.old)) (stack_of self.old) (close_paren place) ≡ stop }
+        ensures { Follows result self.old self.new
+            (λ e K. feed_ended tree (maybe_over made e) K (close_paren place)) }
     {
         match self.take() {
             Some(Frame::StatementParen(bracket)) => {

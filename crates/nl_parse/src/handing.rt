@@ -1,22 +1,26 @@
 //! Trees handed to what waits for them.
 ghost use Rattle.std.specs.Prelude.{◌≡◌, ◌∷◌, OnOk, IfOk};
 ghost use Rattle.nl_grammar.specs.Machine.{end_statement, next, closed, supply, accept, end_list, settle, got, InMany, InNear};
-ghost use Rattle.nl_parse.specs.View.{needs_of};
-ghost use Rattle.nl_parse.specs.Reading.{last_of, shape_of, maybe_over};
-ghost use Rattle.nl_parse.specs.State.{stack_of, names_of, state_of};
+ghost use Rattle.nl_reading.specs.inner.View.{needs_of};
+ghost use Rattle.nl_reading.specs.inner.Reading.{maybe_over};
+ghost use Rattle.nl_parse.specs.inner.State.{stack_of, names_of, state_of};
+ghost use Rattle.nl_parse.specs.inner.Asked.{ends_newest};
+ghost use Rattle.nl_parse.specs.inner.Steps.{Reaches};
 
-use crate::frames::{Frame, Last, Mode, Shape, begin_mode, build, closes};
-use crate::marks::{Head, Inputs};
-use crate::parts::{Grouped, Grown};
 use crate::reader::Reader;
 use nl_fixed::{NoMemory, Str};
+use nl_grammar::{Last, Shape};
+use nl_reading::frames::{Frame, Mode, begin_mode, build, closes};
+use nl_reading::marks::{Head, Inputs};
+use nl_reading::parts::{Grouped, Grown};
 use nl_tree::Label;
 
 impl<'a> Reader<'a> {
     /// Ends a statement that makes this name.
-    #[tactic(auto, using(crate::proofs::Framed::made_push))]
+    #[tactic(auto, using(nl_reading::proofs::Framed::made_push))]
     pub fn end_statement(&mut self, tree: Grown, made: Option<Str>) -> Result<(), NoMemory>
-        ensures { OnOk result (state_of self.new ≡ end_statement tree (maybe_over made (names_of self.old)) (stack_of self.old)) }
+        ensures { Reaches result self.old self.new
+            (λ e K. end_statement tree (maybe_over made e) K) }
     {
         match self.take() {
             Some(Frame::Statements(bracket, ending, names, statements)) => {
@@ -49,7 +53,8 @@ impl<'a> Reader<'a> {
         rest: Inputs,
         last: Last,
     ) -> Result<(), NoMemory>
-        ensures { OnOk result (state_of self.new ≡ next head.name head.place inputs (needs_of rest) (last_of last) (names_of self.old) (stack_of self.old)) }
+        ensures { Reaches result self.old self.new
+            (next head.name head.place inputs (needs_of rest) last) }
     {
         match rest.split() {
             Some((need, rest)) => {
@@ -73,7 +78,7 @@ impl<'a> Reader<'a> {
     /// Hands what is closed to what waits for it.
     #[tactic(auto, using(crate::proofs::Stacked::at_hand))]
     pub fn closed(&mut self, shape: Shape, tree: Grown) -> Result<(), NoMemory>
-        ensures { OnOk result (state_of self.new ≡ closed (shape_of shape) tree (names_of self.old) (stack_of self.old)) }
+        ensures { Reaches result self.old self.new (closed shape tree) }
     {
         if !self.is_at_side() {
             self.turn(Mode::Have(shape, tree));
@@ -88,7 +93,7 @@ impl<'a> Reader<'a> {
     }
 
     // A right side of an operator that has so many more.
-    #[tactic(auto, using(crate::proofs::Needs::one_less))]
+    #[tactic(auto, using(nl_reading::proofs::Needs::one_less))]
     fn another_side(
         &mut self,
         head: Head,
@@ -97,7 +102,8 @@ impl<'a> Reader<'a> {
         shape: Shape,
         tree: Grown,
     ) -> Result<(), NoMemory>
-        ensures { OnOk result (state_of self.new ≡ closed (shape_of shape) tree (names_of self.old) (InNear head.name head.place sides others ∷ stack_of self.old)) }
+        ensures { Reaches result self.old self.new
+            (λ e K. closed shape tree e (InNear head.name head.place sides others ∷ K)) }
     {
         let mut sides = sides;
         sides.add(self.alloc, tree)?;
@@ -111,7 +117,7 @@ impl<'a> Reader<'a> {
 
     /// Hands a block, or a variable, to what waits for it.
     pub fn supply(&mut self, tree: Grown) -> Result<(), NoMemory>
-        ensures { OnOk result (state_of self.new ≡ supply tree (names_of self.old) (stack_of self.old)) }
+        ensures { Reaches result self.old self.new (supply tree) }
     {
         match self.take() {
             Some(Frame::Call(head, inputs, _, rest, last)) => {
@@ -147,7 +153,7 @@ impl<'a> Reader<'a> {
 
     /// Hands an expression, or an item, that no operator follows to what waits for it.
     pub fn accept(&mut self, shape: Shape, tree: Grown) -> Result<(), NoMemory>
-        ensures { OnOk result (state_of self.new ≡ accept (shape_of shape) tree (names_of self.old) (stack_of self.old)) }
+        ensures { Reaches result self.old self.new (accept shape tree) }
     {
         match self.take() {
             Some(Frame::Call(head, inputs, _, rest, last)) => {
@@ -184,7 +190,7 @@ impl<'a> Reader<'a> {
     }
 
     // An item of a call that has so many more as a rule.
-    #[tactic(auto, using(crate::proofs::Needs::one_less))]
+    #[tactic(auto, using(nl_reading::proofs::Needs::one_less))]
     fn another_item(
         &mut self,
         head: Head,
@@ -193,7 +199,8 @@ impl<'a> Reader<'a> {
         shape: Shape,
         tree: Grown,
     ) -> Result<(), NoMemory>
-        ensures { OnOk result (state_of self.new ≡ accept (shape_of shape) tree (names_of self.old) (InMany head.name head.place items others ∷ stack_of self.old)) }
+        ensures { Reaches result self.old self.new
+            (λ e K. accept shape tree e (InMany head.name head.place items others ∷ K)) }
     {
         if others == 0 {
             return self.enter(Mode::Shut(shape, tree), Frame::Many(head, items, 0));
@@ -204,31 +211,41 @@ impl<'a> Reader<'a> {
     }
 
     /// Ends all that an operator of this level ends.
-    #[tactic(auto, using(crate::proofs::Framed::closed_makes_none))]
+    #[tactic(auto, using(nl_reading::proofs::Framed::closed_makes_none, crate::proofs::Stacked::nothing_ends))]
     pub fn settle(
         &mut self,
         level: u8,
         shape: Shape,
         tree: Grown,
     ) -> Result<(Shape, Grown), NoMemory>
-        ensures settled { IfOk result (λ held. settle level (shape_of shape) tree (stack_of self.old) ≡ got (shape_of held.0) held.1 (stack_of self.new)) }
+        ensures settled { IfOk result (λ held.
+            settle level shape tree (stack_of self.old) ≡ got held.0 held.1 (stack_of self.new)) }
         ensures names { OnOk result (names_of self.new ≡ names_of self.old) }
     {
         let mut held = (shape, tree);
-        'frames: while let Some(frame) = self.take() {
-            if !closes(level, &frame) {
-                self.put(frame)?;
-                break 'frames;
+        'frames: while self.ends_newest(level) {
+            match self.take() {
+                Some(frame) => held = build(self.alloc, frame, held.1)?,
+                None => unreachable!(),
             }
-            held = build(self.alloc, frame, held.1)?;
         }
         Ok(held)
+    }
+
+    // Whether an operator of this level ends the newest frame.
+    fn ends_newest(&self, level: u8) -> bool
+        ensures { result ≡ ends_newest level (stack_of self.now) }
+    {
+        match self.newest() {
+            Some(frame) => closes(level, frame),
+            None => false,
+        }
     }
 
     /// Hands a literal list to what waits for it.
     #[tactic(auto, using(crate::proofs::Stacked::outer_list))]
     pub fn end_list(&mut self, tree: Grown) -> Result<(), NoMemory>
-        ensures { OnOk result (state_of self.new ≡ end_list tree (names_of self.old) (stack_of self.old)) }
+        ensures { Reaches result self.old self.new (end_list tree) }
     {
         if !self.is_in_list() {
             return self.closed(Shape::Literal, tree);

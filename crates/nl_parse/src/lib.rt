@@ -3,20 +3,12 @@
 
 mod beginning;
 pub mod body;
-mod classes;
 mod closing;
-mod depths;
-mod frames;
 mod handing;
 mod kinds;
-mod known_names;
-mod marks;
-mod parts;
 mod reader;
 mod stating;
 mod steps;
 
-pub use body::{BodyKind, BodyRefusal, read_body};
-
-#[cfg(test)]
-mod tests;
+pub use body::{BodyRefusal, read_body};
+pub use nl_tree::BodyKind;

@@ -3,13 +3,17 @@ ghost use Rattle.std.specs.Prelude.{◌≡◌, ◌∷◌, [], ◌+◌, length, I
 ghost use Rattle.nl_parse.specs.declared.reader.Refusal.TheVariants as Refusal;
 ghost use Rattle.nl_tree.specs.Vocabulary.{among};
 ghost use Rattle.nl_grammar.specs.Machine.{st};
-ghost use Rattle.nl_parse.specs.Reading.{frame_of, mode_of, mode_names, names_with};
-ghost use Rattle.nl_parse.specs.State.{stack_of, names_of, state_of, outer_stack_of, outer_names_of};
-ghost use Rattle.nl_parse.specs.Asked.{is_at_side, is_in_list};
+ghost use Rattle.nl_grammar.specs.Depth.{least_depth};
+ghost use Rattle.nl_reading.specs.inner.Limit.{capped};
+ghost use Rattle.nl_reading.specs.inner.Reading.{frame_of, mode_of, mode_names, names_with};
+ghost use Rattle.nl_parse.specs.inner.State.{stack_of, names_of, state_of, outer_stack_of, outer_names_of};
+ghost use Rattle.nl_parse.specs.inner.Steps.{Reaches};
+ghost use Rattle.nl_parse.specs.inner.Asked.{is_at_side, is_in_list};
 
-use crate::frames::{Frame, Mode, make_name};
-use crate::known_names::KnownNames;
 use nl_fixed::NoMemory;
+use nl_reading::depths::least_depth;
+use nl_reading::frames::{Frame, Mode, make_name};
+use nl_reading::known_names::KnownNames;
 use std::alloc::Global;
 
 /// Why a token is not taken.
@@ -52,9 +56,10 @@ pub struct Reader<'a> {
 
 impl<'a> Reader<'a> {
     /// Puts a frame on the stack.
-    #[tactic(auto, using(crate::proofs::Framed::frames_push, crate::proofs::Framed::names_push))]
+    #[tactic(auto, using(nl_reading::proofs::Framed::frames_push, nl_reading::proofs::Framed::names_push))]
     pub fn put(&mut self, frame: Frame) -> Result<(), NoMemory>
-        ensures stack { OnOk result (stack_of self.new ≡ frame_of (names_of self.old) frame ∷ stack_of self.old) }
+        ensures stack { OnOk result
+            (stack_of self.new ≡ frame_of (names_of self.old) frame ∷ stack_of self.old) }
         ensures names { OnOk result (names_of self.new ≡ names_with frame (names_of self.old)) }
     {
         self.stack.push(frame)?;
@@ -63,7 +68,9 @@ impl<'a> Reader<'a> {
 
     /// Puts a frame on the stack, inside of which this may come next.
     pub fn enter(&mut self, mode: Mode, frame: Frame) -> Result<(), NoMemory>
-        ensures { OnOk result (state_of self.new ≡ st (mode_of mode) (mode_names mode (names_with frame (names_of self.old))) (frame_of (names_of self.old) frame ∷ stack_of self.old)) }
+        ensures { Reaches result self.old self.new
+            (λ e K.
+            st (mode_of mode) (mode_names mode (names_with frame e)) (frame_of e frame ∷ K)) }
     {
         self.put(frame)?;
         self.mode = mode;
@@ -72,15 +79,17 @@ impl<'a> Reader<'a> {
 
     /// Says what may come next.
     pub fn turn(&mut self, mode: Mode)
-        ensures { state_of self.new ≡ st (mode_of mode) (mode_names mode (names_of self.old)) (stack_of self.old) }
+        ensures { state_of self.new
+            ≡ st (mode_of mode) (mode_names mode (names_of self.old)) (stack_of self.old) }
     {
         self.mode = mode;
     }
 
     /// Takes the newest frame.
-    #[tactic(auto, using(crate::proofs::Framed::frames_push, crate::proofs::Framed::names_push))]
+    #[tactic(auto, using(nl_reading::proofs::Framed::frames_push, nl_reading::proofs::Framed::names_push))]
     pub fn take(&mut self) -> Option<Frame>
-        ensures stack { IfSome result (λ frame. stack_of self.old ≡ frame_of (names_of self.new) frame ∷ stack_of self.new) }
+        ensures stack { IfSome result (λ frame.
+            stack_of self.old ≡ frame_of (names_of self.new) frame ∷ stack_of self.new) }
         ensures names { IfSome result (λ frame. names_of self.old ≡ names_with frame (names_of self.new)) }
         ensures none { IfNone result (stack_of self.old ≡ []) }
         ensures still_none { IfNone result (stack_of self.new ≡ []) }
@@ -92,7 +101,9 @@ impl<'a> Reader<'a> {
 
     /// The newest frame, which stays where it is.
     pub fn newest(&self) -> Option<&Frame>
-        ensures stack { IfSome result (λ frame. stack_of self.now ≡ frame_of (outer_names_of self.now) frame.now ∷ outer_stack_of self.now) }
+        ensures stack { IfSome result (λ frame.
+            stack_of self.now
+            ≡ frame_of (outer_names_of self.now) frame.now ∷ outer_stack_of self.now) }
         ensures none { IfNone result (stack_of self.now ≡ []) }
     {
         match self.stack.as_slice() {
@@ -126,5 +137,12 @@ impl<'a> Reader<'a> {
         ensures { result ≡ among name.now (names_of self.now) }
     {
         make_name(self.stack.as_slice(), name) || self.inputs.has(name)
+    }
+
+    /// The least depth that the whole tree can still have, up to `TOO_DEEP`.
+    pub fn least_depth(&self) -> u32
+        ensures { result ≡ capped (least_depth (state_of self.now)) }
+    {
+        least_depth(&self.mode, self.stack.as_slice())
     }
 }

@@ -3,27 +3,29 @@ ghost use Rattle.std.specs.Prelude.{◌≡◌, ◌∷◌, OnOk};
 ghost use Rattle.std.specs.Result.{IsErrOf};
 ghost use Rattle.nl_grammar.specs.Machine.{go, stop, supply, feed_opening, feed_choosing, feed_ending, feed_statement, feed_stating, feed_naming, st, Stating, InStatements};
 ghost use Rattle.nl_tree.specs.Tree.{none};
-ghost use Rattle.nl_tree.specs.Grammar.{leaf, AtBracket};
+ghost use Rattle.nl_tree.specs.Grammar.{leaf};
+ghost use Rattle.nl_tree.specs.declared.needs.Ending.TheVariants.{AtBracket};
 ghost use Rattle.nl_tree.specs.declared.tree.Label.TheVariants as label;
 ghost use Rattle.nl_parse.specs.declared.reader.Refusal.TheVariants.{Unexpected};
-ghost use Rattle.nl_parse.specs.View.{block_of, class_of, mark_of};
+ghost use Rattle.nl_reading.specs.inner.View.{class_of, mark_of};
 ghost use Rattle.nl_tree.specs.Tokens.{word};
-ghost use Rattle.nl_parse.specs.Reading.{ending_of};
-ghost use Rattle.nl_parse.specs.State.{stack_of, names_of, state_of};
+ghost use Rattle.nl_parse.specs.inner.State.{stack_of, names_of, state_of};
+ghost use Rattle.nl_parse.specs.inner.Asked.{is_stating};
+ghost use Rattle.nl_parse.specs.inner.Steps.{Follows, Reaches};
 
-use crate::frames::{Ending, Frame, Last, Mode};
-use crate::known_names::KnownNames;
-use crate::marks::{Block, Class, Head, Mark, begins_statement};
-use crate::parts::{Grouped, Grown};
 use crate::reader::{Reader, Refusal, refuse};
 use nl_fixed::{NoMemory, Span};
-use nl_tree::Label;
+use nl_grammar::Last;
+use nl_reading::frames::{Frame, Mode};
+use nl_reading::known_names::KnownNames;
+use nl_reading::marks::{Class, Head, Mark, begins_statement};
+use nl_reading::parts::{Grouped, Grown};
+use nl_tree::{Block, Ending, Label};
 
 impl<'a> Reader<'a> {
     /// A token where a block begins.
     pub fn feed_opening(&mut self, block: Block, mark: Mark) -> Result<(), Refusal>
-        ensures ok { OnOk result (feed_opening (block_of block) (names_of self.old) (stack_of self.old) (mark_of mark) ≡ go (state_of self.new)) }
-        ensures fault { IsErrOf result Unexpected → feed_opening (block_of block) (names_of self.old) (stack_of self.old) (mark_of mark) ≡ stop }
+        ensures { Follows result self.old self.new (λ e K. feed_opening block e K (mark_of mark)) }
     {
         let Mark::OpenBracket(place) = mark else {
             return Err(Refusal::Unexpected);
@@ -37,7 +39,8 @@ impl<'a> Reader<'a> {
 
     /// Begins a block of commands.
     pub fn open_statements(&mut self, bracket: Span) -> Result<(), NoMemory>
-        ensures { OnOk result (state_of self.new ≡ st Stating (names_of self.old) (InStatements bracket AtBracket (names_of self.old) none ∷ stack_of self.old)) }
+        ensures { Reaches result self.old self.new
+            (λ e K. st Stating e (InStatements bracket AtBracket e none ∷ K)) }
     {
         let names = KnownNames::empty(self.alloc);
         let statements = Grouped::new(self.alloc);
@@ -49,8 +52,7 @@ impl<'a> Reader<'a> {
 
     /// A token where a variable's name is wanted.
     pub fn feed_choosing(&mut self, mark: Mark) -> Result<(), Refusal>
-        ensures ok { OnOk result (feed_choosing (names_of self.old) (stack_of self.old) (mark_of mark) ≡ go (state_of self.new)) }
-        ensures fault { IsErrOf result Unexpected → feed_choosing (names_of self.old) (stack_of self.old) (mark_of mark) ≡ stop }
+        ensures { Follows result self.old self.new (λ e K. feed_choosing e K (mark_of mark)) }
     {
         match mark {
             Mark::Word(head, class) => self.choose_word(head, class),
@@ -60,8 +62,8 @@ impl<'a> Reader<'a> {
 
     // A word where a variable's name is wanted.
     fn choose_word(&mut self, head: Head, class: Class) -> Result<(), Refusal>
-        ensures ok { OnOk result (feed_choosing (names_of self.old) (stack_of self.old) (word head.name (class_of class) head.place) ≡ go (state_of self.new)) }
-        ensures fault { IsErrOf result Unexpected → feed_choosing (names_of self.old) (stack_of self.old) (word head.name (class_of class) head.place) ≡ stop }
+        ensures { Follows result self.old self.new
+            (λ e K. feed_choosing e K (word head.name (class_of class) head.place)) }
     {
         match class {
             Class::Named => {
@@ -81,30 +83,40 @@ impl<'a> Reader<'a> {
 
     // A variable's name.
     fn choose(&mut self, head: Head) -> Result<(), NoMemory>
-        ensures { OnOk result (state_of self.new ≡ supply (leaf (label.Named head.name) head.place) (names_of self.old) (stack_of self.old)) }
+        ensures { Reaches result self.old self.new
+            (supply (leaf (label.Named head.name) head.place)) }
     {
         let tree = Grown::leaf(self.alloc, Label::Named(head.name), head.place);
         self.supply(tree)
     }
 
     /// A token where a statement begins, or what ends statements.
+    #[tactic(auto, using(crate::proofs::Stacked::not_stating, crate::proofs::Stacked::a_statement, crate::proofs::Stacked::no_statement))]
     pub fn feed_stating(&mut self, mark: Mark) -> Result<(), Refusal>
-        ensures ok { OnOk result (feed_stating (names_of self.old) (stack_of self.old) (mark_of mark) ≡ go (state_of self.new)) }
-        ensures fault { IsErrOf result Unexpected → feed_stating (names_of self.old) (stack_of self.old) (mark_of mark) ≡ stop }
+        ensures { Follows result self.old self.new (λ e K. feed_stating e K (mark_of mark)) }
     {
+        if !self.is_stating() {
+            return refuse(mark);
+        }
+        if begins_statement(&mark) {
+            return self.feed_statement(mark);
+        }
         match self.take() {
-            Some(Frame::Statements(bracket, ending, names, statements)) => {
-                if !begins_statement(&mark) {
-                    return self.feed_ending(ending, bracket, statements, mark);
-                }
-                self.put(Frame::Statements(bracket, ending, names, statements))?;
-                self.feed_statement(mark)
-            }
-            Some(Frame::StatementParen(bracket)) => {
-                self.put(Frame::StatementParen(bracket))?;
-                self.feed_statement(mark)
+            Some(Frame::Statements(bracket, ending, _names, statements)) => {
+                self.feed_ending(ending, bracket, statements, mark)
             }
             other => refuse(other),
+        }
+    }
+
+    // Whether a statement may stand here.
+    fn is_stating(&self) -> bool
+        ensures { result ≡ is_stating (stack_of self.now) }
+    {
+        match self.newest() {
+            Some(Frame::Statements(_, _, _, _)) => true,
+            Some(Frame::StatementParen(_)) => true,
+            _ => false,
         }
     }
 
@@ -116,8 +128,8 @@ impl<'a> Reader<'a> {
         statements: Grouped,
         mark: Mark,
     ) -> Result<(), Refusal>
-        ensures ok { OnOk result (feed_ending (ending_of ending) bracket statements (names_of self.old) (stack_of self.old) (mark_of mark) ≡ go (state_of self.new)) }
-        ensures fault { IsErrOf result Unexpected → feed_ending (ending_of ending) bracket statements (names_of self.old) (stack_of self.old) (mark_of mark) ≡ stop }
+        ensures { Follows result self.old self.new
+            (λ e K. feed_ending ending bracket statements e K (mark_of mark)) }
     {
         match (ending, &mark) {
             (Ending::AtBracket, Mark::CloseBracket(_)) => {
@@ -134,8 +146,7 @@ impl<'a> Reader<'a> {
 
     // A token that begins a statement.
     fn feed_statement(&mut self, mark: Mark) -> Result<(), Refusal>
-        ensures ok { OnOk result (feed_statement (names_of self.old) (stack_of self.old) (mark_of mark) ≡ go (state_of self.new)) }
-        ensures fault { IsErrOf result Unexpected → feed_statement (names_of self.old) (stack_of self.old) (mark_of mark) ≡ stop }
+        ensures { Follows result self.old self.new (λ e K. feed_statement e K (mark_of mark)) }
     {
         match mark {
             Mark::Word(head, class) => self.begin_statement(head, class),
@@ -149,8 +160,8 @@ impl<'a> Reader<'a> {
 
     // A word that begins a statement.
     fn begin_statement(&mut self, head: Head, class: Class) -> Result<(), Refusal>
-        ensures ok { OnOk result (feed_statement (names_of self.old) (stack_of self.old) (word head.name (class_of class) head.place) ≡ go (state_of self.new)) }
-        ensures fault { IsErrOf result Unexpected → feed_statement (names_of self.old) (stack_of self.old) (word head.name (class_of class) head.place) ≡ stop }
+        ensures { Follows result self.old self.new
+            (λ e K. feed_statement e K (word head.name (class_of class) head.place)) }
     {
         match class {
             Class::Command(inputs) => {
@@ -168,8 +179,8 @@ impl<'a> Reader<'a> {
 
     /// A token behind `let`, which is a new name.
     pub fn feed_naming(&mut self, head: Head, mark: Mark) -> Result<(), Refusal>
-        ensures ok { OnOk result (feed_naming head.name head.place (names_of self.old) (stack_of self.old) (mark_of mark) ≡ go (state_of self.new)) }
-        ensures fault { IsErrOf result Unexpected → feed_naming head.name head.place (names_of self.old) (stack_of self.old) (mark_of mark) ≡ stop }
+        ensures { Follows result self.old self.new
+            (λ e K. feed_naming head.name head.place e K (mark_of mark)) }
     {
         match mark {
             Mark::Word(name, class) => self.begin_let(head, name, class),
@@ -179,8 +190,10 @@ impl<'a> Reader<'a> {
 
     // A word where a new name is wanted.
     fn begin_let(&mut self, head: Head, name: Head, class: Class) -> Result<(), Refusal>
-        ensures ok { OnOk result (feed_naming head.name head.place (names_of self.old) (stack_of self.old) (word name.name (class_of class) name.place) ≡ go (state_of self.new)) }
-        ensures fault { IsErrOf result Unexpected → feed_naming head.name head.place (names_of self.old) (stack_of self.old) (word name.name (class_of class) name.place) ≡ stop }
+        ensures { Follows result self.old self.new
+            (λ e K.
+            feed_naming head.name head.place e K
+            (word name.name (class_of class) name.place)) }
     {
         match class {
             Class::Unknown => {

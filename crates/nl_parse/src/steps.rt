@@ -4,16 +4,18 @@ ghost use Rattle.std.specs.Result.{IsErrOf};
 ghost use Rattle.nl_tree.specs.Grammar.{top};
 ghost use Rattle.nl_grammar.specs.Machine.{InCall, next, without_maybes, st, go, stop, settle, takes_operator, feed_plain, feed_optional, feed_ready, feed_broken, feed_binary, feed_of, feed_have, feed};
 ghost use Rattle.nl_parse.specs.declared.reader.Refusal.TheVariants.{Unexpected};
-ghost use Rattle.nl_parse.specs.View.{class_of, mark_of, need_of, needs_of};
+ghost use Rattle.nl_reading.specs.inner.View.{class_of, mark_of, needs_of};
 ghost use Rattle.nl_tree.specs.Tokens.{word};
-ghost use Rattle.nl_parse.specs.Reading.{last_of, mode_of, mode_names, shape_of};
-ghost use Rattle.nl_parse.specs.State.{stack_of, names_of, state_of};
+ghost use Rattle.nl_reading.specs.inner.Reading.{mode_of, mode_names};
+ghost use Rattle.nl_parse.specs.inner.State.{stack_of, names_of, state_of};
+ghost use Rattle.nl_parse.specs.inner.Steps.{Follows};
 
-use crate::frames::{Frame, Last, Mode, Shape, TOP, takes_operator};
-use crate::marks::{Block, Class, Head, Inputs, Mark, Need};
-use crate::parts::{Grouped, Grown};
 use crate::reader::{Reader, Refusal, refuse};
-use nl_tree::Label;
+use nl_grammar::{Last, Shape};
+use nl_reading::frames::{Frame, Mode, TOP, takes_operator};
+use nl_reading::marks::{Class, Head, Inputs, Mark};
+use nl_reading::parts::{Grouped, Grown};
+use nl_tree::{Block, Label, Need};
 use std::mem;
 
 impl<'a> Reader<'a> {
@@ -30,7 +32,8 @@ impl<'a> Reader<'a> {
 
     /// Takes out what may come next.
     pub fn take_mode(&mut self) -> Mode
-        ensures state { state_of self.old ≡ st (mode_of result) (mode_names result (names_of self.new)) (stack_of self.new) }
+        ensures state { state_of self.old
+            ≡ st (mode_of result) (mode_names result (names_of self.new)) (stack_of self.new) }
         ensures mode { result ≡ self.old.mode }
         ensures names { names_of self.new ≡ names_of self.old }
         ensures stack { stack_of self.new ≡ stack_of self.old }
@@ -40,8 +43,8 @@ impl<'a> Reader<'a> {
 
     // A token in this mode, where no chain is at hand.
     fn feed_ready(&mut self, mode: Mode, mark: Mark) -> Result<(), Refusal>
-        ensures ok { OnOk result (feed_ready (st (mode_of mode) (mode_names mode (names_of self.old)) (stack_of self.old)) (mark_of mark) ≡ go (state_of self.new)) }
-        ensures fault { IsErrOf result Unexpected → feed_ready (st (mode_of mode) (mode_names mode (names_of self.old)) (stack_of self.old)) (mark_of mark) ≡ stop }
+        ensures { Follows result self.old self.new
+            (λ e K. feed_ready (st (mode_of mode) (mode_names mode e) K) (mark_of mark)) }
     {
         match mode {
             Mode::Optional => self.feed_optional(mark),
@@ -51,8 +54,7 @@ impl<'a> Reader<'a> {
 
     // A token where a block of commands may be missing.
     fn feed_optional(&mut self, mark: Mark) -> Result<(), Refusal>
-        ensures ok { OnOk result (feed_optional (names_of self.old) (stack_of self.old) (mark_of mark) ≡ go (state_of self.new)) }
-        ensures fault { IsErrOf result Unexpected → feed_optional (names_of self.old) (stack_of self.old) (mark_of mark) ≡ stop }
+        ensures { Follows result self.old self.new (λ e K. feed_optional e K (mark_of mark)) }
     {
         match self.take() {
             Some(Frame::Call(head, inputs, need, rest, last)) => {
@@ -72,8 +74,11 @@ impl<'a> Reader<'a> {
         last: Last,
         mark: Mark,
     ) -> Result<(), Refusal>
-        ensures ok { OnOk result (feed_optional (names_of self.old) (InCall head.name head.place inputs (need_of need) (needs_of rest) (last_of last) ∷ stack_of self.old) (mark_of mark) ≡ go (state_of self.new)) }
-        ensures fault { IsErrOf result Unexpected → feed_optional (names_of self.old) (InCall head.name head.place inputs (need_of need) (needs_of rest) (last_of last) ∷ stack_of self.old) (mark_of mark) ≡ stop }
+        ensures { Follows result self.old self.new
+            (λ e K.
+            feed_optional e
+            (InCall head.name head.place inputs need (needs_of rest) last ∷ K)
+            (mark_of mark)) }
     {
         match mark {
             Mark::OpenBracket(place) => {
@@ -94,8 +99,11 @@ impl<'a> Reader<'a> {
         last: Last,
         mark: Mark,
     ) -> Result<(), Refusal>
-        ensures ok { OnOk result (feed_plain (next head.name head.place inputs (without_maybes (needs_of rest)) (last_of last) (names_of self.old) (stack_of self.old)) (mark_of mark) ≡ go (state_of self.new)) }
-        ensures fault { IsErrOf result Unexpected → feed_plain (next head.name head.place inputs (without_maybes (needs_of rest)) (last_of last) (names_of self.old) (stack_of self.old)) (mark_of mark) ≡ stop }
+        ensures { Follows result self.old self.new
+            (λ e K.
+            feed_plain
+            (next head.name head.place inputs (without_maybes (needs_of rest)) last e K)
+            (mark_of mark)) }
     {
         self.next(head, inputs, rest.without_maybes(), last)?;
         let mode = self.take_mode();
@@ -104,8 +112,8 @@ impl<'a> Reader<'a> {
 
     // A token in this mode, where no chain is at hand and no block may be missing.
     fn feed_plain(&mut self, mode: Mode, mark: Mark) -> Result<(), Refusal>
-        ensures ok { OnOk result (feed_plain (st (mode_of mode) (mode_names mode (names_of self.old)) (stack_of self.old)) (mark_of mark) ≡ go (state_of self.new)) }
-        ensures fault { IsErrOf result Unexpected → feed_plain (st (mode_of mode) (mode_names mode (names_of self.old)) (stack_of self.old)) (mark_of mark) ≡ stop }
+        ensures { Follows result self.old self.new
+            (λ e K. feed_plain (st (mode_of mode) (mode_names mode e) K) (mark_of mark)) }
     {
         match mode {
             Mode::Begin => self.feed_begin(mark),
@@ -123,8 +131,8 @@ impl<'a> Reader<'a> {
 
     // A token where a chain is at hand.
     fn feed_have(&mut self, shape: Shape, tree: Grown, mark: Mark) -> Result<(), Refusal>
-        ensures ok { OnOk result (feed_have (shape_of shape) tree (names_of self.old) (stack_of self.old) (mark_of mark) ≡ go (state_of self.new)) }
-        ensures fault { IsErrOf result Unexpected → feed_have (shape_of shape) tree (names_of self.old) (stack_of self.old) (mark_of mark) ≡ stop }
+        ensures { Follows result self.old self.new
+            (λ e K. feed_have shape tree e K (mark_of mark)) }
     {
         match mark {
             Mark::Word(head, class) => self.have_word(shape, tree, head, class),
@@ -140,8 +148,8 @@ impl<'a> Reader<'a> {
         head: Head,
         class: Class,
     ) -> Result<(), Refusal>
-        ensures ok { OnOk result (feed_have (shape_of shape) tree (names_of self.old) (stack_of self.old) (word head.name (class_of class) head.place) ≡ go (state_of self.new)) }
-        ensures fault { IsErrOf result Unexpected → feed_have (shape_of shape) tree (names_of self.old) (stack_of self.old) (word head.name (class_of class) head.place) ≡ stop }
+        ensures { Follows result self.old self.new
+            (λ e K. feed_have shape tree e K (word head.name (class_of class) head.place)) }
     {
         match class {
             Class::With => {
@@ -161,8 +169,8 @@ impl<'a> Reader<'a> {
 
     // A token that ends the chain at hand, and all that is open with it.
     fn feed_broken(&mut self, shape: Shape, tree: Grown, mark: Mark) -> Result<(), Refusal>
-        ensures ok { OnOk result (feed_broken (names_of self.old) (settle top (shape_of shape) tree (stack_of self.old)) (mark_of mark) ≡ go (state_of self.new)) }
-        ensures fault { IsErrOf result Unexpected → feed_broken (names_of self.old) (settle top (shape_of shape) tree (stack_of self.old)) (mark_of mark) ≡ stop }
+        ensures { Follows result self.old self.new
+            (λ e K. feed_broken e (settle top shape tree K) (mark_of mark)) }
     {
         let (shape, tree) = self.settle(TOP, shape, tree)?;
         self.accept(shape, tree)?;
@@ -178,8 +186,10 @@ impl<'a> Reader<'a> {
         shape: Shape,
         tree: Grown,
     ) -> Result<(), Refusal>
-        ensures ok { OnOk result (feed_binary (nat_lt level top) level head.name head.place (names_of self.old) (settle (suc level) (shape_of shape) tree (stack_of self.old)) ≡ go (state_of self.new)) }
-        ensures fault { IsErrOf result Unexpected → feed_binary (nat_lt level top) level head.name head.place (names_of self.old) (settle (suc level) (shape_of shape) tree (stack_of self.old)) ≡ stop }
+        ensures { Follows result self.old self.new
+            (λ e K.
+            feed_binary (nat_lt level top) level head.name head.place e
+            (settle (suc level) shape tree K)) }
     {
         if level >= TOP {
             return Err(Refusal::Unexpected);
@@ -205,8 +215,7 @@ impl<'a> Reader<'a> {
     // `of` behind a list, which is a block if it has one literal.
     #[tactic(auto, using(crate::proofs::Stacked::a_block, crate::proofs::Stacked::no_block))]
     fn feed_of(&mut self, head: Head, tree: Grown) -> Result<(), Refusal>
-        ensures ok { OnOk result (feed_of head.name head.place tree (names_of self.old) (stack_of self.old) ≡ go (state_of self.new)) }
-        ensures fault { IsErrOf result Unexpected → feed_of head.name head.place tree (names_of self.old) (stack_of self.old) ≡ stop }
+        ensures { Follows result self.old self.new (feed_of head.name head.place tree) }
     {
         let (label, place, parts) = tree.taken_apart();
         let Label::List = label else {

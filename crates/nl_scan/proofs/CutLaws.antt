@@ -10,7 +10,9 @@ use Rattle.nl_scan.specs.declared.token.ScanKind.{ScanKind}
 use Rattle.nl_scan.specs.declared.pieces.Form.{Form}
 use Rattle.nl_scan.specs.declared.pieces.Piece.{Piece}
 use Rattle.nl_scan.specs.Forms.{Flaw, has_form, meaning_of}
-use Rattle.nl_scan.specs.Tokens.{ScanFault, text_limit, cut_from, tokens_of, after_piece, token_first, piece_at}
+use Rattle.nl_scan.specs.Faults.{ScanFault, text_limit}
+use Rattle.nl_scan.specs.Tokens.{tokens_of}
+use Rattle.nl_scan.specs.inner.Pieces.{cut_from, after_piece, token_first, piece_at}
 use Rattle.nl_scan.specs.Cuts.{Stretch, IsFirst, IsSound, IsCutTo, IsCut, joined, token_before, tokens_in, kind_of_first, IsFlaw, IsCutToFault, IsTokens, IsFault, TextsAreCutOnce, StretchesJoin, FaultsAreUnique, FaultOrTokens, TokensAreComputed, FaultsAreComputed, AreMeant, TokensAreMeant}
 use Rattle.nl_scan.proofs.Runs.{form_at-begins}
 use Rattle.nl_scan.proofs.Firsts.{piece_of, IsBegun, IsStopped, first_of, has_form-nil, has_form-parts}

@@ -16,7 +16,10 @@ use Rattle.nl_scan.specs.declared.token.ScanKind.{ScanKind}
 use Rattle.nl_scan.specs.declared.pieces.Form.{Form}
 use Rattle.nl_scan.specs.declared.pieces.Piece.{Piece}
 use Rattle.nl_scan.specs.Forms.{is_in_line, is_word_byte, bracket_of, first_bad_escape}
-use Rattle.nl_scan.specs.Tokens.{ScanFault, text_limit, cut_from, tokens_of, after_piece, token_first, piece_at, piece_by, form_at, word_piece, quoted_piece, escaped_piece, bracket_piece, closed_length, least_length, IsPieceWithin}
+use Rattle.nl_scan.specs.Faults.{ScanFault, text_limit}
+use Rattle.nl_scan.specs.Forms.{least_length}
+use Rattle.nl_scan.specs.Tokens.{tokens_of}
+use Rattle.nl_scan.specs.inner.Pieces.{cut_from, after_piece, token_first, piece_at, piece_by, form_at, word_piece, quoted_piece, escaped_piece, bracket_piece, closed_length, IsPieceWithin}
 use Rattle.nl_scan.proofs.Runs.{IsWithin, IsBelow, begins-form_at, closed_length-within, first_bad_escape-below, word_len-some}
 
 pub least_length-some : (lexeme : Lexeme) → 0 < least_length lexeme

@@ -13,7 +13,7 @@ use Rattle.nl_scan.specs.declared.token.ScanKind.{ScanKind}
 use Rattle.nl_scan.specs.declared.pieces.Form.{Form}
 use Rattle.nl_scan.specs.declared.pieces.Piece.{Piece}
 use Rattle.nl_scan.specs.Forms.{Flaw, is_space, is_in_line, is_word_byte, is_none_left, is_closed, is_some_bracket, bracket_of, semicolon, quote, backslash, has_form, first_bad_escape, meaning_of, meaning_behind, word_meaning, quoted_meaning}
-use Rattle.nl_scan.specs.Tokens.{form_at, closed_length, piece_at, piece_by, word_piece, quoted_piece, escaped_piece, bracket_piece}
+use Rattle.nl_scan.specs.inner.Pieces.{form_at, closed_length, piece_at, piece_by, word_piece, quoted_piece, escaped_piece, bracket_piece}
 use Rattle.nl_scan.specs.Cuts.{Stretch, IsFirst, IsUnformed, kind_of_first}
 use Rattle.nl_scan.proofs.Runs.{begins, begins-form_at, form_at-begins, closed_length-within}
 
@@ -168,7 +168,7 @@ longest_is byte rest form m at is other (suc n) le h =
     let most = subst P same (reach-most other rest n parts.1 (omega arith)) in
     let bound = rw is at most in omega (arith, bound)
 
-first_is : (byte : ℕ) (rest : List ℕ) (form : Form) (m : ℕ) → form_at byte ≡ Some form → reach form rest ≡ Some m → IsFirst (byte ∷ rest) (record { form = form; bytes = byte ∷ take m rest })
+pub first_is : (byte : ℕ) (rest : List ℕ) (form : Form) (m : ℕ) → form_at byte ≡ Some form → reach form rest ≡ Some m → IsFirst (byte ∷ rest) (record { form = form; bytes = byte ∷ take m rest })
 first_is byte rest form m at is =
     let held = reach-is form rest m is in
     let len : length (take m rest) ≡ m = length-take-le m rest held.1 in
@@ -207,7 +207,7 @@ bracket_piece-is : (bracket : Option Lexeme) → is_some_bracket bracket ≡ tru
 bracket_piece-is None h = cc
 bracket_piece-is (Some lexeme) h = refl
 
-piece-is : (byte : ℕ) (rest : List ℕ) (form : Form) (m : ℕ) → form_at byte ≡ Some form → reach form rest ≡ Some m
+pub piece-is : (byte : ℕ) (rest : List ℕ) (form : Form) (m : ℕ) → form_at byte ≡ Some form → reach form rest ≡ Some m
     → piece_by (Some form) byte rest ≡ piece_of (suc m) (meaning_behind form byte (take m rest))
 piece-is byte rest Form.Space m at is = let e : m ≡ 0 = cc in rw e refl
 piece-is byte rest Form.Comment m at is = let e : prefix_len is_in_line rest ≡ m = cc in ap (λ n. Piece.Gap (suc n)) e

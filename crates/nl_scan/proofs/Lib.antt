@@ -4,3 +4,4 @@ pub mod Firsts
 pub mod Lines
 pub mod Order
 pub mod Runs
+pub mod Writing

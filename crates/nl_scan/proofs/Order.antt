@@ -1,11 +1,17 @@
 -- The tokens of a text stand in order in it.
-use Rattle.std.proofs.Common.{◌≡◌, ℕ, zero, suc, ◌+◌, ◌≤◌, ◌<◌, List, [], ◌∷◌, length, drop, get_or, Result, Ok, Err, refl, subst, arith, length-drop, zero-add, Bool, true, false, cond, nat_lt}
+use Rattle.std.proofs.Common.{◌≡◌, ℕ, zero, suc, ◌+◌, ◌≤◌, ◌<◌, List, [], ◌∷◌, length, drop, get_or, slice_get, Some, Result, Ok, Err, refl, subst, arith, length-drop, zero-add, Bool, true, false, cond, nat_lt}
 use Rattle.std.specs.Str.{is_utf8}
+use Rattle.std.proofs.lemmas.Bool.{ltb-false}
+use Rattle.std.proofs.lemmas.Str.{IsUtf8-from_is_utf8}
 use Rattle.std.proofs.lemmas.Option.{slice_get_within, get_or_from_slice_get}
+use Rattle.nl_scan.specs.Texts.{LiesIn}
 use Rattle.nl_scan.specs.declared.token.Lexeme.{Lexeme}
 use Rattle.nl_scan.specs.declared.token.Token.{Token}
 use Rattle.nl_scan.specs.declared.pieces.Piece.{Piece}
-use Rattle.nl_scan.specs.Tokens.{ScanFault, text_limit, cut_from, tokens_of, IsTokenOf, after_piece, token_first, piece_at, least_length, AreInOrder, IsPieceWithin}
+use Rattle.nl_scan.specs.Faults.{ScanFault, text_limit}
+use Rattle.nl_scan.specs.Forms.{least_length}
+use Rattle.nl_scan.specs.Tokens.{tokens_of, IsText, IsTokenOf, AreInOrder}
+use Rattle.nl_scan.specs.inner.Pieces.{cut_from, after_piece, token_first, piece_at, IsPieceWithin}
 use Rattle.nl_scan.proofs.Cutting.{least_length-some, piece_at-within}
 
 -- tokens in order from a place on are so from an earlier one on
@@ -101,3 +107,24 @@ pub text_in : (text : List ℕ) (token : Token) → token.lexeme ≡ Lexeme.Text
 text_in text token is of =
     let both = token_in text token of in
     let two = rw is at both.0 in (two, both.1)
+
+pub token_lies_in : (text : List ℕ) (token : Token) → IsTokenOf text token → LiesIn text token.span
+token_lies_in text token of = (token_in text token of).1
+
+-- so does each of tokens that are in order
+pub tokens_lie_in : (text : List ℕ) (tokens : List Token) (k : ℕ) (token : Token) → AreInOrder 0 (length text) tokens
+    → slice_get tokens k ≡ Some token → LiesIn text token.span
+tokens_lie_in text tokens k token order there =
+    let P : Token → Type 0 = λ t. LiesIn text t.span in
+    subst P (get_or_from_slice_get tokens k token token there) (AreInOrder-at 0 (length text) tokens k token order (slice_get_within tokens k token there))
+
+-- a text that has tokens is neither too long nor anything but text
+text_of-some : (a b : Bool) (text : List ℕ) (tokens : List Token) (long not_text : ScanFault) → nat_lt text_limit (length text) ≡ a → is_utf8 text ≡ b
+    → cond a (Err long) (cond b (cut_from (length text) 0 text) (Err not_text)) ≡ Ok tokens → IsText text
+text_of-some true b text tokens long not_text h u e = cc
+text_of-some false true text tokens long not_text h u e = (ltb-false text_limit (length text) h, IsUtf8-from_is_utf8 text u)
+text_of-some false false text tokens long not_text h u e = cc
+
+pub tokens_of-is_text : (text : List ℕ) (tokens : List Token) → tokens_of text ≡ Ok tokens → IsText text
+unfolding tokens_of
+tokens_of-is_text text tokens e = text_of-some (nat_lt text_limit (length text)) (is_utf8 text) text tokens _ _ refl refl e

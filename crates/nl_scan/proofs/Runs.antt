@@ -6,7 +6,7 @@ use Rattle.std.proofs.lemmas.Bool.{cases_Bool}
 use Rattle.std.proofs.lemmas.Bool.Decides.{nat_tests}
 use Rattle.nl_scan.specs.declared.pieces.Form.{Form}
 use Rattle.nl_scan.specs.Forms.{is_space, is_in_line, is_word_byte, bracket_of, is_some_bracket, semicolon, quote, backslash, is_escape, first_bad_escape}
-use Rattle.nl_scan.specs.Tokens.{form_at, closed_length}
+use Rattle.nl_scan.specs.inner.Pieces.{form_at, closed_length}
 
 -- so many more
 abbrev pub plus : ℕ → Option ℕ → Option ℕ

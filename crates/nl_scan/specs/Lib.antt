@@ -1,6 +1,10 @@
 pub mod CodePart
 pub mod Contents
 pub mod Cuts
+pub mod Faults
 pub mod Forms
 pub mod Place
+pub mod Texts
 pub mod Tokens
+pub mod Written
+pub mod inner

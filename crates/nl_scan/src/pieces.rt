@@ -3,7 +3,7 @@ ghost use Rattle.std.specs.Prelude.{◌≡◌, ◌≤◌, ◌<◌, ◌+◌, suc,
 ghost use Rattle.std.specs.List.{prefix_len};
 ghost use Rattle.nl_fixed.specs.Spelling.{read_of};
 ghost use Rattle.nl_scan.specs.Forms.{bracket_of, first_bad_escape, is_escape, is_in_line, is_mark, is_word_byte};
-ghost use Rattle.nl_scan.specs.Tokens.{IsPieceWithin, closed_length, form_at, piece_at, piece_by, quoted_piece, word_piece};
+ghost use Rattle.nl_scan.specs.inner.Pieces.{IsPieceWithin, closed_length, form_at, piece_at, piece_by, leading_word, quoted_piece};
 
 use crate::token::{Lexeme, ScanKind};
 use nl_fixed::Num;
@@ -153,7 +153,7 @@ fn bad_escape(behind_quote: &[u8]) -> Option<usize>
 
 // The word that stands at the beginning.
 fn word(text: &[u8]) -> Piece
-    ensures { result ≡ word_piece (prefix_len is_word_byte text.now) (read_of (take (prefix_len is_word_byte text.now) text.now)) }
+    ensures { result ≡ leading_word text.now }
 {
     let len = word_len(text);
     match Num::read(&text[..len]) {

@@ -1,6 +1,9 @@
 //! A text cut into tokens.
-ghost use Rattle.std.specs.Prelude.{◌≡◌, ◌≤◌, length, IfOk};
-ghost use Rattle.nl_scan.specs.Tokens.{AreInOrder, Scans, cut_from, text_limit, tokens_of};
+ghost use Rattle.std.specs.Prelude.{◌≡◌, ◌≤◌, [], length, Ok, IfOk, IsErrOf, IsOk};
+ghost use Rattle.nl_scan.specs.Faults.{text_limit};
+ghost use Rattle.nl_scan.specs.Tokens.{AreInOrder, IsText, Scans, tokens_of};
+ghost use Rattle.nl_scan.specs.declared.token.ScanRefusal.TheVariants as ScanRefusal;
+ghost use Rattle.nl_scan.specs.inner.Pieces.{cut_from};
 
 use crate::TEXT_LIMIT;
 use crate::pieces::{Piece, first_piece};
@@ -12,6 +15,10 @@ use std::alloc::Global;
 pub fn scan(alloc: Global, text: &[u8]) -> Result<Tokens, ScanRefusal>
     ensures tokens { Scans (tokens_of text.now) result }
     ensures order { IfOk result (AreInOrder 0 (length text.now)) }
+
+    // Memory is wanted for tokens alone, so never of a text that is too long or none.
+    ensures want { IsErrOf result ScanRefusal.NoMemory → IsText text.now }
+    ensures no_tokens { tokens_of text.now ≡ Ok [] → IsOk result }
 {
     if text.len() > TEXT_LIMIT {
         return Err(ScanRefusal::Fault {
@@ -33,6 +40,7 @@ fn cut(alloc: Global, text: &[u8]) -> Result<Tokens, ScanRefusal>
     requires { length text.now ≤ text_limit }
     ensures tokens { Scans (cut_from (length text.now) 0 text.now) result }
     ensures order { IfOk result (AreInOrder 0 (length text.now)) }
+    ensures no_tokens { cut_from (length text.now) 0 text.now ≡ Ok [] → IsOk result }
 {
     let mut tokens = Tokens::empty(alloc);
     let mut at = 0;

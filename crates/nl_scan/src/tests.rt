@@ -1,6 +1,8 @@
 //! Texts with their tokens and faults, by rows that were worked out apart from the program.
 
-use crate::{Lexeme, ScanKind, ScanRefusal, code_part, line_column, scan, text_of};
+use crate::{
+    Lexeme, ScanKind, ScanRefusal, Source, bytes_of, code_part, line_column, scan, text_of, word_of,
+};
 use nl_fixed::Str;
 use std::alloc::Global;
 use std::process::Abort;
@@ -222,5 +224,109 @@ fn places_have_these_lines_and_columns(rt: HostRuntime) -> Result<(), Fail> {
     ] {
         assert_eq!(rt; line_column(text.as_bytes(), place), wanted);
     }
+    Ok(())
+}
+
+#[test]
+fn kinds_have_these_words(rt: HostRuntime) -> Result<(), Fail> {
+    for (kind, word) in [
+        (ScanKind::TooLong, "TooLong"),
+        (ScanKind::NotText, "NotText"),
+        (ScanKind::BadChar, "BadChar"),
+        (ScanKind::OpenText, "OpenText"),
+        (ScanKind::BadEscape, "BadEscape"),
+        (ScanKind::BadNumber, "BadNumber"),
+    ] {
+        let shown = format!(in rt.alloc(); "{kind}")?;
+        assert!(rt; shown.as_str() == word, "{word}");
+    }
+    Ok(())
+}
+
+#[test]
+fn a_word_is_its_bytes_in_lower_case(rt: HostRuntime) -> Result<(), Fail> {
+    let text = b" x Set-SHAPE! y";
+    let tokens = scan(rt.alloc(), text).expect(&rt, "no fault");
+    match tokens.as_slice() {
+        [_, token, _] => {
+            let within = token.span.start <= 20
+                && token.span.len <= 20
+                && token.span.start as usize + token.span.len as usize <= text.len();
+            assert!(rt; within);
+            assert!(rt; bytes_of(text, token) == b"Set-SHAPE!".as_slice());
+            let word = word_of(rt.alloc(), text, token)?;
+            assert!(rt; word.as_bytes() == b"set-shape!".as_slice());
+        }
+        _ => assert!(rt; false),
+    }
+    Ok(())
+}
+
+#[test]
+fn tokens_begin_at_these_places_and_the_text_ends_behind_them(rt: HostRuntime) -> Result<(), Fail> {
+    let text = b" ab [ \"c\" ] ".as_slice();
+    match scan(rt.alloc(), text) {
+        Ok(tokens) => {
+            let source = Source::new(text, tokens.as_slice());
+            assert_eq!(rt; source.tokens().len(), 4);
+            assert!(rt; source.text() == text);
+            for (index, place) in [(0, 1), (1, 4), (2, 6), (3, 10), (4, 12), (99, 12)] {
+                assert_eq!(rt; source.start_of(index), place);
+            }
+        }
+        Err(_) => assert!(rt; false, "tokens"),
+    }
+    Ok(())
+}
+
+// Words of one letter, with a space behind each.
+fn words(alloc: Global, count: usize) -> Result<Vec<u8>, Fail> {
+    let mut text = Vec::new(alloc);
+    'words: for _ in 0..count {
+        text.extend_from_slice(b"a ")?;
+    }
+    Ok(text)
+}
+
+#[test]
+fn a_text_may_have_very_many_tokens(rt: HostRuntime) -> Result<(), Fail> {
+    let text = words(rt.alloc(), 100_000)?;
+    let tokens = scan(rt.alloc(), text.as_slice()).expect(&rt, "no fault");
+    assert_eq!(rt; tokens.as_slice().len(), 100_000);
+    match tokens.as_slice() {
+        [.., token] => assert_eq!(rt; (token.span.start, token.span.len), (199_998, 1)),
+        [] => assert!(rt; false, "tokens"),
+    }
+    Ok(())
+}
+
+#[test]
+fn a_fault_behind_very_many_tokens_is_told_as_itself(rt: HostRuntime) -> Result<(), Fail> {
+    let faulty: [(&[u8], ScanKind, u32); 5] = [
+        (b",", ScanKind::BadChar, 200_000),
+        (b"\"", ScanKind::OpenText, 200_000),
+        (b"\"\\q\"", ScanKind::BadEscape, 200_001),
+        (b"1e99", ScanKind::BadNumber, 200_000),
+        (b"\xff", ScanKind::NotText, 200_000),
+    ];
+    for (bytes, kind, place) in faulty {
+        let mut text = words(rt.alloc(), 100_000)?;
+        text.extend_from_slice(bytes)?;
+        assert_fault(&rt, rt.alloc(), text.as_slice(), kind, place);
+    }
+    Ok(())
+}
+
+#[test]
+fn a_text_may_say_very_much(rt: HostRuntime) -> Result<(), Fail> {
+    let mut text = vec![in rt.alloc(); b'"']?;
+    let mut wanted = Vec::new(rt.alloc());
+    'parts: for _ in 0..20_000 {
+        text.extend_from_slice("aé\\n\\\"\\\\".as_bytes())?;
+        wanted.extend_from_slice("aé\n\"\\".as_bytes())?;
+    }
+    text.push(b'"')?;
+    let said = first_content(rt.alloc(), text.as_slice())?.expect(&rt, "a text");
+    assert!(rt; said.as_bytes() == wanted.as_slice());
     Ok(())
 }

@@ -3,6 +3,7 @@ ghost use Rattle.std.specs.Prelude.{◌≡◌, [], ◌∷◌, ◌++◌, OnOk, On
 
 use nl_fixed::{NoMemory, Num, Span};
 use std::alloc::Global;
+use std::fmt;
 use std::marker::Model;
 
 /// What a token is.
@@ -46,6 +47,24 @@ pub enum ScanKind {
     BadEscape,
     /// A word that has the form of a number and writes none.
     BadNumber,
+}
+
+impl fmt::Display for ScanKind {
+    ghost use Rattle.nl_scan.specs.Faults.{scan_kind_text};
+    ghost use Rattle.std.specs.Prelude.{Some};
+
+    ghost output = { λ kind. Some (scan_kind_text kind) };
+
+    fn fmt<W: fmt::Write>(&self, f: &mut fmt::Formatter<W>) -> fmt::Result {
+        match self {
+            ScanKind::TooLong => write!(f, "TooLong"),
+            ScanKind::NotText => write!(f, "NotText"),
+            ScanKind::BadChar => write!(f, "BadChar"),
+            ScanKind::OpenText => write!(f, "OpenText"),
+            ScanKind::BadEscape => write!(f, "BadEscape"),
+            ScanKind::BadNumber => write!(f, "BadNumber"),
+        }
+    }
 }
 
 /// Why a text has no tokens: its first fault with the byte at which it stands, or want of memory.

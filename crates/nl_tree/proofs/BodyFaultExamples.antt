@@ -9,7 +9,8 @@ use Rattle.nl_tree.specs.Tree.{Node, Nodes}
 use Rattle.nl_tree.specs.Vocabulary.{among, terms}
 use Rattle.nl_tree.specs.Tokens.{Lexeme, Word, End, Token, IsToken, Tok, number, word, end, Unknown, Binary, mark, marked}
 use Rattle.nl_tree.specs.Grammar.{two, Part, Closed, Chain, Sides, Call, LastCall, Items, AnyItems, Level, Literals, Arg, Args, Statement, Statements, Reads, closed_number, closed_text, closed_constant, closed_plain, closed_variable, closed_local, closed_list, closed_block, paren, paren_many, paren_minus, chain_closed, chain_with, chain_near, call_prefix, call_many, item_chain, item_call, item_near, item_of, level_up, level_binary, arg_reporter, IsText, knows}
-use Rattle.nl_tree.specs.BodyFault.{BeginsGood, BeginsReadable, Knows, IsUnknown, IsTextFault, UnknownName, Unexpected}
+use Rattle.nl_tree.specs.BodyFault.{BeginsGood, BeginsReadable, Knows, IsUnknown, IsTextFault}
+use Rattle.nl_tree.specs.declared.faults.BodyKind.TheVariants.{UnknownName, Unexpected}
 use Rattle.nl_tree.proofs.GrammarExamples.{bare, at, token, w, n, num, named, item, lifted}
 use Rattle.nl_tree.proofs.Outside.{flat_behind, outside}
 

@@ -8,9 +8,14 @@ use Rattle.nl_tree.specs.declared.tree.Label.TheVariants as label
 use Rattle.nl_tree.specs.declared.declared.Form.TheVariants as form
 use Rattle.nl_tree.specs.Tree.{node, Nodes, none}
 use Rattle.nl_tree.specs.Vocabulary.{among, terms}
-use Rattle.nl_tree.specs.Tokens.{Open, Close, End, Token, IsToken, Tok, number, word, open_bracket, end, marked, Unknown, Constant, Command, Whole, Maybe, Within, CommandsBlock}
-use Rattle.nl_tree.specs.Grammar.{one, two, leaf, Part, Ending, AtBracket, Args, Statement, Statements, Reads, IsText, knows, closed_number, closed_text, closed_constant, closed_plain, closed_variable, closed_local, closed_list, closed_block, paren, paren_many, paren_minus, chain_closed, chain_with, chain_near, call_prefix, call_many, item_chain, item_call, item_near, item_of, level_up, level_binary, arg_whole, arg_commands, arg_reporter, no_arg, arg, maybe_there, maybe_missing, command, make, statement_paren, at_bracket, at_end, statements}
-use Rattle.nl_tree.specs.BodyFault.{BeginsGood, BeginsReadable, Knows, IsUnknown, IsTextFault, UnknownName, Unexpected}
+use Rattle.nl_tree.specs.Tokens.{Open, Close, End, Token, IsToken, Tok, number, word, open_bracket, end, marked, Unknown, Constant, Command}
+use Rattle.nl_tree.specs.declared.needs.Need.TheVariants.{Whole, Maybe, Within}
+use Rattle.nl_tree.specs.declared.needs.Block.TheVariants as blocks
+use Rattle.nl_tree.specs.Grammar.{one, two, leaf, Part, Args, Statement, Statements, Reads, IsText, knows, closed_number, closed_text, closed_constant, closed_plain, closed_variable, closed_local, closed_list, closed_block, paren, paren_many, paren_minus, chain_closed, chain_with, chain_near, call_prefix, call_many, item_chain, item_call, item_near, item_of, level_up, level_binary, arg_whole, arg_commands, arg_reporter, no_arg, arg, maybe_there, maybe_missing, command, make, statement_paren, at_bracket, at_end, statements}
+use Rattle.nl_tree.specs.declared.needs.Ending.{Ending}
+use Rattle.nl_tree.specs.declared.needs.Ending.TheVariants.{AtBracket}
+use Rattle.nl_tree.specs.BodyFault.{BeginsGood, BeginsReadable, Knows, IsUnknown, IsTextFault}
+use Rattle.nl_tree.specs.declared.faults.BodyKind.TheVariants.{UnknownName, Unexpected}
 use Rattle.nl_tree.proofs.GrammarExamples.{bare, at, token, w, n, num, named, item, lifted}
 use Rattle.nl_tree.proofs.BodyFaultExamples.{IsValue, word_there, all_one}
 use Rattle.nl_tree.proofs.Outside.{neither, not_first, not_second, flat_behind, outside}
@@ -134,17 +139,17 @@ no_open_block v m p q s r (statements (make h d) f) same = cc
 no_open_block v m p q s r (statements (statement_paren d) f) same = cc
 
 -- the inputs of if: a value, and a block that isn't closed
-no_condition : {e : List (List ℕ)} {a c : List Tok} {ts : Nodes} (u v : List ℕ) (m : ℤ) (i o p q s : Span) (r : List Tok) → Reads (Args (Whole ∷ Within CommandsBlock ∷ [])) e a c ts → a ≡ word u Constant i ∷ open_bracket o ∷ word v (Command (Whole ∷ Maybe ∷ [])) p ∷ number m q ∷ end s ∷ r → ⊥
+no_condition : {e : List (List ℕ)} {a c : List Tok} {ts : Nodes} (u v : List ℕ) (m : ℤ) (i o p q s : Span) (r : List Tok) → Reads (Args (Whole ∷ Within blocks.Commands ∷ [])) e a c ts → a ≡ word u Constant i ∷ open_bracket o ∷ word v (Command (Whole ∷ Maybe ∷ [])) p ∷ number m q ∷ end s ∷ r → ⊥
 no_condition u v m i o p q s r (arg (arg_whole d) (arg (arg_commands {b = b} body) no_arg)) same =
     let open_there = after_leaf d tt (word u Constant i) (open_bracket o ∷ word v (Command (Whole ∷ Maybe ∷ [])) p ∷ number m q ∷ end s ∷ r) refl same tt in
     let inside : b ≡ word v (Command (Whole ∷ Maybe ∷ [])) p ∷ number m q ∷ end s ∷ r = cc in
     no_open_block v m p q s r body inside
 
-no_open_text : {k : Ending} {e : List (List ℕ)} {a c : List Tok} {ts : Nodes} (t u v : List ℕ) (m : ℤ) (h i o p q s : Span) (r : List Tok) → Reads (Statements k) e a c ts → a ≡ word t (Command (Whole ∷ Within CommandsBlock ∷ [])) h ∷ word u Constant i ∷ open_bracket o ∷ word v (Command (Whole ∷ Maybe ∷ [])) p ∷ number m q ∷ end s ∷ r → ⊥
+no_open_text : {k : Ending} {e : List (List ℕ)} {a c : List Tok} {ts : Nodes} (t u v : List ℕ) (m : ℤ) (h i o p q s : Span) (r : List Tok) → Reads (Statements k) e a c ts → a ≡ word t (Command (Whole ∷ Within blocks.Commands ∷ [])) h ∷ word u Constant i ∷ open_bracket o ∷ word v (Command (Whole ∷ Maybe ∷ [])) p ∷ number m q ∷ end s ∷ r → ⊥
 no_open_text t u v m h i o p q s r at_bracket same = cc
 no_open_text t u v m h i o p q s r at_end same = cc
 no_open_text t u v m h i o p q s r (statements (command {e = e} {is = is} {b = b} {c = c} {ts = ts} d) f) same =
-    let needs : is ≡ Whole ∷ Within CommandsBlock ∷ [] = cc in
+    let needs : is ≡ Whole ∷ Within blocks.Commands ∷ [] = cc in
     let rest : b ≡ word u Constant i ∷ open_bracket o ∷ word v (Command (Whole ∷ Maybe ∷ [])) p ∷ number m q ∷ end s ∷ r = cc in
     no_condition u v m i o p q s r (subst (λ these. Reads (Args these) e b c ts) needs d) rest
 no_open_text t u v m h i o p q s r (statements (make known d) f) same = cc

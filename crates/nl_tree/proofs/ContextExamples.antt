@@ -14,7 +14,9 @@ use Rattle.nl_tree.specs.Tree.{Node, node, none}
 use Rattle.nl_tree.specs.Term.{Term}
 use Rattle.nl_tree.specs.Vocabulary.{terms, term_named}
 use Rattle.nl_tree.specs.Grammar.{one, two}
-use Rattle.nl_tree.specs.Context.{Kind, Observer, Turtle, Patch, Link, allows, given, Use, uses, Run, Set, Spread, words_at, Leads, at_word, by_call, Bars, IsWrongContext, IsRight, IsFaultAt, IsFirstFault, IsRightText, WrongContext, NotSettable, NoReport, is_not_settable, has_no_report, AreLeft}
+use Rattle.nl_words.specs.declared.entry.Manner.TheVariants as manner
+use Rattle.nl_tree.specs.Context.{Kind, Observer, Turtle, Patch, Link, allows, given, Use, uses, words_at, Leads, at_word, by_call, Bars, IsWrongContext, IsRight, IsFaultAt, IsFirstFault, IsRightText, is_not_settable, has_no_report, AreLeft}
+use Rattle.nl_tree.specs.declared.faults.CheckKind.TheVariants.{WrongContext, NotSettable, NoReport}
 use Rattle.nl_tree.proofs.GrammarExamples.{bare, at, num, named}
 
 -- A test: the words have no row, or one that the kind may run and that calls no procedure. Then none of them bars the kind.
@@ -55,7 +57,7 @@ unbarred table bodies kind ws free w (k, within, is) =
     one_is_free table bodies kind w (subst (λ x. is_free kind (term_named table x) ≡ true) is (all_free_at (λ x. is_free kind (term_named table x)) ws k w free within))
 
 -- no kind is barred from such words, so none of them is out of context
-left_is_right : (table : List Term) (bodies : List Node) (reporter : Bool) (u : Use) (kind : Kind) → allows u.first kind ≡ true → list_all (λ w. is_free kind (term_named table w)) u.so_far ≡ true → is_not_settable table u.manner u.name ≡ false → has_no_report reporter u.in_block u.name ≡ false → IsRight table bodies reporter u
+left_is_right : (table : List Term) (bodies : List Node) (reporter : Bool) (u : Use) (kind : Kind) → allows u.first kind ≡ true → list_all (λ w. is_free kind (term_named table w)) u.so_far ≡ true → is_not_settable table u.manner u.name ≡ false → has_no_report table reporter u.in_block u.name ≡ false → IsRight table bodies reporter u
 left_is_right table bodies reporter u kind first free settable reports WrongContext fault = fault kind (first, unbarred table bodies kind u.so_far free)
 left_is_right table bodies reporter u kind first free settable reports NotSettable fault = let no = fault.1 in cc
 left_is_right table bodies reporter u kind first free settable reports NoReport fault = let no = fault.2 in cc
@@ -71,9 +73,9 @@ abbrev asks_patches : Node
 asks_patches = body (named "ask" 0 (two (named "patches" 1 none) (block 2 (named "fd" 3 (one (num 1 4))))))
 
 words_and_blocks : uses (terms bare) everyone asks_patches ≡
-    record { name = codes "ask"; span = at 0; manner = Run; so_far = codes "ask" ∷ []; first = everyone; in_block = false }
-    ∷ record { name = codes "patches"; span = at 1; manner = Run; so_far = codes "ask" ∷ codes "patches" ∷ []; first = everyone; in_block = false }
-    ∷ record { name = codes "fd"; span = at 3; manner = Run; so_far = codes "fd" ∷ []; first = patches; in_block = true }
+    record { name = codes "ask"; span = at 0; manner = manner.Run; so_far = codes "ask" ∷ []; first = everyone; in_block = false }
+    ∷ record { name = codes "patches"; span = at 1; manner = manner.Run; so_far = codes "ask" ∷ codes "patches" ∷ []; first = everyone; in_block = false }
+    ∷ record { name = codes "fd"; span = at 3; manner = manner.Run; so_far = codes "fd" ∷ []; first = patches; in_block = true }
     ∷ []
 unfolding rows
 words_and_blocks = refl
@@ -88,10 +90,10 @@ begins (at_word {w = w} {t = t} within here bars) = (w, (within, (t, (here, inl 
 begins (by_call {j = j} {w = w} {t = t} within here calls later) = (w, (within, (t, (here, inr (j, (calls, later))))))
 
 abbrev ask_use : Use
-ask_use = record { name = codes "ask"; span = at 0; manner = Run; so_far = codes "ask" ∷ []; first = everyone; in_block = false }
+ask_use = record { name = codes "ask"; span = at 0; manner = manner.Run; so_far = codes "ask" ∷ []; first = everyone; in_block = false }
 
 abbrev patches_use : Use
-patches_use = record { name = codes "patches"; span = at 1; manner = Run; so_far = codes "ask" ∷ codes "patches" ∷ []; first = everyone; in_block = false }
+patches_use = record { name = codes "patches"; span = at 1; manner = manner.Run; so_far = codes "ask" ∷ codes "patches" ∷ []; first = everyone; in_block = false }
 
 asking_is_right : All (IsRight (terms bare) (asks_patches ∷ []) false) (ask_use ∷ patches_use ∷ [])
 unfolding rows
@@ -100,7 +102,7 @@ asking_is_right (suc zero) d h = left_is_right (terms bare) (asks_patches ∷ []
 asking_is_right (suc (suc k)) d h = absurd (omega (arith, h))
 
 abbrev fd_use : Use
-fd_use = record { name = codes "fd"; span = at 3; manner = Run; so_far = codes "fd" ∷ []; first = patches; in_block = true }
+fd_use = record { name = codes "fd"; span = at 3; manner = manner.Run; so_far = codes "fd" ∷ []; first = patches; in_block = true }
 
 fd_is_wrong : IsWrongContext (terms bare) (asks_patches ∷ []) fd_use
 unfolding rows
@@ -118,10 +120,10 @@ abbrev sets_who : Node
 sets_who = body (named "set" 0 (two (named "who" 1 none) (num 3 2)))
 
 abbrev set_use : Kinds → Use
-set_use first = record { name = codes "set"; span = at 0; manner = Run; so_far = codes "set" ∷ []; first = first; in_block = false }
+set_use first = record { name = codes "set"; span = at 0; manner = manner.Run; so_far = codes "set" ∷ []; first = first; in_block = false }
 
 abbrev who_use : Kinds → Use
-who_use first = record { name = codes "who"; span = at 1; manner = Set; so_far = codes "set" ∷ codes "who" ∷ []; first = first; in_block = false }
+who_use first = record { name = codes "who"; span = at 1; manner = manner.Set; so_far = codes "set" ∷ codes "who" ∷ []; first = first; in_block = false }
 
 set_is_right : (first : Kinds) → first.observer ≡ true → All (IsRight (terms bare) (sets_who ∷ []) false) (set_use first ∷ [])
 unfolding rows
@@ -158,7 +160,7 @@ abbrev reports : Node
 reports = body (named "report" 0 (one (num 3 1)))
 
 abbrev report_use : Use
-report_use = record { name = codes "report"; span = at 0; manner = Run; so_far = codes "report" ∷ []; first = everyone; in_block = false }
+report_use = record { name = codes "report"; span = at 0; manner = manner.Run; so_far = codes "report" ∷ []; first = everyone; in_block = false }
 
 report_has_no_place : IsFirstFault (terms bare) (reports ∷ []) false (uses (terms bare) everyone reports) NoReport (at 0)
 unfolding rows
@@ -198,10 +200,10 @@ abbrev two_bodies : List Node
 two_bodies = asks_turtles ∷ ticks ∷ []
 
 abbrev turtles_use : Use
-turtles_use = record { name = codes "turtles"; span = at 1; manner = Run; so_far = codes "ask" ∷ codes "turtles" ∷ []; first = everyone; in_block = false }
+turtles_use = record { name = codes "turtles"; span = at 1; manner = manner.Run; so_far = codes "ask" ∷ codes "turtles" ∷ []; first = everyone; in_block = false }
 
 abbrev b_use : Use
-b_use = record { name = codes "b"; span = at 3; manner = Run; so_far = codes "b" ∷ []; first = turtles; in_block = true }
+b_use = record { name = codes "b"; span = at 3; manner = manner.Run; so_far = codes "b" ∷ []; first = turtles; in_block = true }
 
 leads_to_tick : (kind : Kind) → not (allows observers kind) ≡ true → Leads (terms pair_of_procedures) two_bodies kind 1
 unfolding rows
@@ -240,10 +242,10 @@ abbrev diffuses : Node
 diffuses = body (named "diffuse" 0 (two (named "p" 1 none) (num 1 2)))
 
 abbrev diffuse_use : Use
-diffuse_use = record { name = codes "diffuse"; span = at 0; manner = Run; so_far = codes "diffuse" ∷ []; first = observers; in_block = false }
+diffuse_use = record { name = codes "diffuse"; span = at 0; manner = manner.Run; so_far = codes "diffuse" ∷ []; first = observers; in_block = false }
 
 abbrev p_use : Use
-p_use = record { name = codes "p"; span = at 1; manner = Spread; so_far = codes "diffuse" ∷ []; first = observers; in_block = false }
+p_use = record { name = codes "p"; span = at 1; manner = manner.Spread; so_far = codes "diffuse" ∷ []; first = observers; in_block = false }
 
 observer_may_diffuse : IsRightText (terms grass) [] diffuses
 unfolding rows
@@ -252,11 +254,11 @@ observer_may_diffuse (suc zero) d h = left_is_right (terms grass) [] false p_use
 observer_may_diffuse (suc (suc k)) d h = absurd (omega (arith, h))
 
 -- diffuse color 1: no variable of patches
-diffuse_wants_patches : is_not_settable (terms grass) Spread (codes "color") ≡ true
+diffuse_wants_patches : is_not_settable (terms grass) manner.Spread (codes "color") ≡ true
 unfolding rows
 diffuse_wants_patches = refl
 
-diffuse_takes_a_patch_variable : is_not_settable (terms grass) Spread (codes "p") ≡ false
+diffuse_takes_a_patch_variable : is_not_settable (terms grass) manner.Spread (codes "p") ≡ false
 unfolding rows
 diffuse_takes_a_patch_variable = refl
 

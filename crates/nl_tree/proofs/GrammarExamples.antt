@@ -10,7 +10,8 @@ use Rattle.nl_tree.specs.declared.declared.Form.TheVariants as form
 use Rattle.nl_tree.specs.Tree.{Node, node, Nodes, none, more, depth}
 use Rattle.nl_tree.specs.Vocabulary.{terms}
 use Rattle.nl_tree.specs.Tokens.{Lexeme, Number, Text, Word, Open, Close, OpenParen, CloseParen, End, Token, Tok, marked}
-use Rattle.nl_tree.specs.Grammar.{one, two, leaf, Reads, Level, Closed, Statements, AtEnd, knows, closed_number, closed_text, closed_constant, closed_plain, closed_variable, closed_local, closed_list, closed_block, paren, paren_many, paren_minus, chain_closed, chain_with, chain_near, one_side, more_sides, call_prefix, call_many, one_item, more_items, last_call, more_last, no_item, any_item, item_chain, item_call, item_near, item_of, level_up, level_binary, literal_end, literal_number, literal_text, literal_constant, literal_list, arg_item, arg_whole, arg_commands, arg_reporter, arg_variable, arg_local, no_arg, arg, maybe_there, maybe_missing, command, make, statement_paren, at_bracket, at_end, statements, IsText}
+use Rattle.nl_tree.specs.Grammar.{one, two, leaf, Reads, Level, Closed, Statements, knows, closed_number, closed_text, closed_constant, closed_plain, closed_variable, closed_local, closed_list, closed_block, paren, paren_many, paren_minus, chain_closed, chain_with, chain_near, one_side, more_sides, call_prefix, call_many, one_item, more_items, last_call, more_last, no_item, any_item, item_chain, item_call, item_near, item_of, level_up, level_binary, literal_end, literal_number, literal_text, literal_constant, literal_list, arg_item, arg_whole, arg_commands, arg_reporter, arg_variable, arg_local, no_arg, arg, maybe_there, maybe_missing, command, make, statement_paren, at_bracket, at_end, statements, IsText}
+use Rattle.nl_tree.specs.declared.needs.Ending.TheVariants.{AtEnd}
 
 -- a model that declares nothing
 abbrev pub bare : Declared

@@ -19,7 +19,7 @@ found_first p q x rs r true is passes here later = let it : x ≡ r = cc in subs
 found_first p q x rs r false is passes here later = later here
 
 -- a row that is found passes each test that all rows pass
-found_passes : (p q : Row → Bool) (rs : List Row) (r : Row) → list_all q rs ≡ true → find p rs ≡ Some r → q r ≡ true
+pub found_passes : (p q : Row → Bool) (rs : List Row) (r : Row) → list_all q rs ≡ true → find p rs ≡ Some r → q r ≡ true
 found_passes p q [] r all here = cc
 found_passes p q (x ∷ rs) r all here = found_first p q x rs r (p x) refl (first_so (q x) (list_all q rs) all) here (found_passes p q rs r (second_so (q x) (list_all q rs) all))
 

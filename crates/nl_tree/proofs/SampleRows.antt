@@ -17,7 +17,7 @@ use Rattle.nl_tree.specs.Grammar.{at_end}
 use Rattle.nl_tree.specs.BodyFault.{Fits}
 use Rattle.nl_tree.specs.Context.{Kind, Observer, Turtle, Patch, Link, Leads, at_word, by_call, IsRightBody, AreLeft}
 use Rattle.nl_tree.specs.Checked.{BodiesFit, BodiesAreRight, KindsAreLeft}
-use Rattle.nl_tree.specs.Samples.{declaring, going, going_body, base_whats}
+use Rattle.nl_tree.specs.inner.Samples.{declaring, going, going_body, base_whats}
 
 abbrev base_what : Row → NamedWhat
 base_what r = named_what (base_term r)

@@ -17,13 +17,13 @@ use Rattle.nl_tree.specs.declared.declared.Form.{Form}
 use Rattle.nl_tree.specs.declared.declared.Form.TheVariants as form
 use Rattle.nl_tree.specs.Tree.{Node, node, Nodes, none, more}
 use Rattle.nl_tree.specs.Term.{Term}
-use Rattle.nl_tree.specs.Tokens.{Lexeme, Token, Block, CommandsBlock, ReporterBlock, Need, Item, Whole, Within, Maybe, Variable, Class, Unknown, Constant, Plain, Named, Prefix, Many, Closing, Command, Let, With, Near, Of, Binary, Nowhere, class_of, class_of_term, Tok, number, text, word, open_bracket, close_bracket, open_paren, close_paren, end, marked_as, mark, marked}
-use Rattle.nl_tree.specs.Tokens as lexeme
+use Rattle.nl_tree.specs.Tokens.{Token, Class, Unknown, Constant, Plain, Named, Prefix, Many, Closing, Command, Let, With, Near, Of, Binary, Nowhere, class_of, Tok, marked}
 use Rattle.nl_tree.specs.Grammar as grammar
 use Rattle.nl_tree.specs.Grammar.{one, two, leaf, join, and_last, Part, Closed, Chain, Sides, Call, LastCall, Items, AnyItems, Level, Literals, Arg, Args, Statement, Statements, Reads, IsText}
 use Rattle.nl_tree.specs.BodyFault.{Fits, ends_at}
 use Rattle.nl_tree.specs.Vocabulary.{among, term_named, terms, named_what, what_of}
 use Rattle.nl_tree.specs.Slots.{name_at, names, names_in, is_let, made_at, made, made_in, HasSlot, NamesHaveSlots}
+use Rattle.nl_tree.proofs.Marked.{AreMarked, all_marked}
 use Rattle.nl_tree.proofs.Range.{named_in_range}
 
 abbrev pub HasRow : List Term → List ℕ → Type 0
@@ -50,35 +50,6 @@ row_there None c same known = let bad : true ≡ false = sym (ap is_unknown same
 row_there (Some t) c same known = (t, refl)
 
 module _ (table : List Term) (K : List ℕ → Type 0) where
-  -- what a token says of its word's row
-  abbrev IsMarked : Tok → Type 0
-  IsMarked (word w c s) = c ≡ class_of (term_named table w)
-  IsMarked (number n s) = Unit {0}
-  IsMarked (text bytes s) = Unit {0}
-  IsMarked (open_bracket s) = Unit {0}
-  IsMarked (close_bracket s) = Unit {0}
-  IsMarked (open_paren s) = Unit {0}
-  IsMarked (close_paren s) = Unit {0}
-  IsMarked (end s) = Unit {0}
-
-  abbrev AreMarked : List Tok → Type 0
-  AreMarked [] = Unit {0}
-  AreMarked (k ∷ ks) = IsMarked k × AreMarked ks
-
-  marked_as_such : (s : _) (l : Lexeme) → IsMarked (marked_as table s l)
-  marked_as_such s (lexeme.Number n) = tt
-  marked_as_such s (lexeme.Text bytes) = tt
-  marked_as_such s (lexeme.Word name) = refl
-  marked_as_such s lexeme.Open = tt
-  marked_as_such s lexeme.Close = tt
-  marked_as_such s lexeme.OpenParen = tt
-  marked_as_such s lexeme.CloseParen = tt
-  marked_as_such s lexeme.End = tt
-
-  all_marked : (ts : List Token) → AreMarked (marked table ts)
-  all_marked [] = tt
-  all_marked (t ∷ ts) = (marked_as_such t.span t.lexeme, all_marked ts)
-
   -- each name has a row or is known
   abbrev Stands : Label → Type 0
   Stands (label.Named w) = K w ⊎ HasRow table w
@@ -152,7 +123,7 @@ module _ (table : List Term) (K : List ℕ → Type 0) where
     | false ↦ λ same later. known m later
   ] refl h
 
-  read : {p : Part} {e : List (List ℕ)} {a c : List Tok} {ts : Nodes} → Reads p e a c ts → Made e → AreMarked a → MakeIn ts → StandIn ts × AreMarked c × Then p
+  read : {p : Part} {e : List (List ℕ)} {a c : List Tok} {ts : Nodes} → Reads p e a c ts → Made e → AreMarked table a → MakeIn ts → StandIn ts × AreMarked table c × Then p
   read (grammar.closed_number) k m d = (((tt, tt), tt), m.1, tt)
   read (grammar.closed_text) k m d = (((tt, tt), tt), m.1, tt)
   read (grammar.closed_constant {w = w}) k m d = (((row w Constant m.0 refl, tt), tt), m.1, tt)
@@ -299,8 +270,8 @@ module _ (table : List Term) (K : List ℕ → Type 0) where
 
   text_stands : (f : Form) (e : List (List ℕ)) (ts : List Token) (t : Node) → IsText f e (marked table ts) t → Made table K e → Makes table K t → Stand table K t
   text_stands form.Commands e ts t (parts, is, r) known makes =
-      subst (Stand table K) (sym is) (tt, (read table K r known (all_marked table K ts) (subst (Makes table K) is makes).1).0)
-  text_stands form.Reporter e ts t (s, r) known makes = (read table K r known (all_marked table K ts) (makes, tt)).0.0
+      subst (Stand table K) (sym is) (tt, (read table K r known (all_marked table ts) (subst (Makes table K) is makes).1).0)
+  text_stands form.Reporter e ts t (s, r) known makes = (read table K r known (all_marked table ts) (makes, tt)).0.0
 
 named_first : (name : List ℕ) (t u : Term) (us : List Term) (same : Bool) → cond same (Some u) (term_named us name) ≡ Some t
     → (term_named us name ≡ Some t → find (λ (r : NamedWhat). bytes_eq r.name name) (map named_what us) ≡ Some (named_what t))

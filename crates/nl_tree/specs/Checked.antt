@@ -2,6 +2,7 @@
 use Rattle.std.specs.Prelude.{◌≡◌, ℕ, ◌<◌, ◌≤◌, Bool, false, List, Some, length, slice_get, refl}
 use Rattle.std.specs.Coded.{Coded, code_by, coded_list, coded_ℕ, coded_bool, coded×}
 use Rattle.std.specs.List.Sorted.{IsPermutation}
+use Rattle.nl_fixed.specs.Nouns.{Name, Names}
 use Rattle.nl_words.specs.Rows.{rows}
 use Rattle.nl_words.specs.Table.{is_before}
 use Rattle.nl_words.specs.Kinds.{everyone, observers}
@@ -15,13 +16,15 @@ use Rattle.nl_tree.specs.declared.declared.What.{What}
 use Rattle.nl_tree.specs.declared.declared.What.TheVariants as what
 use Rattle.nl_tree.specs.declared.declared.Form.TheVariants as form
 use Rattle.nl_tree.specs.Tree.{Node}
-use Rattle.nl_tree.specs.TreeCode.{node_code}
-use Rattle.nl_tree.specs.TermCode.{kinds_code, term_code}
+use Rattle.nl_tree.specs.inner.TreeCode.{node_code}
+use Rattle.nl_words.specs.RowCode.{kinds_code}
+use Rattle.nl_tree.specs.inner.TermCode.{term_code}
 use Rattle.nl_tree.specs.Names.{IsDeclared}
 use Rattle.nl_tree.specs.Term.{Term}
 use Rattle.nl_tree.specs.Vocabulary.{terms, whats, global_names, owned_names}
 use Rattle.nl_tree.specs.BodyFault.{Fits}
-use Rattle.nl_tree.specs.Context.{ContextFault, uses, IsFirstFault, IsRightBody, AreLeft}
+use Rattle.nl_tree.specs.Context.{uses, IsFirstFault, IsRightBody, AreLeft}
+use Rattle.nl_tree.specs.declared.faults.CheckKind.{CheckKind}
 
 -- a program without where it lies in memory
 pub record Checked : Type 0 where
@@ -42,14 +45,14 @@ abbrev pub BodiesAreRight : Declared → List Node → Type 0
 BodiesAreRight d bodies = (i : ℕ) (p : Procedure) (t : Node) → slice_get d.procedures i ≡ Some p → slice_get bodies i ≡ Some t → IsRightBody (terms d) bodies p.reporter t
 
 -- the first fault of a model's bodies: the first body by the order of the text that has one, and its first
-abbrev pub IsModelFault : Declared → List Node → ℕ → ContextFault → Span → Type 0
+abbrev pub IsModelFault : Declared → List Node → ℕ → CheckKind → Span → Type 0
 IsModelFault d bodies i fault place =
     (p : Procedure) × (t : Node)
     × ((slice_get d.procedures i ≡ Some p) × (slice_get bodies i ≡ Some t) × IsFirstFault (terms d) bodies p.reporter (uses (terms d) everyone t) fault place
     × ((j : ℕ) (q : Procedure) (u : Node) → j < i → slice_get d.procedures j ≡ Some q → slice_get bodies j ≡ Some u → IsRightBody (terms d) bodies q.reporter u))
 
 -- the first fault of a lone text that the observer runs
-abbrev pub IsLoneFault : Declared → List Node → Node → ContextFault → Span → Type 0
+abbrev pub IsLoneFault : Declared → List Node → Node → CheckKind → Span → Type 0
 IsLoneFault d bodies t fault place = IsFirstFault (terms d) bodies false (uses (terms d) observers t) fault place
 
 -- each entry has the kinds that are left at the last word of its body
@@ -83,23 +86,23 @@ comes_before a b = is_before a.name b.name
 
 -- Codes, by which a proof tells programs apart.
 
-abbrev coded_names : Coded (List (List ℕ))
+abbrev coded_names : Coded (Names)
 coded_names = coded_list (coded_list coded_ℕ)
 
 abbrev pub breed_code : Coded Breed
-breed_code = code_by (List ℕ × (List ℕ × (Bool × (Bool × List (List ℕ))))) (coded× (coded_list coded_ℕ) (coded× (coded_list coded_ℕ) (coded× coded_bool (coded× coded_bool coded_names))))
+breed_code = code_by (Name × (Name × (Bool × (Bool × Names)))) (coded× (coded_list coded_ℕ) (coded× (coded_list coded_ℕ) (coded× coded_bool (coded× coded_bool coded_names))))
     (λ b. (b.plural, (b.singular, (b.link, (b.directed, b.own)))))
     (λ c. record { plural = c.0; singular = c.1.0; link = c.1.1.0; directed = c.1.1.1.0; own = c.1.1.1.1 })
     (λ _. refl)
 
 abbrev pub procedure_code : Coded Procedure
-procedure_code = code_by (List ℕ × (Bool × (List (List ℕ) × (ℕ × ℕ)))) (coded× (coded_list coded_ℕ) (coded× coded_bool (coded× coded_names (coded× coded_ℕ coded_ℕ))))
+procedure_code = code_by (Name × (Bool × (Names × (ℕ × ℕ)))) (coded× (coded_list coded_ℕ) (coded× coded_bool (coded× coded_names (coded× coded_ℕ coded_ℕ))))
     (λ p. (p.name, (p.reporter, (p.inputs, (p.first, p.after)))))
     (λ c. record { name = c.0; reporter = c.1.0; inputs = c.1.1.0; first = c.1.1.1.0; after = c.1.1.1.1 })
     (λ _. refl)
 
 abbrev pub declared_code : Coded Declared
-declared_code = code_by (List (List ℕ) × (List (List ℕ) × (List (List ℕ) × (List (List ℕ) × (List (List ℕ) × (List Breed × (List Procedure × List Term)))))))
+declared_code = code_by (Names × (Names × (Names × (Names × (Names × (List Breed × (List Procedure × List Term)))))))
     (coded× coded_names (coded× coded_names (coded× coded_names (coded× coded_names (coded× coded_names (coded× (coded_list breed_code) (coded× (coded_list procedure_code) (coded_list term_code))))))))
     (λ d. (d.widgets, (d.globals, (d.turtles_own, (d.patches_own, (d.links_own, (d.breeds, (d.procedures, d.index))))))))
     (λ c. record { widgets = c.0; globals = c.1.0; turtles_own = c.1.1.0; patches_own = c.1.1.1.0; links_own = c.1.1.1.1.0; breeds = c.1.1.1.1.1.0; procedures = c.1.1.1.1.1.1.0; index = c.1.1.1.1.1.1.1 })

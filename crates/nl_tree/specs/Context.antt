@@ -1,8 +1,9 @@
 -- Who may run a text.
 -- That a word belongs to kinds of agents, and a block of `ask` and its kin to the agents that run it, is that of the NetLogo Programming Guide
 -- ("Agents", "Ask") and Dictionary; how far kinds are followed through calls, and what is refused, is this project's own choice.
-use Rattle.std.specs.Prelude.{◌≡◌, ℕ, ◌==◌, ◌↔◌, ◌⊎◌, Bool, true, false, not, ◌&&◌, ◌||◌, if◌then◌else◌, IsTrue, List, [], ◌∷◌, ◌++◌, Option, Some, None, slice_get, All, bytes_eq, codes}
+use Rattle.std.specs.Prelude.{◌≡◌, ℕ, ◌==◌, ◌↔◌, ◌⊎◌, Bool, true, false, not, ◌&&◌, ◌||◌, if◌then◌else◌, IsTrue, List, [], ◌∷◌, ◌++◌, Option, Some, None, slice_get, All}
 use Rattle.std.specs.List.{Contains}
+use Rattle.nl_fixed.specs.Nouns.{Name}
 use Rattle.nl_fixed.specs.declared.span.Span.{Span}
 use Rattle.nl_words.specs.Kinds.{everyone, observers, turtles, links, agents}
 use Rattle.nl_words.specs.Row.{Row, row_at}
@@ -12,13 +13,21 @@ use Rattle.nl_words.specs.declared.entry.Role.TheVariants as role
 use Rattle.nl_words.specs.declared.entry.Input.{Input}
 use Rattle.nl_words.specs.declared.entry.Input.TheVariants as input
 use Rattle.nl_words.specs.declared.entry.Kinds.{Kinds}
+use Rattle.nl_words.specs.declared.entry.Runner.{Runner}
+use Rattle.nl_words.specs.declared.entry.Runner.TheVariants as runner
+use Rattle.nl_words.specs.declared.entry.Manner.{Manner}
+use Rattle.nl_words.specs.declared.entry.Manner.TheVariants as manner
+use Rattle.nl_words.specs.declared.entry.Leaving.{Leaving}
+use Rattle.nl_words.specs.declared.entry.Leaving.TheVariants as leaving
 use Rattle.nl_tree.specs.declared.tree.Label.{Label}
 use Rattle.nl_tree.specs.declared.tree.Label.TheVariants as label
 use Rattle.nl_tree.specs.declared.declared.What.{What}
 use Rattle.nl_tree.specs.declared.declared.What.TheVariants as what
+use Rattle.nl_tree.specs.declared.faults.CheckKind.{CheckKind}
+use Rattle.nl_tree.specs.declared.faults.CheckKind.TheVariants.{WrongContext, NotSettable, NoReport}
 use Rattle.nl_tree.specs.Tree.{Node, node, Nodes, none, more}
 use Rattle.nl_tree.specs.Term.{Term}
-use Rattle.nl_tree.specs.Vocabulary.{among, term_named}
+use Rattle.nl_tree.specs.Vocabulary.{term_named}
 use Rattle.nl_tree.specs.Tokens.{inputs_of}
 
 pub data Kind : Type 0 where
@@ -33,30 +42,49 @@ allows ks Turtle = ks.turtle
 allows ks Patch = ks.patch
 allows ks Link = ks.link
 
--- Words by what they are: a breed's word stands for the word without a breed.
+-- What the table of built-in words says of a word: a breed's word stands for the word without a breed.
 
-abbrev pub name_of_row : Option Row → List ℕ
-name_of_row None = []
-name_of_row (Some r) = r.name
+abbrev pub row_of_what : What → Option Row
+row_of_what (what.Base code) = row_at rows code
+row_of_what (what.Made breed code) = row_at rows code
+row_of_what (what.Global n) = None
+row_of_what (what.Own n) = None
+row_of_what (what.Procedure n) = None
 
-abbrev pub base_name : What → List ℕ
-base_name (what.Base code) = name_of_row (row_at rows code)
-base_name (what.Made breed code) = name_of_row (row_at rows code)
-base_name (what.Global n) = []
-base_name (what.Own n) = []
-base_name (what.Procedure n) = []
+abbrev pub row_of_term : Option Term → Option Row
+row_of_term None = None
+row_of_term (Some t) = row_of_what t.what
 
--- words whose blocks the same agent runs
+-- who runs the word's blocks
+abbrev pub runner_by : Option Row → Runner
+runner_by None = runner.NoBlock
+runner_by (Some r) = r.blocks
+
+-- how the variable stands there that the word names
+abbrev pub manner_by : Option Row → Manner
+manner_by None = manner.Run
+manner_by (Some r) = r.manner
+
+-- whether no text sets the variable
+abbrev pub fixed_by : Option Row → Bool
+fixed_by None = false
+fixed_by (Some r) = r.fixed
+
+-- whether the word leaves its procedure
+abbrev pub leaving_by : Option Row → Leaving
+leaving_by None = leaving.Stays
+leaving_by (Some r) = r.leaving
+
+abbrev pub is_same : Runner → Bool
+is_same runner.Same = true
+is_same runner.NoBlock = false
+is_same runner.Turtles = false
+is_same runner.Links = false
+is_same runner.Given = false
+
+-- the same agent runs the word's blocks
 abbrev pub runs_itself : Term → Bool
-runs_itself t = among (base_name t.what) (codes "if" ∷ codes "ifelse" ∷ codes "ifelse-value" ∷ codes "loop" ∷ codes "repeat" ∷ codes "while" ∷ [])
-
--- words whose block the new turtles run, or the new links
-abbrev pub makes_turtles : Term → Bool
-makes_turtles t = among (base_name t.what) (codes "create-turtles" ∷ codes "crt" ∷ codes "create-ordered-turtles" ∷ codes "cro" ∷ codes "hatch" ∷ codes "sprout" ∷ [])
-
-abbrev pub makes_links : Term → Bool
-makes_links t =
-    among (base_name t.what) (codes "create-link-with" ∷ codes "create-links-with" ∷ codes "create-link-to" ∷ codes "create-links-to" ∷ codes "create-link-from" ∷ codes "create-links-from" ∷ [])
+runs_itself t = is_same (runner_by (row_of_what t.what))
 
 -- What agents an expression may give, by its row.
 
@@ -114,15 +142,9 @@ abbrev mutual
 
 -- A text as its words and, each in its place, the blocks in it that other agents run, in the order of the text.
 
--- how a word stands there: it is run, it is the variable of `set`, or that of a word that reads or writes it on patches
-pub data Manner : Type 0 where
-  Run : Manner
-  Set : Manner
-  Spread : Manner
-
 mutual
   pub data Piece : Type 0 where
-    use_of : (name : List ℕ) (span : Span) (manner : Manner) → Piece
+    use_of : (name : Name) (span : Span) (manner : Manner) → Piece
     block_of : (first : Kinds) (pieces : Pieces) → Piece
 
   pub data Pieces : Type 0 where
@@ -140,7 +162,7 @@ pub record Sub : Type 0 where
   pub pieces : List Piece
   pub gives : Kinds
 
-abbrev pub text_of : Label → List ℕ
+abbrev pub text_of : Label → Name
 text_of (label.Named w) = w
 text_of (label.Number n) = []
 text_of (label.Text bytes) = []
@@ -160,9 +182,16 @@ is_block label.List = false
 is_block label.Negate = false
 is_block label.Paren = false
 
--- the first kinds of a block that other agents run
+-- the first kinds of a block that other agents run: new turtles, new links, or those that the word is given
+abbrev pub first_kinds_by : Runner → Kinds → Kinds
+first_kinds_by runner.Turtles given = turtles
+first_kinds_by runner.Links given = links
+first_kinds_by runner.Given given = given
+first_kinds_by runner.Same given = given
+first_kinds_by runner.NoBlock given = given
+
 abbrev pub block_kinds : Term → List Kinds → Kinds
-block_kinds t ks = if makes_turtles t then turtles else (if makes_links t then links else agents_of t ks)
+block_kinds t ks = first_kinds_by (runner_by (row_of_what t.what)) (agents_of t ks)
 
 abbrev pub kinds_of_subs : List Sub → List Kinds
 kinds_of_subs [] = []
@@ -174,7 +203,7 @@ inner_pieces t first p = if is_block p.top && not (runs_itself t) then block_of 
 
 -- a new name is no word of the text
 abbrev pub part_pieces : Term → Kinds → Input → Sub → List Piece
-part_pieces t first input.Variable p = use_of (text_of p.top) p.place (if bytes_eq t.name (codes "set") then Set else Spread) ∷ []
+part_pieces t first input.Variable p = use_of (text_of p.top) p.place (manner_by (row_of_what t.what)) ∷ []
 part_pieces t first input.Fresh p = []
 part_pieces t first input.Value p = inner_pieces t first p
 part_pieces t first input.Expression p = inner_pieces t first p
@@ -216,7 +245,7 @@ flat [] = []
 flat (p ∷ ps) = p.pieces ++ flat ps
 
 abbrev pub node_pieces : List Term → Label → Span → List Sub → List Piece
-node_pieces table (label.Named w) s ps = word_pieces (term_named table w) (use_of w s Run) ps
+node_pieces table (label.Named w) s ps = word_pieces (term_named table w) (use_of w s manner.Run) ps
 node_pieces table (label.Number n) s ps = flat ps
 node_pieces table (label.Text bytes) s ps = flat ps
 node_pieces table label.List s ps = flat ps
@@ -241,38 +270,38 @@ abbrev mutual
 
 -- Sites: a text, or a block in it that other agents run. The variable of `diffuse` and its kin is no word of a site.
 
-abbrev pub with_word : Manner → List ℕ → List (List ℕ) → List (List ℕ)
-with_word Run w ws = ws ++ w ∷ []
-with_word Set w ws = ws ++ w ∷ []
-with_word Spread w ws = ws
+abbrev pub with_word : Manner → Name → List Name → List Name
+with_word manner.Run w ws = ws ++ w ∷ []
+with_word manner.Set w ws = ws ++ w ∷ []
+with_word manner.Spread w ws = ws
 
-abbrev pub with_piece : List (List ℕ) → Piece → List (List ℕ)
+abbrev pub with_piece : List Name → Piece → List Name
 with_piece ws (use_of w s m) = with_word m w ws
 with_piece ws (block_of first ps) = ws
 
-abbrev pub words_after : List (List ℕ) → List Piece → List (List ℕ)
+abbrev pub words_after : List Name → List Piece → List Name
 words_after ws [] = ws
 words_after ws (p ∷ ps) = words_after (with_piece ws p) ps
 
 -- the words of a text's own site, in the order of the text
-abbrev pub site_words : List Term → Node → List (List ℕ)
+abbrev pub site_words : List Term → Node → List Name
 site_words table t = words_after [] (pieces table t)
 
 -- a word in its place: the words of its site from the first through this one, the first kinds of the site, and whether the site is a block
 pub record Use : Type 0 where
-  pub name : List ℕ
+  pub name : Name
   pub span : Span
   pub manner : Manner
-  pub so_far : List (List ℕ)
+  pub so_far : List Name
   pub first : Kinds
   pub in_block : Bool
 
 abbrev mutual
-  pub uses_in : Kinds → Bool → List (List ℕ) → Piece → List Use
+  pub uses_in : Kinds → Bool → List Name → Piece → List Use
   uses_in first in_block ws (use_of w s m) = record { name = w; span = s; manner = m; so_far = with_word m w ws; first = first; in_block = in_block } ∷ []
   uses_in first in_block ws (block_of inner ps) = uses_among inner true [] ps
 
-  pub uses_among : Kinds → Bool → List (List ℕ) → Pieces → List Use
+  pub uses_among : Kinds → Bool → List Name → Pieces → List Use
   uses_among first in_block ws no_piece = []
   uses_among first in_block ws (a_piece p ps) = uses_in first in_block ws p ++ uses_among first in_block (with_piece ws p) ps
 
@@ -282,34 +311,30 @@ uses table first t = uses_among first false [] (packed (pieces table t))
 
 -- Chains of calls by the same agent.
 
-abbrev pub words_of_body : List Term → Option Node → List (List ℕ)
+abbrev pub words_of_body : List Term → Option Node → List Name
 words_of_body table None = []
 words_of_body table (Some t) = site_words table t
 
-abbrev pub words_at : List Term → List Node → ℕ → List (List ℕ)
+abbrev pub words_at : List Term → List Node → ℕ → List Name
 words_at table bodies i = words_of_body table (slice_get bodies i)
 
 -- from a body a chain of calls, or none, leads to a word that the kind may not run
 pub data Leads : List Term → List Node → Kind → ℕ → Type 0 where
-  at_word : {table : List Term} {bodies : List Node} {kind : Kind} {i : ℕ} {w : List ℕ} {t : Term} → Contains (words_at table bodies i) w → term_named table w ≡ Some t → IsTrue (not (allows t.runs kind)) → Leads table bodies kind i
-  by_call : {table : List Term} {bodies : List Node} {kind : Kind} {i j : ℕ} {w : List ℕ} {t : Term} → Contains (words_at table bodies i) w → term_named table w ≡ Some t → t.what ≡ what.Procedure j → Leads table bodies kind j → Leads table bodies kind i
+  at_word : {table : List Term} {bodies : List Node} {kind : Kind} {i : ℕ} {w : Name} {t : Term} → Contains (words_at table bodies i) w → term_named table w ≡ Some t → IsTrue (not (allows t.runs kind)) → Leads table bodies kind i
+  by_call : {table : List Term} {bodies : List Node} {kind : Kind} {i j : ℕ} {w : Name} {t : Term} → Contains (words_at table bodies i) w → term_named table w ≡ Some t → t.what ≡ what.Procedure j → Leads table bodies kind j → Leads table bodies kind i
 
 -- a word bars a kind: by its row, or by the procedure that it calls
-abbrev pub Bars : List Term → List Node → Kind → List ℕ → Type 0
+abbrev pub Bars : List Term → List Node → Kind → Name → Type 0
 Bars table bodies kind w = (t : Term) × ((term_named table w ≡ Some t) × (IsTrue (not (allows t.runs kind)) ⊎ ((j : ℕ) × ((t.what ≡ what.Procedure j) × Leads table bodies kind j))))
 
 -- the kind is left at a word of a site
 abbrev pub IsLeft : List Term → List Node → Kind → Use → Type 0
-IsLeft table bodies kind u = IsTrue (allows u.first kind) × ((w : List ℕ) → Contains u.so_far w → Bars table bodies kind w → ⊥)
+IsLeft table bodies kind u = IsTrue (allows u.first kind) × ((w : Name) → Contains u.so_far w → Bars table bodies kind w → ⊥)
 
 -- Faults.
 
 abbrev pub IsWrongContext : List Term → List Node → Use → Type 0
 IsWrongContext table bodies u = (kind : Kind) → IsLeft table bodies kind u → ⊥
-
--- variables that no text sets
-abbrev pub is_fixed : List ℕ → Bool
-is_fixed w = among w (codes "who" ∷ codes "pxcor" ∷ codes "pycor" ∷ codes "end1" ∷ codes "end2" ∷ [])
 
 abbrev pub is_variable : Role → Bool
 is_variable role.Variable = true
@@ -324,32 +349,34 @@ abbrev pub is_on_patches : Option Term → Bool
 is_on_patches None = false
 is_on_patches (Some t) = is_variable t.role && t.runs.patch && not t.runs.observer
 
-abbrev pub is_not_settable : List Term → Manner → List ℕ → Bool
-is_not_settable table Run w = false
-is_not_settable table Set w = is_fixed w
-is_not_settable table Spread w = is_fixed w || not (is_on_patches (term_named table w))
+abbrev pub is_not_settable : List Term → Manner → Name → Bool
+is_not_settable table manner.Run w = false
+is_not_settable table manner.Set w = fixed_by (row_of_term (term_named table w))
+is_not_settable table manner.Spread w =
+    fixed_by (row_of_term (term_named table w)) || not (is_on_patches (term_named table w))
 
 -- `report` outside of a reporter procedure or in a block that other agents run; `stop` in a reporter procedure and in no such block
-abbrev pub has_no_report : Bool → Bool → List ℕ → Bool
-has_no_report reporter in_block w = bytes_eq w (codes "report") && (not reporter || in_block) || bytes_eq w (codes "stop") && reporter && not in_block
+abbrev pub is_misplaced : Bool → Bool → Leaving → Bool
+is_misplaced reporter in_block leaving.Stays = false
+is_misplaced reporter in_block leaving.Reports = not reporter || in_block
+is_misplaced reporter in_block leaving.Stops = reporter && not in_block
 
-pub data ContextFault : Type 0 where
-  WrongContext : ContextFault
-  NotSettable : ContextFault
-  NoReport : ContextFault
+abbrev pub has_no_report : List Term → Bool → Bool → Name → Bool
+has_no_report table reporter in_block w =
+    is_misplaced reporter in_block (leaving_by (row_of_term (term_named table w)))
 
 -- the fault at one word; the text stands in a reporter procedure or not
-abbrev pub IsFaultAt : List Term → List Node → Bool → Use → ContextFault → Type 0
+abbrev pub IsFaultAt : List Term → List Node → Bool → Use → CheckKind → Type 0
 IsFaultAt table bodies reporter u WrongContext = IsWrongContext table bodies u
 IsFaultAt table bodies reporter u NotSettable = (IsWrongContext table bodies u → ⊥) × IsTrue (is_not_settable table u.manner u.name)
 IsFaultAt table bodies reporter u NoReport =
-    (IsWrongContext table bodies u → ⊥) × IsTrue (not (is_not_settable table u.manner u.name)) × IsTrue (has_no_report reporter u.in_block u.name)
+    (IsWrongContext table bodies u → ⊥) × IsTrue (not (is_not_settable table u.manner u.name)) × IsTrue (has_no_report table reporter u.in_block u.name)
 
 abbrev pub IsRight : List Term → List Node → Bool → Use → Type 0
-IsRight table bodies reporter u = (fault : ContextFault) → IsFaultAt table bodies reporter u fault → ⊥
+IsRight table bodies reporter u = (fault : CheckKind) → IsFaultAt table bodies reporter u fault → ⊥
 
 -- the first fault of a text by the order of the text, and where it stands
-abbrev pub IsFirstFault : List Term → List Node → Bool → List Use → ContextFault → Span → Type 0
+abbrev pub IsFirstFault : List Term → List Node → Bool → List Use → CheckKind → Span → Type 0
 IsFirstFault table bodies reporter us fault place =
     (front : List Use) × (u : Use) × (rest : List Use) × ((us ≡ front ++ u ∷ rest) × All (IsRight table bodies reporter) front × IsFaultAt table bodies reporter u fault × (u.span ≡ place))
 

@@ -2,6 +2,7 @@
 -- Statements, expressions, blocks, `let` and the words' inputs are those of the NetLogo Programming Guide; the levels of operators, how much
 -- of a text one input takes, and what stands in parentheses are this project's own choice.
 use Rattle.std.specs.Prelude.{◌≡◌, ℕ, zero, suc, ◌+◌, ◌==◌, Bool, true, false, not, ◌||◌, ◌&&◌, ℤ, IsTrue, List, [], ◌∷◌, length, nat_lt, nat_le}
+use Rattle.nl_fixed.specs.Nouns.{Bytes, Name, Names}
 use Rattle.nl_fixed.specs.declared.span.Span.{Span}
 use Rattle.nl_tree.specs.declared.tree.Label.{Label}
 use Rattle.nl_tree.specs.declared.tree.Label.TheVariants as label
@@ -9,7 +10,13 @@ use Rattle.nl_tree.specs.declared.declared.Form.{Form}
 use Rattle.nl_tree.specs.declared.declared.Form.TheVariants as form
 use Rattle.nl_tree.specs.Tree.{Node, node, Nodes, none, more}
 use Rattle.nl_tree.specs.Vocabulary.{among}
-use Rattle.nl_tree.specs.Tokens.{Block, CommandsBlock, ReporterBlock, Need, Item, Whole, Within, Maybe, Variable, Unknown, Constant, Plain, Named, Prefix, Many, Closing, Command, Let, With, Near, Of, Binary, Tok, number, text, word, open_bracket, close_bracket, open_paren, close_paren, end, span_of}
+use Rattle.nl_tree.specs.Tokens.{Unknown, Constant, Plain, Named, Prefix, Many, Closing, Command, Let, With, Near, Of, Binary, Tok, number, text, word, open_bracket, close_bracket, open_paren, close_paren, end, span_of}
+use Rattle.nl_tree.specs.declared.needs.Block.{Block}
+use Rattle.nl_tree.specs.declared.needs.Block.TheVariants as blocks
+use Rattle.nl_tree.specs.declared.needs.Need.{Need}
+use Rattle.nl_tree.specs.declared.needs.Ending.{Ending}
+use Rattle.nl_tree.specs.declared.needs.Ending.TheVariants.{AtBracket, AtEnd}
+use Rattle.nl_tree.specs.declared.needs.Need.TheVariants.{Item, Whole, Within, Maybe, Variable}
 
 abbrev pub one : Node → Nodes
 one t = more t none
@@ -37,11 +44,6 @@ opens c = false
 abbrev pub top : ℕ
 top = 6
 
--- what ends statements: the bracket of their block, or the end of the text
-pub data Ending : Type 0 where
-  AtBracket : Ending
-  AtEnd : Ending
-
 -- What a run of tokens may be. Names are the locals and inputs that are known.
 pub data Part : Type 0 where
   Closed : Part
@@ -55,73 +57,73 @@ pub data Part : Type 0 where
   Literals : Part  -- what a literal list holds, and its closing bracket
   Arg : Need → Part  -- one input
   Args : List Need → Part  -- inputs in order
-  Statement : List (List ℕ) → Part  -- one statement, after which these names are known
+  Statement : Names → Part  -- one statement, after which these names are known
   Statements : Ending → Part  -- statements and what ends them
 
 -- `Reads p e a c ts`: where the names `e` are known, the tokens of `a` up to its rest `c` are a `p`, with the trees `ts`.
-pub data Reads : Part → List (List ℕ) → List Tok → List Tok → Nodes → Type 0 where
+pub data Reads : Part → Names → List Tok → List Tok → Nodes → Type 0 where
   -- Closed: a constant, a variable, a call of a word without inputs, a literal list, a parenthesis, a call whose last input is a block.
-  closed_number : {e : List (List ℕ)} {n : ℤ} {s : Span} {c : List Tok} → Reads Closed e (number n s ∷ c) c (one (leaf (label.Number n) s))
-  closed_text : {e : List (List ℕ)} {bytes : List ℕ} {s : Span} {c : List Tok} → Reads Closed e (text bytes s ∷ c) c (one (leaf (label.Text bytes) s))
-  closed_constant : {e : List (List ℕ)} {w : List ℕ} {s : Span} {c : List Tok} → Reads Closed e (word w Constant s ∷ c) c (one (leaf (label.Named w) s))
-  closed_plain : {e : List (List ℕ)} {w : List ℕ} {s : Span} {c : List Tok} → Reads Closed e (word w Plain s ∷ c) c (one (leaf (label.Named w) s))
-  closed_variable : {e : List (List ℕ)} {w : List ℕ} {s : Span} {c : List Tok} → Reads Closed e (word w Named s ∷ c) c (one (leaf (label.Named w) s))
-  closed_local : {e : List (List ℕ)} {w : List ℕ} {s : Span} {c : List Tok} → IsTrue (among w e) → Reads Closed e (word w Unknown s ∷ c) c (one (leaf (label.Named w) s))
-  closed_list : {e : List (List ℕ)} {s : Span} {b c : List Tok} {ts : Nodes} → Reads Literals e b c ts → Reads Closed e (open_bracket s ∷ b) c (one (node label.List s ts))
-  closed_block : {e : List (List ℕ)} {w : List ℕ} {is : List Need} {k : Block} {s : Span} {a b c : List Tok} {ts : Nodes} {t : Node} → Reads (Args is) e a b ts → Reads (Arg (Within k)) e b c (one t) → Reads Closed e (word w (Closing is k) s ∷ a) c (one (node (label.Named w) s (and_last ts t)))
+  closed_number : {e : Names} {n : ℤ} {s : Span} {c : List Tok} → Reads Closed e (number n s ∷ c) c (one (leaf (label.Number n) s))
+  closed_text : {e : Names} {bytes : Bytes} {s : Span} {c : List Tok} → Reads Closed e (text bytes s ∷ c) c (one (leaf (label.Text bytes) s))
+  closed_constant : {e : Names} {w : Name} {s : Span} {c : List Tok} → Reads Closed e (word w Constant s ∷ c) c (one (leaf (label.Named w) s))
+  closed_plain : {e : Names} {w : Name} {s : Span} {c : List Tok} → Reads Closed e (word w Plain s ∷ c) c (one (leaf (label.Named w) s))
+  closed_variable : {e : Names} {w : Name} {s : Span} {c : List Tok} → Reads Closed e (word w Named s ∷ c) c (one (leaf (label.Named w) s))
+  closed_local : {e : Names} {w : Name} {s : Span} {c : List Tok} → IsTrue (among w e) → Reads Closed e (word w Unknown s ∷ c) c (one (leaf (label.Named w) s))
+  closed_list : {e : Names} {s : Span} {b c : List Tok} {ts : Nodes} → Reads Literals e b c ts → Reads Closed e (open_bracket s ∷ b) c (one (node label.List s ts))
+  closed_block : {e : Names} {w : Name} {is : List Need} {k : Block} {s : Span} {a b c : List Tok} {ts : Nodes} {t : Node} → Reads (Args is) e a b ts → Reads (Arg (Within k)) e b c (one t) → Reads Closed e (word w (Closing is k) s ∷ a) c (one (node (label.Named w) s (and_last ts t)))
   -- A parenthesis holds an expression, a word and any number of items, or the minus sign and one item.
-  paren : {e : List (List ℕ)} {s r : Span} {b c : List Tok} {t : Node} → Reads (Level top) e b (close_paren r ∷ c) (one t) → Reads Closed e (open_paren s ∷ b) c (one (node label.Paren s (one t)))
-  paren_many : {e : List (List ℕ)} {w : List ℕ} {n : ℕ} {s r q : Span} {b c : List Tok} {ts : Nodes} → Reads AnyItems e b (close_paren q ∷ c) ts → Reads Closed e (open_paren s ∷ word w (Many n) r ∷ b) c (one (node label.Paren s (one (node (label.Named w) r ts))))
-  paren_minus : {e : List (List ℕ)} {w : List ℕ} {l : ℕ} {s r q : Span} {b c : List Tok} {t : Node} → Reads (Level zero) e b (close_paren q ∷ c) (one t) → Reads Closed e (open_paren s ∷ word w (Binary l true) r ∷ b) c (one (node label.Paren s (one (node label.Negate r (one t)))))
+  paren : {e : Names} {s r : Span} {b c : List Tok} {t : Node} → Reads (Level top) e b (close_paren r ∷ c) (one t) → Reads Closed e (open_paren s ∷ b) c (one (node label.Paren s (one t)))
+  paren_many : {e : Names} {w : Name} {n : ℕ} {s r q : Span} {b c : List Tok} {ts : Nodes} → Reads AnyItems e b (close_paren q ∷ c) ts → Reads Closed e (open_paren s ∷ word w (Many n) r ∷ b) c (one (node label.Paren s (one (node (label.Named w) r ts))))
+  paren_minus : {e : Names} {w : Name} {l : ℕ} {s r q : Span} {b c : List Tok} {t : Node} → Reads (Level zero) e b (close_paren q ∷ c) (one t) → Reads Closed e (open_paren s ∷ word w (Binary l true) r ∷ b) c (one (node label.Paren s (one (node label.Negate r (one t)))))
   -- Chain: a closed, or a chain, an operator of level 1 and its right side.
-  chain_closed : {e : List (List ℕ)} {a c : List Tok} {t : Node} → Reads Closed e a c (one t) → Reads Chain e a c (one t)
-  chain_with : {e : List (List ℕ)} {w : List ℕ} {s : Span} {a b c : List Tok} {t u : Node} → Reads Chain e a (word w With s ∷ b) (one t) → Reads (Arg (Within ReporterBlock)) e b c (one u) → Reads Chain e a c (one (node (label.Named w) s (two t u)))
-  chain_near : {e : List (List ℕ)} {w : List ℕ} {n : ℕ} {s : Span} {a b c : List Tok} {t : Node} {us : Nodes} → Reads Chain e a (word w (Near n) s ∷ b) (one t) → Reads (Sides n) e b c us → Reads Chain e a c (one (node (label.Named w) s (more t us)))
-  one_side : {e : List (List ℕ)} {a c : List Tok} {t : Node} → Reads Closed e a c (one t) → Reads (Sides zero) e a c (one t)
-  more_sides : {e : List (List ℕ)} {n : ℕ} {a b c : List Tok} {t : Node} {us : Nodes} → Reads Closed e a b (one t) → Reads (Sides n) e b c us → Reads (Sides (suc n)) e a c (more t us)
+  chain_closed : {e : Names} {a c : List Tok} {t : Node} → Reads Closed e a c (one t) → Reads Chain e a c (one t)
+  chain_with : {e : Names} {w : Name} {s : Span} {a b c : List Tok} {t u : Node} → Reads Chain e a (word w With s ∷ b) (one t) → Reads (Arg (Within blocks.Reporter)) e b c (one u) → Reads Chain e a c (one (node (label.Named w) s (two t u)))
+  chain_near : {e : Names} {w : Name} {n : ℕ} {s : Span} {a b c : List Tok} {t : Node} {us : Nodes} → Reads Chain e a (word w (Near n) s ∷ b) (one t) → Reads (Sides n) e b c us → Reads Chain e a c (one (node (label.Named w) s (more t us)))
+  one_side : {e : Names} {a c : List Tok} {t : Node} → Reads Closed e a c (one t) → Reads (Sides zero) e a c (one t)
+  more_sides : {e : Names} {n : ℕ} {a b c : List Tok} {t : Node} {us : Nodes} → Reads Closed e a b (one t) → Reads (Sides n) e b c us → Reads (Sides (suc n)) e a c (more t us)
   -- Call with inputs.
-  call_prefix : {e : List (List ℕ)} {w : List ℕ} {is : List Need} {s : Span} {a b c : List Tok} {ts : Nodes} {t : Node} → Reads (Args is) e a b ts → Reads (Level zero) e b c (one t) → Reads Call e (word w (Prefix is) s ∷ a) c (one (node (label.Named w) s (and_last ts t)))
-  call_many : {e : List (List ℕ)} {w : List ℕ} {n : ℕ} {s : Span} {a c : List Tok} {ts : Nodes} → Reads (Items n) e a c ts → Reads Call e (word w (Many n) s ∷ a) c (one (node (label.Named w) s ts))
-  one_item : {e : List (List ℕ)} {a c : List Tok} {t : Node} → Reads (Level zero) e a c (one t) → Reads (Items zero) e a c (one t)
-  more_items : {e : List (List ℕ)} {n : ℕ} {a b c : List Tok} {t : Node} {us : Nodes} → Reads (Level zero) e a b (one t) → Reads (Items n) e b c us → Reads (Items (suc n)) e a c (more t us)
-  no_item : {e : List (List ℕ)} {c : List Tok} → Reads AnyItems e c c none
-  any_item : {e : List (List ℕ)} {a b c : List Tok} {t : Node} {us : Nodes} → Reads (Level zero) e a b (one t) → Reads AnyItems e b c us → Reads AnyItems e a c (more t us)
-  last_call : {e : List (List ℕ)} {a c : List Tok} {t : Node} → Reads Call e a c (one t) → Reads (LastCall zero) e a c (one t)
-  more_last : {e : List (List ℕ)} {n : ℕ} {a b c : List Tok} {t : Node} {us : Nodes} → Reads Closed e a b (one t) → Reads (LastCall n) e b c us → Reads (LastCall (suc n)) e a c (more t us)
+  call_prefix : {e : Names} {w : Name} {is : List Need} {s : Span} {a b c : List Tok} {ts : Nodes} {t : Node} → Reads (Args is) e a b ts → Reads (Level zero) e b c (one t) → Reads Call e (word w (Prefix is) s ∷ a) c (one (node (label.Named w) s (and_last ts t)))
+  call_many : {e : Names} {w : Name} {n : ℕ} {s : Span} {a c : List Tok} {ts : Nodes} → Reads (Items n) e a c ts → Reads Call e (word w (Many n) s ∷ a) c (one (node (label.Named w) s ts))
+  one_item : {e : Names} {a c : List Tok} {t : Node} → Reads (Level zero) e a c (one t) → Reads (Items zero) e a c (one t)
+  more_items : {e : Names} {n : ℕ} {a b c : List Tok} {t : Node} {us : Nodes} → Reads (Level zero) e a b (one t) → Reads (Items n) e b c us → Reads (Items (suc n)) e a c (more t us)
+  no_item : {e : Names} {c : List Tok} → Reads AnyItems e c c none
+  any_item : {e : Names} {a b c : List Tok} {t : Node} {us : Nodes} → Reads (Level zero) e a b (one t) → Reads AnyItems e b c us → Reads AnyItems e a c (more t us)
+  last_call : {e : Names} {a c : List Tok} {t : Node} → Reads Call e a c (one t) → Reads (LastCall zero) e a c (one t)
+  more_last : {e : Names} {n : ℕ} {a b c : List Tok} {t : Node} {us : Nodes} → Reads Closed e a b (one t) → Reads (LastCall n) e b c us → Reads (LastCall (suc n)) e a c (more t us)
   -- Item: a chain, a call with inputs, a chain and an operator of level 1 with such a call as its last right side, or a block, `of` and an item.
-  item_chain : {e : List (List ℕ)} {a c : List Tok} {t : Node} → Reads Chain e a c (one t) → Reads (Level zero) e a c (one t)
-  item_call : {e : List (List ℕ)} {a c : List Tok} {t : Node} → Reads Call e a c (one t) → Reads (Level zero) e a c (one t)
-  item_near : {e : List (List ℕ)} {w : List ℕ} {n : ℕ} {s : Span} {a b c : List Tok} {t : Node} {us : Nodes} → Reads Chain e a (word w (Near n) s ∷ b) (one t) → Reads (LastCall n) e b c us → Reads (Level zero) e a c (one (node (label.Named w) s (more t us)))
-  item_of : {e : List (List ℕ)} {w : List ℕ} {s : Span} {a b c : List Tok} {t u : Node} → Reads (Arg (Within ReporterBlock)) e a (word w Of s ∷ b) (one t) → Reads (Level zero) e b c (one u) → Reads (Level zero) e a c (one (node (label.Named w) s (two t u)))
+  item_chain : {e : Names} {a c : List Tok} {t : Node} → Reads Chain e a c (one t) → Reads (Level zero) e a c (one t)
+  item_call : {e : Names} {a c : List Tok} {t : Node} → Reads Call e a c (one t) → Reads (Level zero) e a c (one t)
+  item_near : {e : Names} {w : Name} {n : ℕ} {s : Span} {a b c : List Tok} {t : Node} {us : Nodes} → Reads Chain e a (word w (Near n) s ∷ b) (one t) → Reads (LastCall n) e b c us → Reads (Level zero) e a c (one (node (label.Named w) s (more t us)))
+  item_of : {e : Names} {w : Name} {s : Span} {a b c : List Tok} {t u : Node} → Reads (Arg (Within blocks.Reporter)) e a (word w Of s ∷ b) (one t) → Reads (Level zero) e b c (one u) → Reads (Level zero) e a c (one (node (label.Named w) s (two t u)))
   -- Levels 4 to 9 stand over items, and are left associative.
-  level_up : {e : List (List ℕ)} {l : ℕ} {a c : List Tok} {t : Node} → Reads (Level l) e a c (one t) → Reads (Level (suc l)) e a c (one t)
-  level_binary : {e : List (List ℕ)} {w : List ℕ} {l : ℕ} {m : Bool} {s : Span} {a b c : List Tok} {t u : Node} → Reads (Level (suc l)) e a (word w (Binary l m) s ∷ b) (one t) → Reads (Level l) e b c (one u) → Reads (Level (suc l)) e a c (one (node (label.Named w) s (two t u)))
+  level_up : {e : Names} {l : ℕ} {a c : List Tok} {t : Node} → Reads (Level l) e a c (one t) → Reads (Level (suc l)) e a c (one t)
+  level_binary : {e : Names} {w : Name} {l : ℕ} {m : Bool} {s : Span} {a b c : List Tok} {t u : Node} → Reads (Level (suc l)) e a (word w (Binary l m) s ∷ b) (one t) → Reads (Level l) e b c (one u) → Reads (Level (suc l)) e a c (one (node (label.Named w) s (two t u)))
   -- Literal list: numbers, texts, constants and lists.
-  literal_end : {e : List (List ℕ)} {s : Span} {c : List Tok} → Reads Literals e (close_bracket s ∷ c) c none
-  literal_number : {e : List (List ℕ)} {n : ℤ} {s : Span} {b c : List Tok} {ts : Nodes} → Reads Literals e b c ts → Reads Literals e (number n s ∷ b) c (more (leaf (label.Number n) s) ts)
-  literal_text : {e : List (List ℕ)} {bytes : List ℕ} {s : Span} {b c : List Tok} {ts : Nodes} → Reads Literals e b c ts → Reads Literals e (text bytes s ∷ b) c (more (leaf (label.Text bytes) s) ts)
-  literal_constant : {e : List (List ℕ)} {w : List ℕ} {s : Span} {b c : List Tok} {ts : Nodes} → Reads Literals e b c ts → Reads Literals e (word w Constant s ∷ b) c (more (leaf (label.Named w) s) ts)
-  literal_list : {e : List (List ℕ)} {s : Span} {b c d : List Tok} {ts us : Nodes} → Reads Literals e b c ts → Reads Literals e c d us → Reads Literals e (open_bracket s ∷ b) d (more (node label.List s ts) us)
+  literal_end : {e : Names} {s : Span} {c : List Tok} → Reads Literals e (close_bracket s ∷ c) c none
+  literal_number : {e : Names} {n : ℤ} {s : Span} {b c : List Tok} {ts : Nodes} → Reads Literals e b c ts → Reads Literals e (number n s ∷ b) c (more (leaf (label.Number n) s) ts)
+  literal_text : {e : Names} {bytes : Bytes} {s : Span} {b c : List Tok} {ts : Nodes} → Reads Literals e b c ts → Reads Literals e (text bytes s ∷ b) c (more (leaf (label.Text bytes) s) ts)
+  literal_constant : {e : Names} {w : Name} {s : Span} {b c : List Tok} {ts : Nodes} → Reads Literals e b c ts → Reads Literals e (word w Constant s ∷ b) c (more (leaf (label.Named w) s) ts)
+  literal_list : {e : Names} {s : Span} {b c d : List Tok} {ts us : Nodes} → Reads Literals e b c ts → Reads Literals e c d us → Reads Literals e (open_bracket s ∷ b) d (more (node label.List s ts) us)
   -- Inputs: an item, a whole expression, a block, the name of a variable.
-  arg_item : {e : List (List ℕ)} {a c : List Tok} {t : Node} → Reads (Level zero) e a c (one t) → Reads (Arg Item) e a c (one t)
-  arg_whole : {e : List (List ℕ)} {a c : List Tok} {t : Node} → Reads (Level top) e a c (one t) → Reads (Arg Whole) e a c (one t)
-  arg_commands : {e : List (List ℕ)} {s : Span} {b c : List Tok} {ts : Nodes} → Reads (Statements AtBracket) e b c ts → Reads (Arg (Within CommandsBlock)) e (open_bracket s ∷ b) c (one (node label.Commands s ts))
-  arg_reporter : {e : List (List ℕ)} {s r : Span} {b c : List Tok} {t : Node} → Reads (Level top) e b (close_bracket r ∷ c) (one t) → Reads (Arg (Within ReporterBlock)) e (open_bracket s ∷ b) c (one (node label.Reporter s (one t)))
-  arg_variable : {e : List (List ℕ)} {w : List ℕ} {s : Span} {c : List Tok} → Reads (Arg Variable) e (word w Named s ∷ c) c (one (leaf (label.Named w) s))
-  arg_local : {e : List (List ℕ)} {w : List ℕ} {s : Span} {c : List Tok} → IsTrue (among w e) → Reads (Arg Variable) e (word w Unknown s ∷ c) c (one (leaf (label.Named w) s))
-  no_arg : {e : List (List ℕ)} {c : List Tok} → Reads (Args []) e c c none
-  arg : {e : List (List ℕ)} {i : Need} {is : List Need} {a b c : List Tok} {t : Node} {ts : Nodes} → Reads (Arg i) e a b (one t) → Reads (Args is) e b c ts → Reads (Args (i ∷ is)) e a c (more t ts)
+  arg_item : {e : Names} {a c : List Tok} {t : Node} → Reads (Level zero) e a c (one t) → Reads (Arg Item) e a c (one t)
+  arg_whole : {e : Names} {a c : List Tok} {t : Node} → Reads (Level top) e a c (one t) → Reads (Arg Whole) e a c (one t)
+  arg_commands : {e : Names} {s : Span} {b c : List Tok} {ts : Nodes} → Reads (Statements AtBracket) e b c ts → Reads (Arg (Within blocks.Commands)) e (open_bracket s ∷ b) c (one (node label.Commands s ts))
+  arg_reporter : {e : Names} {s r : Span} {b c : List Tok} {t : Node} → Reads (Level top) e b (close_bracket r ∷ c) (one t) → Reads (Arg (Within blocks.Reporter)) e (open_bracket s ∷ b) c (one (node label.Reporter s (one t)))
+  arg_variable : {e : Names} {w : Name} {s : Span} {c : List Tok} → Reads (Arg Variable) e (word w Named s ∷ c) c (one (leaf (label.Named w) s))
+  arg_local : {e : Names} {w : Name} {s : Span} {c : List Tok} → IsTrue (among w e) → Reads (Arg Variable) e (word w Unknown s ∷ c) c (one (leaf (label.Named w) s))
+  no_arg : {e : Names} {c : List Tok} → Reads (Args []) e c c none
+  arg : {e : Names} {i : Need} {is : List Need} {a b c : List Tok} {t : Node} {ts : Nodes} → Reads (Arg i) e a b (one t) → Reads (Args is) e b c ts → Reads (Args (i ∷ is)) e a c (more t ts)
   -- A block that may be missing is there exactly where a bracket opens next.
-  maybe_there : {e : List (List ℕ)} {is : List Need} {a b c : List Tok} {t : Node} {ts : Nodes} → Reads (Arg (Within CommandsBlock)) e a b (one t) → Reads (Args is) e b c ts → Reads (Args (Maybe ∷ is)) e a c (more t ts)
-  maybe_missing : {e : List (List ℕ)} {is : List Need} {a c : List Tok} {ts : Nodes} → IsTrue (not (opens a)) → Reads (Args is) e a c ts → Reads (Args (Maybe ∷ is)) e a c ts
+  maybe_there : {e : Names} {is : List Need} {a b c : List Tok} {t : Node} {ts : Nodes} → Reads (Arg (Within blocks.Commands)) e a b (one t) → Reads (Args is) e b c ts → Reads (Args (Maybe ∷ is)) e a c (more t ts)
+  maybe_missing : {e : Names} {is : List Need} {a c : List Tok} {ts : Nodes} → IsTrue (not (opens a)) → Reads (Args is) e a c ts → Reads (Args (Maybe ∷ is)) e a c ts
   -- Statement: a command and its inputs, or a statement in parentheses. A name made by `let` has no row and isn't known.
-  command : {e : List (List ℕ)} {w : List ℕ} {is : List Need} {s : Span} {b c : List Tok} {ts : Nodes} → Reads (Args is) e b c ts → Reads (Statement e) e (word w (Command is) s ∷ b) c (one (node (label.Named w) s ts))
-  make : {e : List (List ℕ)} {w n : List ℕ} {s r : Span} {b c : List Tok} {t : Node} → IsTrue (not (among n e)) → Reads (Level top) e b c (one t) → Reads (Statement (n ∷ e)) e (word w Let s ∷ word n Unknown r ∷ b) c (one (node (label.Named w) s (two (leaf (label.Named n) r) t)))
-  statement_paren : {e f : List (List ℕ)} {s r : Span} {b c : List Tok} {t : Node} → Reads (Statement f) e b (close_paren r ∷ c) (one t) → Reads (Statement f) e (open_paren s ∷ b) c (one (node label.Paren s (one t)))
+  command : {e : Names} {w : Name} {is : List Need} {s : Span} {b c : List Tok} {ts : Nodes} → Reads (Args is) e b c ts → Reads (Statement e) e (word w (Command is) s ∷ b) c (one (node (label.Named w) s ts))
+  make : {e : Names} {w n : Name} {s r : Span} {b c : List Tok} {t : Node} → IsTrue (not (among n e)) → Reads (Level top) e b c (one t) → Reads (Statement (n ∷ e)) e (word w Let s ∷ word n Unknown r ∷ b) c (one (node (label.Named w) s (two (leaf (label.Named n) r) t)))
+  statement_paren : {e f : Names} {s r : Span} {b c : List Tok} {t : Node} → Reads (Statement f) e b (close_paren r ∷ c) (one t) → Reads (Statement f) e (open_paren s ∷ b) c (one (node label.Paren s (one t)))
   -- Statements: what a statement makes is known to those after it, up to the end of the block or the text.
-  at_bracket : {e : List (List ℕ)} {s : Span} {c : List Tok} → Reads (Statements AtBracket) e (close_bracket s ∷ c) c none
-  at_end : {e : List (List ℕ)} {s : Span} → Reads (Statements AtEnd) e (end s ∷ []) [] none
-  statements : {k : Ending} {e f : List (List ℕ)} {a b c : List Tok} {t : Node} {ts : Nodes} → Reads (Statement f) e a b (one t) → Reads (Statements k) f b c ts → Reads (Statements k) e a c (more t ts)
+  at_bracket : {e : Names} {s : Span} {c : List Tok} → Reads (Statements AtBracket) e (close_bracket s ∷ c) c none
+  at_end : {e : Names} {s : Span} → Reads (Statements AtEnd) e (end s ∷ []) [] none
+  statements : {k : Ending} {e f : Names} {a b c : List Tok} {t : Node} {ts : Nodes} → Reads (Statement f) e a b (one t) → Reads (Statements k) f b c ts → Reads (Statements k) e a c (more t ts)
 
 -- The tokens, the last of which is what ends them, are a text of this form with this tree, where the names are known.
 -- The commands of a whole text are one node, with the span of the first token, be it the one that ends the text.
@@ -129,7 +131,7 @@ abbrev pub span_of_first : List Tok → Span
 span_of_first [] = record { start = 0; len = 0 }
 span_of_first (t ∷ ts) = span_of t
 
-abbrev pub IsText : Form → List (List ℕ) → List Tok → Node → Type 0
+abbrev pub IsText : Form → Names → List Tok → Node → Type 0
 IsText form.Commands e a t = (ts : Nodes) × (t ≡ node label.Commands (span_of_first a) ts) × Reads (Statements AtEnd) e a [] ts
 IsText form.Reporter e a t = (s : Span) × Reads (Level top) e a (end s ∷ []) (one t)
 
@@ -138,7 +140,7 @@ IsText form.Reporter e a t = (s : Span) × Reads (Level top) e a (end s ∷ []) 
 abbrev lies_in : List Tok → List Tok → ℕ → Bool
 lies_in a c left = nat_lt (length c) left && nat_le left (length a)
 
-abbrev pub knows : {p : Part} {e : List (List ℕ)} {a c : List Tok} {ts : Nodes} → List ℕ → ℕ → Reads p e a c ts → Bool
+abbrev pub knows : {p : Part} {e : Names} {a c : List Tok} {ts : Nodes} → Name → ℕ → Reads p e a c ts → Bool
 knows n left closed_number = false
 knows n left closed_text = false
 knows n left closed_constant = false
@@ -191,6 +193,6 @@ knows n left (at_bracket {e = e} {c = c}) = (left == length c + 1) && among n e
 knows n left (at_end {e = e}) = (left == 1) && among n e
 knows n left (statements {e = e} {a = a} {b = b} d ds) = lies_in a b left && among n e || knows n left d || knows n left ds
 
-abbrev pub knows_in : (f : Form) (e : List (List ℕ)) (a : List Tok) (t : Node) → List ℕ → ℕ → IsText f e a t → Bool
+abbrev pub knows_in : (f : Form) (e : Names) (a : List Tok) (t : Node) → Name → ℕ → IsText f e a t → Bool
 knows_in form.Commands e a t n left d = among n e || knows n left d.2
 knows_in form.Reporter e a t n left d = among n e || knows n left d.1

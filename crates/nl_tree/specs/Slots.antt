@@ -1,6 +1,7 @@
 -- Which names of a tree have a slot.
 -- A running program finds the place of a word by its row. The names without a row are those of inputs and of `let`.
 use Rattle.std.specs.Prelude.{◌≡◌, ℕ, ◌+◌, Bool, true, false, ◌||◌, ◌⊎◌, if◌then◌else◌, IsTrue, List, [], ◌∷◌, ◌++◌, Option, Some, None, All, length, bytes_eq, codes}
+use Rattle.nl_fixed.specs.Nouns.{Name, Names}
 use Rattle.nl_tree.specs.declared.tree.Label.{Label}
 use Rattle.nl_tree.specs.declared.tree.Label.TheVariants as label
 use Rattle.nl_tree.specs.declared.declared.Declared.{Declared}
@@ -14,7 +15,7 @@ use Rattle.nl_tree.specs.Tokens.{Class, Unknown, Constant, Plain, Named, Prefix,
 use Rattle.nl_tree.specs.Checked.{IsInRange}
 
 -- the name of a node of a word
-abbrev pub name_at : Label → List (List ℕ)
+abbrev pub name_at : Label → Names
 name_at (label.Named w) = w ∷ []
 name_at (label.Number n) = []
 name_at (label.Text bytes) = []
@@ -26,10 +27,10 @@ name_at label.Reporter = []
 
 -- the names of all words of a tree, new names among them, in the order of the tree
 abbrev mutual
-  pub names : Node → List (List ℕ)
+  pub names : Node → Names
   names (node l s ts) = name_at l ++ names_in ts
 
-  pub names_in : Nodes → List (List ℕ)
+  pub names_in : Nodes → Names
   names_in none = []
   names_in (more t ts) = names t ++ names_in ts
 
@@ -50,15 +51,15 @@ is_let Of = false
 is_let (Binary l m) = false
 is_let Nowhere = false
 
-abbrev pub top_name : Node → List (List ℕ)
+abbrev pub top_name : Node → Names
 top_name (node l s ts) = name_at l
 
-abbrev pub first_name : Nodes → List (List ℕ)
+abbrev pub first_name : Nodes → Names
 first_name none = []
 first_name (more t ts) = top_name t
 
 -- the name that a node makes: the first part of a `let`
-abbrev pub made_at : List Term → Label → Nodes → List (List ℕ)
+abbrev pub made_at : List Term → Label → Nodes → Names
 made_at table (label.Named w) ts = if is_let (class_of (term_named table w)) then first_name ts else []
 made_at table (label.Number n) ts = []
 made_at table (label.Text bytes) ts = []
@@ -70,19 +71,19 @@ made_at table label.Reporter ts = []
 
 -- the names that a tree makes by `let`
 abbrev mutual
-  pub made : List Term → Node → List (List ℕ)
+  pub made : List Term → Node → Names
   made table (node l s ts) = made_at table l ts ++ made_in table ts
 
-  pub made_in : List Term → Nodes → List (List ℕ)
+  pub made_in : List Term → Nodes → Names
   made_in table none = []
   made_in table (more t ts) = made table t ++ made_in table ts
 
 -- the word has a row, whose numbers are places in the model
-abbrev pub HasSlot : Declared → List ℕ → Type 0
+abbrev pub HasSlot : Declared → Name → Type 0
 HasSlot d name = (it : What) × ((what_named d name ≡ Some it) × IsInRange d it)
 
 -- each name of the tree has a slot, or is one of these inputs, or one that the tree makes by `let`
-abbrev pub NamesHaveSlots : Declared → List (List ℕ) → Node → Type 0
+abbrev pub NamesHaveSlots : Declared → Names → Node → Type 0
 NamesHaveSlots d inputs t = All (λ name. HasSlot d name ⊎ IsTrue (among name inputs || among name (made (terms d) t))) (names t)
 
 -- The slot of a global variable: that of a widget or global is its number. The run's number has the slot after all of these, and the
@@ -107,8 +108,27 @@ slot_of (Some (what.Own n)) = None
 slot_of (Some (what.Made n code)) = None
 slot_of (Some (what.Procedure n)) = None
 
-abbrev pub global_slot : Declared → List ℕ → Option ℕ
+-- the two globals that hold what a run is
+abbrev pub run_number : Name
+run_number = codes "behaviorspace-run-number"
+
+abbrev pub experiment_name : Name
+experiment_name = codes "behaviorspace-experiment-name"
+
+abbrev pub global_slot : Declared → Name → Option ℕ
 global_slot d name =
-    if bytes_eq name (codes "behaviorspace-run-number") then Some (length (global_names d))
-    else (if bytes_eq name (codes "behaviorspace-experiment-name") then Some (length (global_names d) + 1)
+    if bytes_eq name run_number then Some (length (global_names d))
+    else (if bytes_eq name experiment_name then Some (length (global_names d) + 1)
     else slot_of (what_named d name))
+
+-- how many slots there are
+abbrev pub globals_count : Declared → ℕ
+globals_count d = length (global_names d) + 2
+
+-- the name is that of a widget or global, or of what a run is
+abbrev pub names_global : Declared → Name → Bool
+names_global d name = bytes_eq name run_number || bytes_eq name experiment_name || among name (global_names d)
+
+-- the slot is that of this name and of no other
+abbrev pub OwnsSlot : Declared → Name → ℕ → Type 0
+OwnsSlot d name slot = (other : Name) → global_slot d other ≡ Some slot → other ≡ name

@@ -2,12 +2,17 @@
 use Rattle.std.specs.Prelude.{ℕ, zero, suc, ◌+◌, ◌-◌, ◌==◌, Bool, true, false, ◌&&◌, if◌then◌else◌, nat_le, ℤ, IsTrue, List, [], ◌∷◌, ◌++◌, Option, Some, None, map, bytes_eq, codes}
 use Rattle.std.specs.List.{list_any}
 use Rattle.std.specs.Str.{IsUtf8}
+use Rattle.nl_fixed.specs.Nouns.{Bytes, Name}
 use Rattle.nl_words.specs.Table.{is_name}
 use Rattle.nl_words.specs.declared.entry.Role.{Role}
 use Rattle.nl_words.specs.declared.entry.Role.TheVariants as role
 use Rattle.nl_words.specs.declared.entry.Input.{Input}
 use Rattle.nl_words.specs.declared.entry.Input.TheVariants as input
 use Rattle.nl_fixed.specs.declared.span.Span.{Span}
+use Rattle.nl_tree.specs.declared.needs.Block.{Block}
+use Rattle.nl_tree.specs.declared.needs.Block.TheVariants as blocks
+use Rattle.nl_tree.specs.declared.needs.Need.{Need}
+use Rattle.nl_tree.specs.declared.needs.Need.TheVariants.{Item, Whole, Within, Maybe, Variable}
 use Rattle.nl_tree.specs.Term.{Term}
 use Rattle.nl_tree.specs.Vocabulary.{term_named}
 
@@ -15,8 +20,8 @@ use Rattle.nl_tree.specs.Vocabulary.{term_named}
 -- of a lone text.
 pub data Lexeme : Type 0 where
   Number : (value : ℤ) → Lexeme
-  Text : (bytes : List ℕ) → Lexeme
-  Word : (name : List ℕ) → Lexeme
+  Text : (bytes : Bytes) → Lexeme
+  Word : (name : Name) → Lexeme
   Open : Lexeme
   Close : Lexeme
   OpenParen : Lexeme
@@ -40,19 +45,6 @@ IsLexeme End = Unit {0}
 
 abbrev pub IsToken : Token → Type 0
 IsToken t = IsLexeme t.lexeme
-
--- a block of commands, or of one expression
-pub data Block : Type 0 where
-  CommandsBlock : Block
-  ReporterBlock : Block
-
--- what a word reads at one place: an item, a whole expression, a block, a block of commands that may be missing, the name of a variable
-pub data Need : Type 0 where
-  Item : Need
-  Whole : Need
-  Within : Block → Need
-  Maybe : Need
-  Variable : Need
 
 -- What a word is to the grammar. A reporter's last input is told apart from those before it: with an item last it is a call that goes on as
 -- far as the item does, and with a block last it ends with the block.
@@ -81,9 +73,9 @@ is_new i = false
 abbrev pub need_of_command : Input → Need
 need_of_command input.Value = Whole
 need_of_command input.Expression = Whole
-need_of_command input.Commands = Within CommandsBlock
+need_of_command input.Commands = Within blocks.Commands
 need_of_command input.MaybeCommands = Maybe
-need_of_command input.Reporter = Within ReporterBlock
+need_of_command input.Reporter = Within blocks.Reporter
 need_of_command input.Variable = Variable
 need_of_command input.Fresh = Whole
 
@@ -91,9 +83,9 @@ need_of_command input.Fresh = Whole
 abbrev pub need_of_reporter : Input → Need
 need_of_reporter input.Value = Item
 need_of_reporter input.Expression = Whole
-need_of_reporter input.Commands = Within CommandsBlock
+need_of_reporter input.Commands = Within blocks.Commands
 need_of_reporter input.MaybeCommands = Maybe
-need_of_reporter input.Reporter = Within ReporterBlock
+need_of_reporter input.Reporter = Within blocks.Reporter
 need_of_reporter input.Variable = Variable
 need_of_reporter input.Fresh = Whole
 
@@ -173,8 +165,8 @@ class_of (Some t) = class_of_term t
 -- A token with what its row makes of it.
 pub data Tok : Type 0 where
   number : ℤ → Span → Tok
-  text : List ℕ → Span → Tok
-  word : List ℕ → Class → Span → Tok
+  text : Bytes → Span → Tok
+  word : Name → Class → Span → Tok
   open_bracket : Span → Tok
   close_bracket : Span → Tok
   open_paren : Span → Tok

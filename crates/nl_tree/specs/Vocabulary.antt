@@ -4,6 +4,7 @@
 use Rattle.std.specs.Prelude.{ℕ, ◌+◌, Bool, true, false, ◌||◌, not, if◌then◌else◌, List, [], ◌∷◌, ◌++◌, Option, Some, None, map, find, length, filter, bytes_eq, codes}
 use Rattle.std.specs.List.{list_any}
 use Prim.Native.String.{String}
+use Rattle.nl_fixed.specs.Nouns.{Bytes, Name, Names}
 use Rattle.nl_words.specs.Kinds.{kinds, none, everyone}
 use Rattle.nl_words.specs.Row.{Row, row_named}
 use Rattle.nl_words.specs.Rows.{rows}
@@ -18,11 +19,11 @@ use Rattle.nl_tree.specs.declared.declared.NamedWhat.{NamedWhat}
 use Rattle.nl_tree.specs.Term.{Term}
 
 -- the name stands in the list
-abbrev pub among : List ℕ → List (List ℕ) → Bool
+abbrev pub among : Name → Names → Bool
 among name names = list_any (λ n. bytes_eq n name) names
 
 -- the names of the first list, and then those of the second that aren't in the first
-abbrev pub joined : List (List ℕ) → List (List ℕ) → List (List ℕ)
+abbrev pub joined : Names → Names → Names
 joined xs ys = xs ++ filter (λ y. not (among y xs)) ys
 
 -- a row for each name, counted from the first number
@@ -37,38 +38,38 @@ base_term r = record { name = r.name; role = r.role; inputs = r.inputs; values =
 
 -- Global variables: the widgets' and those of `globals`. A widget's name that stands in `globals` too is one variable.
 
-abbrev pub global_names : Declared → List (List ℕ)
+abbrev pub global_names : Declared → Names
 global_names d = joined d.widgets d.globals
 
 -- a variable is used by the kinds of agents that may run it; its value may hold anything
-abbrev pub variable_term : List ℕ → Kinds → What → Term
+abbrev pub variable_term : Name → Kinds → What → Term
 variable_term name runs it = record { name = name; role = role.Variable; inputs = []; values = 0; many = false; runs = runs; gives = none; what = it }
 
-abbrev pub global_term : ℕ → List ℕ → Term
+abbrev pub global_term : ℕ → Name → Term
 global_term n name = variable_term name everyone (what.Global n)
 
 -- Variables that agents own. A turtle may use the variables of its patch too.
 
-abbrev pub owned_by : Bool → List Breed → List (List ℕ)
+abbrev pub owned_by : Bool → List Breed → Names
 owned_by link [] = []
 owned_by link (b ∷ bs) = if (if b.link then link else not link) then joined b.own (owned_by link bs) else owned_by link bs
 
 -- the variables of turtles, of all breeds or some; and of links
-abbrev pub turtle_names : Declared → List (List ℕ)
+abbrev pub turtle_names : Declared → Names
 turtle_names d = joined d.turtles_own (owned_by false d.breeds)
 
-abbrev pub link_names : Declared → List (List ℕ)
+abbrev pub link_names : Declared → Names
 link_names d = joined d.links_own (owned_by true d.breeds)
 
-abbrev pub breed_names : List Breed → List (List ℕ)
+abbrev pub breed_names : List Breed → Names
 breed_names [] = []
 breed_names (b ∷ bs) = joined b.own (breed_names bs)
 
 -- each name once: turtles', patches', links', and those of the breeds
-abbrev pub owned_names : Declared → List (List ℕ)
+abbrev pub owned_names : Declared → Names
 owned_names d = joined d.turtles_own (joined d.patches_own (joined d.links_own (breed_names d.breeds)))
 
-abbrev pub owned_term : Declared → ℕ → List ℕ → Term
+abbrev pub owned_term : Declared → ℕ → Name → Term
 owned_term d n name =
     let on_patch = among name d.patches_own in
     variable_term name (kinds false (on_patch || among name (turtle_names d)) on_patch (among name (link_names d))) (what.Own n)
@@ -77,10 +78,10 @@ owned_term d n name =
 
 -- a word made of a breed's plural or singular: what stands before and after it, and the built-in word
 pub record Pattern : Type 0 where
-  pub before : List ℕ
+  pub before : Bytes
   pub plural : Bool
-  pub after : List ℕ
-  pub base : List ℕ
+  pub after : Bytes
+  pub base : Name
 
 abbrev of_plural : String → String → String → Pattern
 of_plural before after base = record { before = codes before; plural = true; after = codes after; base = codes base }
@@ -149,11 +150,11 @@ directed_patterns =
 abbrev pub patterns : Breed → List Pattern
 patterns b = if b.link then (if b.directed then directed_patterns else undirected_patterns) else turtle_patterns
 
-abbrev pub made_name : Breed → Pattern → List ℕ
+abbrev pub made_name : Breed → Pattern → Name
 made_name b p = p.before ++ (if p.plural then b.plural else b.singular) ++ p.after
 
 -- the row of the built-in word under another name
-abbrev pub made_as : ℕ → List ℕ → Option Row → List Term
+abbrev pub made_as : ℕ → Name → Option Row → List Term
 made_as n name None = []
 made_as n name (Some r) = record { name = name; role = r.role; inputs = r.inputs; values = 0; many = r.many; runs = r.runs; gives = r.gives; what = what.Made n r.code } ∷ []
 
@@ -184,7 +185,7 @@ own_terms d =
 abbrev pub terms : Declared → List Term
 terms d = map base_term rows ++ own_terms d
 
-abbrev pub term_named : List Term → List ℕ → Option Term
+abbrev pub term_named : List Term → Name → Option Term
 term_named ts name = find (λ t. bytes_eq t.name name) ts
 
 -- each row's name and what it is
@@ -199,5 +200,5 @@ what_of None = None
 what_of (Some r) = Some r.what
 
 -- what the word of this name is, where the table has one
-abbrev pub what_named : Declared → List ℕ → Option What
+abbrev pub what_named : Declared → Name → Option What
 what_named d name = what_of (find (λ r. bytes_eq r.name name) (whats d))

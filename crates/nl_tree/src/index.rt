@@ -41,7 +41,7 @@ impl Model for NamedWords {
     ghost use Rattle.std.specs.Prelude.{List};
     ghost use Rattle.std.specs.Coded.{coded_list};
     ghost use Rattle.nl_tree.specs.Term.{Term};
-    ghost use Rattle.nl_tree.specs.TermCode.{term_code};
+    ghost use Rattle.nl_tree.specs.inner.TermCode.{term_code};
 
     ghost Value = { List Term };
 
@@ -75,7 +75,9 @@ impl NamedWords {
 
     /// The word of this name, in lower case. The search is one of halves.
     pub fn find(&self, name: &[u8]) -> Option<&NamedWord>
-        ensures { MatchOption result (All (λ row. bytes_eq row.name name.now ≡ false) self.now) (λ row. (row.now.name ≡ name.now) × Contains self.now (term_of row.now)) }
+        ensures { MatchOption result
+            (All (λ row. bytes_eq row.name name.now ≡ false) self.now)
+            (λ row. (row.now.name ≡ name.now) × Contains self.now (term_of row.now)) }
     {
         find_word(self.list.as_slice(), name)
     }
@@ -94,7 +96,9 @@ fn sorted(words: Vec<NamedWord>) -> Vec<NamedWord>
 // The word of this name among words in the order of their names.
 fn find_word<'a>(words: &'a [NamedWord], name: &[u8]) -> Option<&'a NamedWord>
     requires { IsSortedBy stands_before words.now }
-    ensures { MatchOption result (All (λ row. bytes_eq row.name name.now ≡ false) words.now) (λ row. (row.now.name ≡ name.now) × Contains words.now row.now) }
+    ensures { MatchOption result
+        (All (λ row. bytes_eq row.name name.now ≡ false) words.now)
+        (λ row. (row.now.name ≡ name.now) × Contains words.now row.now) }
 {
     match words.binary_search_by(|row| row.name.as_bytes().cmp(name)) {
         Ok(at) => Some(&words[at]),

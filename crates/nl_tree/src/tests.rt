@@ -2,7 +2,7 @@
 ghost use Rattle.std.specs.Prelude.{◌≡◌, [], ◌∷◌, IfOk};
 ghost use Rattle.nl_words.specs.Kinds.{everyone};
 ghost use Rattle.nl_words.specs.Rows.{rows};
-ghost use Rattle.nl_tree.specs.Samples.{declaring, going, going_body, base_whats};
+ghost use Rattle.nl_tree.specs.inner.Samples.{declaring, going, going_body, base_whats};
 ghost use Rattle.nl_tree.specs.Vocabulary.{counted, procedure_term, whats};
 
 use crate::declared::{

@@ -53,7 +53,7 @@ impl Model for Trees {
     ghost use Rattle.std.specs.Prelude.{List};
     ghost use Rattle.std.specs.Coded.{coded_list};
     ghost use Rattle.nl_tree.specs.Tree.{Node, list_size};
-    ghost use Rattle.nl_tree.specs.TreeCode.{node_code};
+    ghost use Rattle.nl_tree.specs.inner.TreeCode.{node_code};
 
     ghost Value = { List Node };
 
@@ -67,7 +67,7 @@ impl Model for Trees {
     ghost size = { list_size };
 
     ghost use Rattle.std.proofs.Common.{arith};
-    ghost use Rattle.nl_tree.specs.TreeFalls.{falls};
+    ghost use Rattle.nl_tree.specs.inner.TreeFalls.{falls};
 
     ghost size_decreases = { λ trees h. omega (arith, falls trees.list.items) };
 }
@@ -97,7 +97,10 @@ impl Tree {
     /// The part at a place, counted from 0.
     pub fn part(&self, at: usize) -> Option<&Tree>
         ensures value { option_map plain (option_copied result) ≡ slice_get (parts (plain self.now)) at }
-        ensures rest { MatchOption result (drop at (parts (plain self.now)) ≡ []) (λ part. drop at (parts (plain self.now)) ≡ plain part.now ∷ drop (at + 1) (parts (plain self.now))) }
+        ensures rest { MatchOption result
+            (drop at (parts (plain self.now)) ≡ [])
+            (λ part. drop at (parts (plain self.now))
+            ≡ plain part.now ∷ drop (at + 1) (parts (plain self.now))) }
         ensures within { IsSome result ↔ (at < length (parts (plain self.now))) }
         ensures smaller { IfSome result (λ part. size (plain part.now) < size (plain self.now)) }
     {
@@ -132,7 +135,9 @@ impl Trees {
     /// The tree at a place, counted from 0.
     pub fn get(&self, at: usize) -> Option<&Tree>
         ensures value { option_map plain (option_copied result) ≡ slice_get self.now at }
-        ensures rest { MatchOption result (drop at self.now ≡ []) (λ tree. drop at self.now ≡ plain tree.now ∷ drop (at + 1) self.now) }
+        ensures rest { MatchOption result
+            (drop at self.now ≡ [])
+            (λ tree. drop at self.now ≡ plain tree.now ∷ drop (at + 1) self.now) }
         ensures within { IsSome result ↔ (at < length self.now) }
     {
         tree_at(self.list.as_slice(), at)
@@ -150,7 +155,9 @@ impl Trees {
 
 fn tree_at(trees: &[Tree], at: usize) -> Option<&Tree>
     ensures value { option_copied result ≡ slice_get trees.now at }
-    ensures rest { MatchOption result (drop at trees.now ≡ []) (λ tree. drop at trees.now ≡ tree.now ∷ drop (at + 1) trees.now) }
+    ensures rest { MatchOption result
+        (drop at trees.now ≡ [])
+        (λ tree. drop at trees.now ≡ tree.now ∷ drop (at + 1) trees.now) }
     ensures within { IsSome result ↔ (at < length trees.now) }
 {
     trees.get(at)

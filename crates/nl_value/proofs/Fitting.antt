@@ -1,32 +1,32 @@
--- Every value fits a world that asks for nothing.
-use Rattle.std.specs.Prelude.{◌≡◌, ℕ, true, refl}
+-- What fits: lists by their items, and every value where both tests pass everything.
+use Rattle.std.specs.Prelude.{◌≡◌, ℕ, Bool, true, ◌&&◌, List, [], ◌∷◌, refl}
+use Rattle.std.proofs.Common.{ap}
+use Rattle.std.specs.List.{list_all}
 use Rattle.nl_value.specs.declared.sets.AgentSet.{AgentSet}
-use Rattle.nl_value.specs.Plain.{Plain, Plains, PlainItems, PlainTurtle, PlainPatch, PlainLink, PlainSet, no_items, item_then}
-use Rattle.nl_value.specs.Living.{Living, fits, all_fit, no_life}
-use Rattle.nl_value.specs.SmallWorld.{small_world}
+use Rattle.nl_value.specs.Plain.{Plain, Plains, PlainItems, PlainPatch, PlainSet, no_items, item_then, plains}
+use Rattle.nl_value.specs.Fit.{value_fits, values_fit}
+use Rattle.nl_value.specs.Living.{fits, no_life}
+use Rattle.nl_value.specs.inner.SmallWorld.{small_world}
 
--- the world may be asked about all agents and sets
-record AsksNothing (w : Living) : Type 0 where
-  turtles : (n : ℕ) → w.turtle_fits n ≡ true
-  patches : (n : ℕ) → w.patch_fits n ≡ true
-  links : (n : ℕ) → w.link_fits n ≡ true
-  sets : (s : AgentSet) → w.set_fits s ≡ true
+module _ (patch : ℕ → Bool) (set : AgentSet → Bool) where
+  pub values_fit-plains : (ps : List Plain) → values_fit patch set (plains ps) ≡ list_all (value_fits patch set) ps
+  values_fit-plains [] = refl
+  values_fit-plains (p ∷ ps) = ap (λ b. value_fits patch set p && b) (values_fit-plains ps)
 
-mutual
-  fits_all : (w : Living) → AsksNothing w → (p : Plain) → fits w p ≡ true
-  fits_all w a (PlainItems items) = all_fit_all w a items
-  fits_all w a (PlainTurtle n) = a.turtles n
-  fits_all w a (PlainPatch n) = a.patches n
-  fits_all w a (PlainLink n) = a.links n
-  fits_all w a (PlainSet s) = a.sets s
-  fits_all w a p = refl
+  module _ (patches : (n : ℕ) → patch n ≡ true) (sets : (s : AgentSet) → set s ≡ true) where
+    mutual
+      pub value_fits-all : (p : Plain) → value_fits patch set p ≡ true
+      value_fits-all (PlainItems items) = values_fit-all items
+      value_fits-all (PlainPatch n) = patches n
+      value_fits-all (PlainSet s) = sets s
+      value_fits-all p = refl
 
-  all_fit_all : (w : Living) → AsksNothing w → (ps : Plains) → all_fit w ps ≡ true
-  all_fit_all w a no_items = refl
-  all_fit_all w a (item_then p ps) = rw (fits_all w a p) (all_fit_all w a ps)
+      values_fit-all : (ps : Plains) → values_fit patch set ps ≡ true
+      values_fit-all no_items = refl
+      values_fit-all (item_then p ps) = rw (value_fits-all p) (values_fit-all ps)
 
 pub fits_no_life : (p : Plain) → fits no_life p ≡ true
-fits_no_life = fits_all no_life (record { turtles = λ n. refl; patches = λ n. refl; links = λ n. refl; sets = λ s. refl })
+fits_no_life = value_fits-all no_life.patch_fits no_life.set_fits (λ n. refl) (λ s. refl)
 
 pub fits_small : (p : Plain) → fits small_world p ≡ true
-fits_small = fits_all small_world (record { turtles = λ n. refl; patches = λ n. refl; links = λ n. refl; sets = λ s. refl })
+fits_small = value_fits-all small_world.patch_fits small_world.set_fits (λ n. refl) (λ s. refl)

@@ -4,4 +4,9 @@ pub mod Weighing
 pub mod Joined
 pub mod Equivalence
 pub mod Fitting
+pub mod Lists
 pub mod Ordered
+pub mod OrderOfAll
+pub mod StableSorts
+pub mod Searching
+pub mod Coloring

@@ -3,7 +3,7 @@ use Rattle.std.specs.Prelude.{◌≡◌, ℕ, Bool, true, false, ◌&&◌, ◌==
 use Rattle.std.proofs.Common.{ap, ◌∙◌, sym, get_or, arith}
 use Rattle.std.specs.declared.cmp.Ordering.{Ordering}
 use Rattle.std.specs.declared.cmp.Ordering.TheVariants.{Less}
-use Rattle.std.specs.Option.{option_map}
+use Rattle.std.specs.Option.{option_map, is_some}
 use Rattle.std.specs.Ordering.{nat_cmp, int_cmp, is_eq, ordering_reverse}
 use Rattle.std.specs.Cmp.Lexicographic.{slice_cmp}
 use Rattle.std.specs.Str.{bytes_eq}
@@ -11,16 +11,18 @@ use Rattle.std.proofs.lemmas.Cmp.{nat_cmp_total, int_cmp_total, nat_list_cmp_tot
 use Rattle.std.proofs.lemmas.Map.Text.{is_eq-slice_cmp}
 use Rattle.std.proofs.lemmas.Slice.Eq.{bytes_eq-Decides}
 use Rattle.std.proofs.lemmas.Bool.Decides.{nat_tests, Decides-eqb}
+use Rattle.nl_value.specs.declared.order.OrderKind.{OrderKind}
+use Rattle.nl_value.specs.declared.order.OrderKind.TheVariants.{Turtles, Links, Unordered}
 use Rattle.nl_value.specs.Plain.{Plain, PlainNumber, PlainTruth, PlainWords, PlainItems, PlainTurtle, PlainPatch, PlainLink, PlainNobody, PlainSet}
 use Rattle.nl_value.specs.Living.{Living, link_key}
 use Rattle.nl_value.specs.Equality.{same_values}
-use Rattle.nl_value.specs.Order.{compared}
+use Rattle.nl_value.specs.Order.{compared, order_kind, have_order}
 use Rattle.nl_value.specs.Laws.{IsOrdered}
 
-none_some : (r : Ordering) → None ≡ Some r → ⊥
+pub none_some : (r : Ordering) → None ≡ Some r → ⊥
 none_some r h = cc
 
-some_same : (q r : Ordering) → Some q ≡ Some r → q ≡ r
+pub some_same : (q r : Ordering) → Some q ≡ Some r → q ≡ r
 some_same q r h = cc
 
 turned_living : (a b : Bool) (q r : Ordering) → q ≡ ordering_reverse r → (if a && b then Some q else None) ≡ option_map ordering_reverse (if b && a then Some r else None)
@@ -79,7 +81,7 @@ eq-link_key w m n =
     (λ e. (Decides-eqb m n).1 (ap (λ (xs : List ℕ). get_or xs 3 0) ((bytes_eq-Decides (link_key w m) (link_key w n)).0 e)))
 
 -- what a choice of a comparison says
-lives_both : (a b : Bool) (q r : Ordering) → (if a && b then Some q else None) ≡ Some r → (a ≡ true) × (b ≡ true) × (q ≡ r)
+pub lives_both : (a b : Bool) (q r : Ordering) → (if a && b then Some q else None) ≡ Some r → (a ≡ true) × (b ≡ true) × (q ≡ r)
 lives_both true true q r h = (refl, refl, some_same q r h)
 lives_both true false q r h = absurd (none_some r h)
 lives_both false b q r h = absurd (none_some r h)
@@ -96,5 +98,46 @@ agrees w (PlainLink m) (PlainLink n) r h =
     rw (both.0, both.1) (eq-link_key w m n ∙ sym (is_eq-slice_cmp (link_key w m) (link_key w n)) ∙ ap is_eq both.2)
 agrees w a b r h = absurd (none_some r h)
 
+-- ---- who has an order
+
+some_living : (a b : Bool) (q : Ordering) → is_some (if a && b then Some q else None) ≡ (a && b)
+some_living true true q = refl
+some_living true false q = refl
+some_living false b q = refl
+
+turtles_have : (a b : Bool) → (a && b) ≡ have_order (if a then Turtles else Unordered) (if b then Turtles else Unordered)
+turtles_have true true = refl
+turtles_have true false = refl
+turtles_have false b = refl
+
+links_have : (a b : Bool) → (a && b) ≡ have_order (if a then Links else Unordered) (if b then Links else Unordered)
+links_have true true = refl
+links_have true false = refl
+links_have false b = refl
+
+-- an agent that may have died, before and behind a value of another kind
+apart_first : (a : Bool) (j k : OrderKind) → have_order j k ≡ false → false ≡ have_order (if a then j else Unordered) k
+apart_first true j k h = sym h
+apart_first false j k h = refl
+
+apart_second : (b : Bool) (j k : OrderKind) → have_order j k ≡ false → have_order j Unordered ≡ false → false ≡ have_order j (if b then k else Unordered)
+apart_second true j k h u = sym h
+apart_second false j k h u = sym u
+
+apart_both : (a b : Bool) (j k : OrderKind) → have_order j k ≡ false → have_order j Unordered ≡ false → false ≡ have_order (if a then j else Unordered) (if b then k else Unordered)
+apart_both true b j k h u = apart_second b j k h u
+apart_both false b j k h u = refl
+
+some : (w : Living) (a b : Plain) → is_some (compared w a b) ≡ have_order (order_kind w a) (order_kind w b)
+some w (PlainTurtle m) (PlainTurtle n) = some_living (w.turtle_lives m) (w.turtle_lives n) (nat_cmp m n) ∙ turtles_have (w.turtle_lives m) (w.turtle_lives n)
+some w (PlainLink m) (PlainLink n) = some_living (w.link_lives m) (w.link_lives n) (slice_cmp nat_cmp (link_key w m) (link_key w n)) ∙ links_have (w.link_lives m) (w.link_lives n)
+some w (PlainTurtle m) (PlainLink n) = apart_both (w.turtle_lives m) (w.link_lives n) Turtles Links refl refl
+some w (PlainLink m) (PlainTurtle n) = apart_both (w.link_lives m) (w.turtle_lives n) Links Turtles refl refl
+some w (PlainTurtle m) b = apart_first (w.turtle_lives m) Turtles (order_kind w b) refl
+some w (PlainLink m) b = apart_first (w.link_lives m) Links (order_kind w b) refl
+some w a (PlainTurtle n) = apart_second (w.turtle_lives n) (order_kind w a) Turtles refl refl
+some w a (PlainLink n) = apart_second (w.link_lives n) (order_kind w a) Links refl refl
+some w a b = refl
+
 pub is_ordered : (w : Living) → IsOrdered w
-is_ordered w = record { turned = turned w; transitive = transitive w; agrees = agrees w }
+is_ordered w = record { some = some w; turned = turned w; transitive = transitive w; agrees = agrees w }

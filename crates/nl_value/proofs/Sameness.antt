@@ -1,5 +1,5 @@
 -- Equality of lists, item by item.
-use Rattle.std.specs.Prelude.{◌≡◌, ℕ, zero, ◌+◌, ◌<◌, ◌≤◌, Bool, true, false, ◌&&◌, List, [], ◌∷◌, length, map, refl}
+use Rattle.std.specs.Prelude.{◌≡◌, ℕ, zero, ◌+◌, ◌<◌, ◌≤◌, Bool, true, false, ◌&&◌, ◌||◌, List, [], ◌∷◌, length, map, refl}
 use Rattle.std.proofs.Common.{arith, get_or, drop, suc, ap, ◌∙◌, sym}
 use Rattle.std.proofs.lemmas.Bool.{false≢true}
 use Rattle.std.proofs.lemmas.List.{drop_more}
@@ -8,6 +8,7 @@ use Rattle.nl_value.specs.declared.values.Value.{Value}
 use Rattle.nl_value.specs.Plain.{Plain, plains}
 use Rattle.nl_value.specs.Living.{Living, fits, all_fit}
 use Rattle.nl_value.specs.Equality.{settled, all_settled, alike, all_alike, same_values}
+use Rattle.nl_value.specs.Memory.{holds_set, some_hold_set}
 use Rattle.nl_value.specs.Views.{plain}
 
 -- two lists, as equality sees them
@@ -18,11 +19,11 @@ and_false : (a b : Bool) → b ≡ false → (a && b) ≡ false
 and_false true b e = e
 and_false false b e = refl
 
-and_left : (a b : Bool) → (a && b) ≡ true → a ≡ true
+pub and_left : (a b : Bool) → (a && b) ≡ true → a ≡ true
 and_left true b e = refl
 and_left false b e = e
 
-and_right : (a b : Bool) → (a && b) ≡ true → b ≡ true
+pub and_right : (a b : Bool) → (a && b) ≡ true → b ≡ true
 and_right true b e = e
 and_right false b e = absurd (false≢true e)
 
@@ -69,3 +70,22 @@ item_of_all_fits w (u ∷ us) (suc i) v h e f = item_of_all_fits w us i v (omega
 -- each item of a list that fits does
 pub item_fits : (w : Living) (vs : List Value) (ps : List Plain) (i : ℕ) (v : Value) → map plain vs ≡ ps → i < length vs → v ≡ get_or vs i v → all_fit w (plains ps) ≡ true → fits w (plain v) ≡ true
 item_fits w vs ps i v e h f g = item_of_all_fits w vs i v h f (ap (λ (qs : List Plain). all_fit w (plains qs)) e ∙ g)
+
+-- ---- lists without sets
+
+or_left : (a b : Bool) → (a || b) ≡ false → a ≡ false
+or_left true b e = e
+or_left false b e = refl
+
+or_right : (a b : Bool) → (a || b) ≡ false → b ≡ false
+or_right true b e = absurd (false≢true (sym e))
+or_right false b e = e
+
+item_of_list_without : (vs : List Value) (i : ℕ) (v : Value) → i < length vs → v ≡ get_or vs i v → some_hold_set (plains (map plain vs)) ≡ false → holds_set (plain v) ≡ false
+item_of_list_without [] i v h e f = absurd (omega (arith, h))
+item_of_list_without (u ∷ us) zero v h e f = ap (λ (x : Value). holds_set (plain x)) e ∙ or_left (holds_set (plain u)) (some_hold_set (plains (map plain us))) f
+item_of_list_without (u ∷ us) (suc i) v h e f = item_of_list_without us i v (omega (arith, h)) e (or_right (holds_set (plain u)) (some_hold_set (plains (map plain us))) f)
+
+-- each item of a list without sets is without sets
+pub item_without : (vs : List Value) (ps : List Plain) (i : ℕ) (v : Value) → map plain vs ≡ ps → i < length vs → v ≡ get_or vs i v → some_hold_set (plains ps) ≡ false → holds_set (plain v) ≡ false
+item_without vs ps i v e h f g = item_of_list_without vs i v h f (ap (λ (qs : List Plain). some_hold_set (plains qs)) e ∙ g)

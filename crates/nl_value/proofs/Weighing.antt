@@ -3,7 +3,7 @@ use Rattle.std.specs.Prelude.{◌≡◌, ℕ, zero, ◌<◌, List, [], ◌∷◌
 use Rattle.std.proofs.Common.{arith, get_or, suc, ap}
 use Rattle.nl_value.specs.declared.values.Value.{Value}
 use Rattle.nl_value.specs.Plain.{Plain, plains}
-use Rattle.nl_value.specs.Weights.{weight, weights}
+use Rattle.nl_value.specs.inner.Weights.{weight, weights}
 use Rattle.nl_value.specs.Views.{plain}
 
 item_of_list_weighs : (vs : List Value) (i : ℕ) (v : Value) → i < length vs → v ≡ get_or vs i v → weight (plain v) < weights (plains (map plain vs))

@@ -1,5 +1,5 @@
 -- When two values are the same.
-use Rattle.std.specs.Prelude.{ℕ, ℤ, Bool, true, false, ◌&&◌, ◌==◌, if◌then◌else◌, List}
+use Rattle.std.specs.Prelude.{Bool, true, false, ◌&&◌, ◌==◌, if◌then◌else◌}
 use Rattle.std.specs.Ordering.{int_eq}
 use Rattle.std.specs.Str.{bytes_eq}
 use Rattle.std.specs.Bool.{beq}
@@ -46,31 +46,8 @@ abbrev mutual
 abbrev pub same_values : Living → Plain → Plain → Bool
 same_values w a b = alike w (settled w a) (settled w b)
 
--- ---- the value is of a kind, with this content
-
-abbrev pub equals_number : ℤ → Plain → Bool
-equals_number m (PlainNumber n) = int_eq m n
-equals_number m b = false
-
-abbrev pub equals_truth : Bool → Plain → Bool
-equals_truth m (PlainTruth n) = beq m n
-equals_truth m b = false
-
-abbrev pub equals_words : List ℕ → Plain → Bool
-equals_words m (PlainWords n) = bytes_eq m n
-equals_words m b = false
-
-abbrev pub equals_turtle : ℕ → Plain → Bool
-equals_turtle m (PlainTurtle n) = m == n
-equals_turtle m b = false
-
-abbrev pub equals_patch : ℕ → Plain → Bool
-equals_patch m (PlainPatch n) = m == n
-equals_patch m b = false
-
-abbrev pub equals_link : ℕ → Plain → Bool
-equals_link m (PlainLink n) = m == n
-equals_link m b = false
+abbrev pub same_lists : Living → Plains → Plains → Bool
+same_lists w ms ns = all_alike w (all_settled w ms) (all_settled w ns)
 
 -- it is nobody or a dead agent
 abbrev pub is_gone : Living → Plain → Bool

@@ -1,13 +1,16 @@
 -- What values ask the world: who lives, who belongs to a set, where a link stands among links, and the names.
-use Rattle.std.specs.Prelude.{ℕ, Bool, true, false, ◌&&◌, List, [], ◌∷◌}
+use Rattle.std.specs.Prelude.{ℕ, Bool, true, false, ◌&&◌, [], ◌∷◌}
 use Rattle.std.specs.Ordering.{nat_cmp, is_lt}
 use Rattle.std.specs.Cmp.Lexicographic.{slice_cmp}
 use Rattle.std.specs.Str.{bytes_eq}
 use Rattle.nl_value.specs.declared.sets.AgentKind.{AgentKind}
 use Rattle.nl_value.specs.declared.sets.AgentKind.TheVariants.{Turtle, Patch, Link}
 use Rattle.nl_value.specs.declared.sets.AgentSet.{AgentSet}
+use Rattle.nl_fixed.specs.Nouns.{Bytes}
+use Rattle.nl_value.specs.Nouns.{Serials, Key}
 use Rattle.nl_value.specs.Sets.{set_kind}
-use Rattle.nl_value.specs.Plain.{Plain, Plains, PlainNumber, PlainTruth, PlainWords, PlainItems, PlainTurtle, PlainPatch, PlainLink, PlainNobody, PlainSet, no_items, item_then}
+use Rattle.nl_value.specs.Plain.{Plain, Plains, PlainNumber, PlainTruth, PlainWords, PlainItems, PlainTurtle, PlainPatch, PlainLink, PlainNobody, PlainSet}
+use Rattle.nl_value.specs.Fit.{value_fits, values_fit}
 
 -- a link's ends and breed
 pub record LinkPlace : Type 0 where
@@ -16,34 +19,22 @@ pub record LinkPlace : Type 0 where
   pub breed : ℕ
 
 -- what the world answers: which turtles and links live, the living members of a set in ascending order, a link's ends and
--- breed, the text of an agent or a set, and which numbers and sets it may be asked about
+-- breed, the text of an agent or a set, and which patches and sets it may be asked about
 pub record Living : Type 0 where
   pub turtle_lives : ℕ → Bool
   pub link_lives : ℕ → Bool
-  pub members : AgentSet → List ℕ
+  pub members : AgentSet → Serials
   pub link_place : ℕ → LinkPlace
-  pub name : Plain → List ℕ
-  pub turtle_fits : ℕ → Bool
+  pub name : Plain → Bytes
   pub patch_fits : ℕ → Bool
-  pub link_fits : ℕ → Bool
   pub set_fits : AgentSet → Bool
 
--- whether the value fits the world: numbers, truths, texts and nobody always do, and a list where each item does
-abbrev mutual
-  pub fits : Living → Plain → Bool
-  fits w (PlainNumber count) = true
-  fits w (PlainTruth truth) = true
-  fits w (PlainWords bytes) = true
-  fits w (PlainItems items) = all_fit w items
-  fits w (PlainTurtle turtle) = w.turtle_fits turtle
-  fits w (PlainPatch patch) = w.patch_fits patch
-  fits w (PlainLink link) = w.link_fits link
-  fits w PlainNobody = true
-  fits w (PlainSet set) = w.set_fits set
+-- whether the value fits the world, by its two tests
+abbrev pub fits : Living → Plain → Bool
+fits w value = value_fits w.patch_fits w.set_fits value
 
-  pub all_fit : Living → Plains → Bool
-  all_fit w no_items = true
-  all_fit w (item_then first rest) = fits w first && all_fit w rest
+abbrev pub all_fit : Living → Plains → Bool
+all_fit w items = values_fit w.patch_fits w.set_fits items
 
 -- whether the value is an agent or a set of agents
 abbrev pub has_name : Plain → Bool
@@ -68,7 +59,7 @@ abbrev pub same_sets : Living → AgentSet → AgentSet → Bool
 same_sets w a b = same_kind (set_kind a) (set_kind b) && bytes_eq (w.members a) (w.members b)
 
 -- links are ordered by their first end, their second end, their breed and their number, in this order
-abbrev pub link_key : Living → ℕ → List ℕ
+abbrev pub link_key : Living → ℕ → Key
 link_key w link = (w.link_place link).end1 ∷ (w.link_place link).end2 ∷ (w.link_place link).breed ∷ link ∷ []
 
 abbrev pub link_comes_before : Living → ℕ → ℕ → Bool
@@ -82,8 +73,6 @@ no_life = record {
   members = λ set. [];
   link_place = λ link. record { end1 = 0; end2 = 0; breed = 0 };
   name = λ value. [];
-  turtle_fits = λ turtle. true;
   patch_fits = λ patch. true;
-  link_fits = λ link. true;
   set_fits = λ set. true;
 }

@@ -1,5 +1,5 @@
 -- The size and the depth of a value.
-use Rattle.std.specs.Prelude.{ℕ, ◌+◌, max, length}
+use Rattle.std.specs.Prelude.{ℕ, ◌+◌, max, List, [], ◌∷◌, length}
 use Rattle.nl_value.specs.declared.sets.AgentSet.{AgentSet}
 use Rattle.nl_value.specs.declared.sets.AgentSet.TheVariants.{Turtles, Breed, Patches, Links, LinkBreed, SomeTurtles, SomePatches, SomeLinks}
 use Rattle.nl_value.specs.Plain.{Plain, Plains, PlainNumber, PlainTruth, PlainWords, PlainItems, PlainTurtle, PlainPatch, PlainLink, PlainNobody, PlainSet, no_items, item_then}
@@ -48,3 +48,8 @@ abbrev mutual
   pub deepest_of : Plains → ℕ
   deepest_of no_items = 0
   deepest_of (item_then first rest) = max (depth_of first) (deepest_of rest)
+
+-- the greatest of numbers, and 0 of none
+abbrev pub greatest : List ℕ → ℕ
+greatest [] = 0
+greatest (n ∷ ns) = max n (greatest ns)

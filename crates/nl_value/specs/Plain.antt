@@ -1,12 +1,13 @@
 -- Values without where they lie in memory.
 use Rattle.std.specs.Prelude.{ℕ, ℤ, Bool, List, [], ◌∷◌}
+use Rattle.nl_fixed.specs.Nouns.{Bytes}
 use Rattle.nl_value.specs.declared.sets.AgentSet.{AgentSet}
 
 mutual
   pub data Plain : Type 0 where
     PlainNumber : (count : ℤ) → Plain
     PlainTruth : (truth : Bool) → Plain
-    PlainWords : (bytes : List ℕ) → Plain
+    PlainWords : (bytes : Bytes) → Plain
     PlainItems : (items : Plains) → Plain
     PlainTurtle : (turtle : ℕ) → Plain
     PlainPatch : (patch : ℕ) → Plain
@@ -22,3 +23,8 @@ mutual
 abbrev pub plains : List Plain → Plains
 plains [] = no_items
 plains (p ∷ ps) = item_then p (plains ps)
+
+-- the items of the data as a list, which is the way back
+abbrev pub items_of : Plains → List Plain
+items_of no_items = []
+items_of (item_then first rest) = first ∷ items_of rest

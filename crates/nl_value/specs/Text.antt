@@ -1,17 +1,13 @@
 -- The text of a value.
-use Rattle.std.specs.Prelude.{ℕ, Bool, true, if◌then◌else◌, ◌==◌, List, [], ◌∷◌, ◌++◌, codes}
-use Rattle.std.specs.List.{join_with_byte, flat_map}
+use Rattle.std.specs.Prelude.{ℕ, Bool, true, if◌then◌else◌, List, [], ◌∷◌, ◌++◌, codes}
+use Rattle.std.specs.List.{join_with_byte}
+use Rattle.nl_fixed.specs.Nouns.{Bytes}
+use Rattle.nl_fixed.specs.Quoted.{quoted_text}
 use Rattle.nl_fixed.specs.Spelling.{number_text}
 use Rattle.nl_value.specs.Plain.{Plain, Plains, PlainNumber, PlainTruth, PlainWords, PlainItems, PlainTurtle, PlainPatch, PlainLink, PlainNobody, PlainSet, no_items, item_then}
 use Rattle.nl_value.specs.Living.{Living}
 
--- the bytes that stand around a text and its items
-abbrev pub quote : ℕ
-quote = 34
-
-abbrev pub backslash : ℕ
-backslash = 92
-
+-- the bytes that stand around the items of a list
 abbrev pub space : ℕ
 space = 32
 
@@ -21,21 +17,9 @@ open_bracket = 91
 abbrev pub close_bracket : ℕ
 close_bracket = 93
 
--- the four escapes: the line feed, the tab, the backslash and the quote
-abbrev pub escaped : ℕ → List ℕ
-escaped b =
-    if b == 10 then codes "\\n" else
-    if b == 9 then codes "\\t" else
-    if b == backslash then codes "\\\\" else
-    if b == quote then codes "\\\"" else
-    b ∷ []
-
-abbrev pub quoted_text : List ℕ → List ℕ
-quoted_text bytes = quote ∷ (flat_map escaped bytes ++ quote ∷ [])
-
 -- the text, with the texts between quotes where they stand in a list or quotes are asked for; a dead agent is nobody
 abbrev mutual
-  pub text_of : Living → Bool → Plain → List ℕ
+  pub text_of : Living → Bool → Plain → Bytes
   text_of w quoted (PlainNumber count) = number_text count
   text_of w quoted (PlainTruth truth) = if truth then codes "true" else codes "false"
   text_of w quoted (PlainWords bytes) = if quoted then quoted_text bytes else bytes
@@ -46,10 +30,6 @@ abbrev mutual
   text_of w quoted PlainNobody = codes "nobody"
   text_of w quoted (PlainSet set) = w.name (PlainSet set)
 
-  pub texts_of : Living → Plains → List (List ℕ)
+  pub texts_of : Living → Plains → List Bytes
   texts_of w no_items = []
   texts_of w (item_then first rest) = text_of w true first ∷ texts_of w rest
-
--- a text has at most so many bytes, since the text as a value has the size 1,000,000 at most
-abbrev pub most_bytes : ℕ
-most_bytes = 999999

@@ -1,8 +1,10 @@
 //! When two values are the same.
-ghost use Rattle.std.specs.Prelude.{◌≡◌, IsTrue, IfOk};
+ghost use Rattle.std.specs.Prelude.{◌≡◌, false, IsTrue, IfOk, IsOk};
 ghost use Rattle.nl_value.specs.Plain.{PlainItems, PlainSet, PlainTurtle, PlainLink, plains};
 ghost use Rattle.nl_value.specs.Living.{fits, all_fit};
-ghost use Rattle.nl_value.specs.Equality.{settled, all_settled, alike, all_alike, same_values, equals_number, equals_truth, equals_words, equals_turtle, equals_patch, equals_link, is_gone};
+ghost use Rattle.nl_value.specs.Equality.{same_values, same_lists, is_gone};
+ghost use Rattle.nl_value.specs.Memory.{holds_set, some_hold_set};
+ghost use Rattle.nl_value.specs.inner.Contents.{equals_number, equals_truth, equals_words, equals_turtle, equals_patch, equals_link};
 ghost use Rattle.nl_value.specs.Views.{plain};
 
 use crate::life::Life;
@@ -110,7 +112,8 @@ fn same_as_set<L: Life>(
 ) -> Result<bool, NoMemory>
     requires first { IsTrue (fits (L.living life.now) (PlainSet set.now)) }
     requires second { IsTrue (fits (L.living life.now) (plain value.now)) }
-    ensures { IfOk result (λ same. same ≡ same_values (L.living life.now) (PlainSet set.now) (plain value.now)) }
+    ensures { let w = L.living life.now in
+        IfOk result (λ same. same ≡ same_values w (PlainSet set.now) (plain value.now)) }
 {
     match value {
         Value::Set(other) => life.same_members(alloc, set, other),
@@ -128,7 +131,9 @@ fn same_as_items<L: Life>(
 ) -> Result<bool, NoMemory>
     requires first { IsTrue (all_fit (L.living life.now) (plains items.now)) }
     requires second { IsTrue (fits (L.living life.now) (plain value.now)) }
-    ensures { IfOk result (λ same. same ≡ same_values (L.living life.now) (PlainItems (plains items.now)) (plain value.now)) }
+    ensures same { let w = L.living life.now in
+        IfOk result (λ same. same ≡ same_values w (PlainItems (plains items.now)) (plain value.now)) }
+    ensures without { some_hold_set (plains items.now) ≡ false → IsOk result }
 {
     match value {
         Value::Items(others) => same_items(alloc, items, others, life),
@@ -146,7 +151,9 @@ fn same_items<L: Life>(
 ) -> Result<bool, NoMemory>
     requires first { IsTrue (all_fit (L.living life.now) (plains items.now)) }
     requires second { IsTrue (all_fit (L.living life.now) (plains others.now)) }
-    ensures { IfOk result (λ same. same ≡ all_alike (L.living life.now) (all_settled (L.living life.now) (plains items.now)) (all_settled (L.living life.now) (plains others.now))) }
+    ensures same { let w = L.living life.now in
+        IfOk result (λ same. same ≡ same_lists w (plains items.now) (plains others.now)) }
+    ensures without { some_hold_set (plains items.now) ≡ false → IsOk result }
 {
     let others = &others.list;
     if items.list.len() != others.len() {
@@ -166,7 +173,9 @@ fn same_items<L: Life>(
 pub fn same<L: Life>(alloc: Global, a: &Value, b: &Value, life: &L) -> Result<bool, NoMemory>
     requires first { IsTrue (fits (L.living life.now) (plain a.now)) }
     requires second { IsTrue (fits (L.living life.now) (plain b.now)) }
-    ensures { IfOk result (λ same. same ≡ same_values (L.living life.now) (plain a.now) (plain b.now)) }
+    ensures same { let w = L.living life.now in
+        IfOk result (λ same. same ≡ same_values w (plain a.now) (plain b.now)) }
+    ensures without { holds_set (plain a.now) ≡ false → IsOk result }
 {
     match a {
         Value::Number(number) => Ok(b.is_number(*number)),

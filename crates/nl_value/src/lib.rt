@@ -2,19 +2,22 @@
 //! size.
 #![tactic(auto)]
 
+pub mod colors;
 pub mod equality;
 pub mod laws;
 pub mod life;
-mod measures;
+pub mod measures;
 pub mod order;
 pub mod sets;
 #[cfg(test)]
 mod small_world;
+pub mod sorting;
 #[cfg(test)]
 mod tests;
 pub mod texts;
 pub mod values;
 
 pub use life::{Life, NoLife};
+pub use order::OrderKind;
 pub use sets::{AgentKind, AgentSet, Serials};
 pub use values::{Items, Value};

@@ -1,5 +1,6 @@
 //! What values ask the world.
-ghost use Rattle.std.specs.Prelude.{◌≡◌, IsTrue, IfOk};
+ghost use Rattle.std.specs.Prelude.{◌≡◌, IsTrue, IfOk, OnOk};
+ghost use Rattle.std.specs.List.Sorted.{IsStrictlyIncreasing};
 ghost use Rattle.nl_value.specs.Living.{Living, fits, has_name, same_sets, link_comes_before, no_life};
 ghost use Rattle.nl_value.specs.Views.{plain};
 
@@ -22,11 +23,14 @@ pub trait Life {
     fn link_lives(&self, link: u64) -> bool
         ensures { result ≡ (living self.now).link_lives link };
 
-    /// Whether the sets are of one kind and have the same living members.
+    /// Whether the sets are of one kind and have the same living members. The members of a set ascend, so that two sets have
+    /// the same ones exactly where these are the same lists.
     fn same_members(&self, alloc: Global, a: &AgentSet, b: &AgentSet) -> Result<bool, NoMemory>
         requires first { IsTrue ((living self.now).set_fits a.now) }
         requires second { IsTrue ((living self.now).set_fits b.now) }
-        ensures { IfOk result (λ same. same ≡ same_sets (living self.now) a.now b.now) };
+        ensures same { IfOk result (λ same. same ≡ same_sets (living self.now) a.now b.now) }
+        ensures first_ascends { OnOk result (IsStrictlyIncreasing ((living self.now).members a.now)) }
+        ensures second_ascends { OnOk result (IsStrictlyIncreasing ((living self.now).members b.now)) };
 
     /// Whether the first link comes before the second: by the first ends, the second ends, the breeds and the serials.
     fn link_before(&self, a: u64, b: u64) -> bool

@@ -1,11 +1,18 @@
 //! The size and the depth of values.
 ghost use Rattle.std.specs.Prelude.{◌≡◌, min};
 ghost use Rattle.nl_value.specs.Measures.{listed, size_of, sizes_of, depth_of, deepest_of};
-ghost use Rattle.nl_value.specs.Plain.{plains};
+ghost use Rattle.nl_value.specs.Limits.{within_limits};
+ghost use Rattle.nl_value.specs.Plain.{PlainItems, plains};
 ghost use Rattle.nl_value.specs.Views.{plain};
 
 use crate::sets::AgentSet;
 use crate::values::{Items, Value};
+
+/// How much a value takes at most.
+pub const MOST_SIZE: u64 = 1_000_000;
+
+/// How deep a value nests at most.
+pub const MOST_DEPTH: u32 = 200;
 
 impl AgentSet {
     /// How many members the set lists: 0 for all agents of a kind or a breed.
@@ -49,6 +56,13 @@ impl Items {
         }
         deepest
     }
+
+    /// Whether the list that has these items is within the limits on values, as `Value::is_within_limits` says it.
+    pub fn are_within_limits(&self) -> bool
+        ensures { result ≡ within_limits (PlainItems (plains self.now)) }
+    {
+        self.item_sizes() < MOST_SIZE && self.item_depths() < MOST_DEPTH
+    }
 }
 
 impl Value {
@@ -88,5 +102,11 @@ impl Value {
             | Value::Link(_)
             | Value::Nobody => 1,
         }
+    }
+    /// Whether the value is within the limits on values: a size of at most 1,000,000 and a depth of at most 200.
+    pub fn is_within_limits(&self) -> bool
+        ensures { result ≡ within_limits (plain self.now) }
+    {
+        self.size() <= MOST_SIZE && self.depth() <= MOST_DEPTH
     }
 }

@@ -1,5 +1,6 @@
 //! Sets of agents.
-ghost use Rattle.std.specs.Prelude.{◌≡◌, [], ◌∷◌, ◌++◌, ◌↔◌, length, IsTrue, IfOk, OnOk, OnErr};
+ghost use Rattle.std.specs.Prelude.{◌≡◌, [], ◌∷◌, ◌++◌, ◌↔◌, ◌==◌, length, IsTrue, IfOk, OnOk, OnErr};
+ghost use Rattle.std.specs.List.{list_any};
 ghost use Rattle.std.specs.List.Sorted.{IsStrictlyIncreasing};
 ghost use Rattle.nl_value.specs.Ascending.{IsAboveLast};
 
@@ -34,6 +35,14 @@ impl Serials {
         }
     }
 
+    /// The numbers of a vector, which ascend, without a copy.
+    pub fn of_vec(list: Vec<u64>) -> Serials
+        requires { IsStrictlyIncreasing list.items }
+        ensures { result ≡ list.items }
+    {
+        Serials { list }
+    }
+
     /// The numbers, ascending.
     pub fn as_slice(&self) -> &[u64]
         ensures value { result.now ≡ self.now }
@@ -54,6 +63,13 @@ impl Serials {
         ensures { IsTrue result ↔ (self.now ≡ []) }
     {
         self.list.is_empty()
+    }
+
+    /// Whether the number is among them, by a binary search.
+    pub fn contains(&self, number: u64) -> bool
+        ensures { result ≡ list_any (λ other. other == number) self.now }
+    {
+        self.list.binary_search(&number).is_ok()
     }
 
     /// Takes all numbers away.
@@ -105,6 +121,8 @@ pub enum AgentSet {
 }
 
 impl AgentSet {
+    ghost use Rattle.std.specs.Prelude.{false, IsOk};
+    ghost use Rattle.nl_value.specs.Memory.{is_listed_set};
     ghost use Rattle.nl_value.specs.Sets.{set_kind};
 
     /// The kind of the agents that the set may hold.
@@ -118,9 +136,10 @@ impl AgentSet {
         }
     }
 
-    /// The same set again.
+    /// The same set again. Only a set that is a list of numbers takes memory.
     pub fn copy(&self, alloc: Global) -> Result<AgentSet, NoMemory>
-        ensures { IfOk result (λ again. again ≡ self.now) }
+        ensures again { IfOk result (λ again. again ≡ self.now) }
+        ensures without { is_listed_set self.now ≡ false → IsOk result }
     {
         match self {
             AgentSet::Turtles => Ok(AgentSet::Turtles),

@@ -1,8 +1,9 @@
 //! A small world for the tests: turtles 1 and 2 live, of which 2 is a fox, and links 1 to 4.
 ghost use Rattle.std.specs.Prelude.{◌≡◌, IfOk};
 ghost use Rattle.std.specs.List.{filter};
+ghost use Rattle.std.specs.List.Sorted.{IsStrictlyIncreasing};
 ghost use Rattle.nl_value.specs.Living.{link_key};
-ghost use Rattle.nl_value.specs.SmallWorld.{small_world, small_members, small_turtle_lives, small_link_lives};
+ghost use Rattle.nl_value.specs.inner.SmallWorld.{small_world, small_members, small_turtle_lives, small_link_lives};
 
 use crate::life::Life;
 use crate::sets::{AgentSet, Serials};
@@ -12,7 +13,8 @@ use std::alloc::Global;
 
 /// The living turtles of a list.
 fn living_turtles(alloc: Global, numbers: &Serials) -> Result<Vec<u64>, NoMemory>
-    ensures { IfOk result (λ members. members.items ≡ filter small_turtle_lives numbers.now) }
+    ensures members { IfOk result (λ members. members.items ≡ filter small_turtle_lives numbers.now) }
+    ensures ascending { IsStrictlyIncreasing (filter small_turtle_lives numbers.now) }
 {
     let numbers = numbers.as_slice();
     let members = numbers
@@ -25,7 +27,8 @@ fn living_turtles(alloc: Global, numbers: &Serials) -> Result<Vec<u64>, NoMemory
 
 /// The living links of a list.
 fn living_links(alloc: Global, numbers: &Serials) -> Result<Vec<u64>, NoMemory>
-    ensures { IfOk result (λ members. members.items ≡ filter small_link_lives numbers.now) }
+    ensures members { IfOk result (λ members. members.items ≡ filter small_link_lives numbers.now) }
+    ensures ascending { IsStrictlyIncreasing (filter small_link_lives numbers.now) }
 {
     let numbers = numbers.as_slice();
     let members = numbers
@@ -38,7 +41,8 @@ fn living_links(alloc: Global, numbers: &Serials) -> Result<Vec<u64>, NoMemory>
 
 /// The living members of a set.
 fn members(alloc: Global, set: &AgentSet) -> Result<Vec<u64>, NoMemory>
-    ensures { IfOk result (λ members. members.items ≡ small_members set.now) }
+    ensures members { IfOk result (λ members. members.items ≡ small_members set.now) }
+    ensures ascending { IsStrictlyIncreasing (small_members set.now) }
 {
     match set {
         AgentSet::Turtles => Ok([1, 2].to_vec(alloc)?),
@@ -78,12 +82,9 @@ impl Life for SmallWorld {
     }
 
     fn same_members(&self, alloc: Global, a: &AgentSet, b: &AgentSet) -> Result<bool, NoMemory> {
-        if a.kind() != b.kind() {
-            return Ok(false);
-        }
         let first = members(alloc, a)?;
         let second = members(alloc, b)?;
-        Ok(first.as_slice() == second.as_slice())
+        Ok(a.kind() == b.kind() && first.as_slice() == second.as_slice())
     }
 
     fn link_before(&self, a: u64, b: u64) -> bool {

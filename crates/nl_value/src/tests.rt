@@ -1,9 +1,10 @@
 //! Values compared, ordered, printed and measured: the expected answers were written down by the rules.
 #![tactic(auto, using(crate::proofs::Fitting::fits_no_life, crate::proofs::Fitting::fits_small))]
 
+use crate::colors::{color_named, primary_colors};
 use crate::equality::same;
 use crate::life::NoLife;
-use crate::order::before;
+use crate::order::{OrderKind, before, compare};
 use crate::sets::{AgentSet, Serials};
 use crate::small_world::SmallWorld;
 use crate::texts::{TextFail, text};
@@ -210,61 +211,232 @@ fn values_are_the_same_as_these(rt: HostRuntime) -> Result<(), Fail> {
     Ok(())
 }
 
-/// Pairs of contents, and whether the first comes before the second.
-fn content_pairs(alloc: Global) -> Result<Vec<(Value, Value, Option<bool>)>, NoMemory> {
-    let mut rows = Vec::new(alloc);
-    rows.push((number(-1), number(0), Some(true)))?;
-    rows.push((number(0), number(0), Some(false)))?;
-    rows.push((words(alloc, b"")?, words(alloc, b"a")?, Some(true)))?;
-    rows.push((words(alloc, b"ab")?, words(alloc, b"b")?, Some(true)))?;
-    rows.push((words(alloc, b"a")?, words(alloc, b"Z")?, Some(false)))?;
-    rows.push((number(1), words(alloc, b"1")?, None))?;
-    rows.push((Value::Truth(false), Value::Truth(true), None))?;
-    Ok(rows)
+/// A value, the kind of those with which it has an order, and where it comes among all rows: values of one place are equal.
+type Row = (Value, OrderKind, u8);
+
+/// Appends numbers and texts. Texts compare by their bytes, so that capital letters come before small ones.
+fn push_ordered_contents(alloc: Global, rows: &mut Vec<Row>) -> Result<(), NoMemory> {
+    rows.push((number(-1_500_000), OrderKind::Numbers, 0))?;
+    rows.push((number(0), OrderKind::Numbers, 1))?;
+    rows.push((number(1), OrderKind::Numbers, 2))?;
+    rows.push((words(alloc, b"")?, OrderKind::Texts, 3))?;
+    rows.push((words(alloc, b"Z")?, OrderKind::Texts, 4))?;
+    rows.push((words(alloc, b"a")?, OrderKind::Texts, 5))?;
+    rows.push((words(alloc, b"ab")?, OrderKind::Texts, 6))?;
+    rows.push((words(alloc, b"b")?, OrderKind::Texts, 7))?;
+    Ok(())
 }
 
-/// Pairs of agents and sets, and whether the first comes before the second.
-fn agent_pairs(alloc: Global) -> Result<Vec<(Value, Value, Option<bool>)>, NoMemory> {
-    let mut rows = Vec::new(alloc);
-    rows.push((Value::Turtle(1), Value::Turtle(2), Some(true)))?;
-    rows.push((Value::Turtle(1), Value::Turtle(7), None))?;
-    rows.push((Value::Patch(3), Value::Patch(5), Some(true)))?;
-    rows.push((Value::Turtle(1), Value::Patch(2), None))?;
-    rows.push((Value::Nobody, Value::Nobody, None))?;
-    rows.push((
-        Value::Set(AgentSet::Links),
-        Value::Set(AgentSet::Links),
-        None,
-    ))?;
-    Ok(rows)
+/// Appends living agents: turtles and patches by number, links by their ends, then their breeds and then their serials.
+fn push_ordered_agents(rows: &mut Vec<Row>) -> Result<(), NoMemory> {
+    rows.push((Value::Turtle(1), OrderKind::Turtles, 8))?;
+    rows.push((Value::Turtle(2), OrderKind::Turtles, 9))?;
+    rows.push((Value::Patch(0), OrderKind::Patches, 10))?;
+    rows.push((Value::Patch(5), OrderKind::Patches, 11))?;
+    rows.push((Value::Link(2), OrderKind::Links, 12))?;
+    rows.push((Value::Link(4), OrderKind::Links, 13))?;
+    rows.push((Value::Link(3), OrderKind::Links, 14))?;
+    rows.push((Value::Link(1), OrderKind::Links, 15))?;
+    Ok(())
 }
 
-/// Pairs of links, and whether the first comes before the second.
-fn link_pairs(alloc: Global) -> Result<Vec<(Value, Value, Option<bool>)>, NoMemory> {
-    let mut rows = Vec::new(alloc);
-    rows.push((Value::Link(2), Value::Link(1), Some(true)))?;
-    rows.push((Value::Link(4), Value::Link(3), Some(true)))?;
-    rows.push((Value::Link(2), Value::Link(4), Some(true)))?;
-    rows.push((Value::Link(1), Value::Link(7), None))?;
-    Ok(rows)
+/// Appends values that have no order.
+fn push_unordered(alloc: Global, rows: &mut Vec<Row>) -> Result<(), NoMemory> {
+    rows.push((Value::Truth(false), OrderKind::Unordered, 16))?;
+    rows.push((Value::Truth(true), OrderKind::Unordered, 16))?;
+    rows.push((Value::Items(Items::empty(alloc)), OrderKind::Unordered, 16))?;
+    rows.push((list(alloc, number(1), number(2))?, OrderKind::Unordered, 16))?;
+    rows.push((Value::Turtle(7), OrderKind::Unordered, 16))?;
+    rows.push((Value::Link(9), OrderKind::Unordered, 16))?;
+    rows.push((Value::Nobody, OrderKind::Unordered, 16))?;
+    rows.push((Value::Set(AgentSet::Links), OrderKind::Unordered, 16))?;
+    Ok(())
 }
 
-/// Whether each pair compares so.
-fn all_compare(rows: &[(Value, Value, Option<bool>)]) -> bool {
-    for (a, b, wanted) in rows {
-        if before(a, b, &SmallWorld) != *wanted {
-            return false;
-        }
-    }
-    true
+/// Whether the first row's value has its kind, and compares with the second row's as their places do.
+fn compares(row: &Row, other: &Row) -> bool {
+    let (value, kind, place) = row;
+    let (second, other_kind, other_place) = other;
+    let ordered = *kind != OrderKind::Unordered && *kind == *other_kind;
+    let wanted = if ordered {
+        Some(place < other_place)
+    } else {
+        None
+    };
+    value.order_kind(&SmallWorld) == *kind
+        && before(value, second, &SmallWorld) == wanted
+        && compare(value, second, &SmallWorld) == place.cmp(other_place)
+}
+
+/// Whether the row compares with each row as their places do.
+fn compares_with_all(row: &Row, rows: &[Row]) -> bool {
+    rows.iter().all(|other| compares(row, other))
 }
 
 #[test]
-fn values_come_in_this_order(rt: HostRuntime) -> Result<(), Fail> {
+fn values_of_all_kinds_come_in_this_order(rt: HostRuntime) -> Result<(), Fail> {
     let alloc = rt.alloc();
-    assert!(rt; all_compare(content_pairs(alloc)?.as_slice()));
-    assert!(rt; all_compare(agent_pairs(alloc)?.as_slice()));
-    assert!(rt; all_compare(link_pairs(alloc)?.as_slice()));
+    let mut rows = Vec::new(alloc);
+    push_ordered_contents(alloc, &mut rows)?;
+    push_ordered_agents(&mut rows)?;
+    push_unordered(alloc, &mut rows)?;
+    for row in &rows {
+        assert!(rt; compares_with_all(row, rows.as_slice()), "{}", row.2);
+    }
+    Ok(())
+}
+
+/// Values of several kinds, of which some are equal to the order of sorts.
+fn mixed(alloc: Global) -> Result<Items, NoMemory> {
+    let dead = Value::Turtle(7);
+    let living = Value::Turtle(2);
+    let two = number(2_000_000);
+    let one = number(1_000_000);
+    let list = vec![in alloc; Value::Nobody, Value::Truth(true), two, living, dead, one]?;
+    Ok(Items::of_vec(list))
+}
+
+#[test]
+fn a_sort_keeps_equal_values_in_place(rt: HostRuntime) -> Result<(), Fail> {
+    let alloc = rt.alloc();
+    let mut items = mixed(alloc)?;
+    items.sort(alloc, &SmallWorld)?;
+    let sorted = Value::Items(items);
+    assert!(rt; prints(alloc, &sorted, true, "[1 2 (fox 2) nobody true nobody]")?);
+    Ok(())
+}
+
+/// Numbers from 100,000 down to 1.
+fn falling(alloc: Global) -> Result<Items, NoMemory> {
+    let mut items = Items::empty(alloc);
+    for n in 0..100_000u32 {
+        items.push(alloc, number(i64::from(100_000 - n) * 1_000_000))?;
+    }
+    Ok(items)
+}
+
+/// Whether the value at the place is this number.
+fn has_number(items: &Items, at: usize, millionths: i64) -> bool {
+    match items.get(at) {
+        Some(Value::Number(number)) => number.millionths() == millionths,
+        _ => false,
+    }
+}
+
+#[test]
+fn a_hundred_thousand_numbers_are_sorted(rt: HostRuntime) -> Result<(), Fail> {
+    let alloc = rt.alloc();
+    let mut items = falling(alloc)?;
+    items.sort(alloc, &NoLife)?;
+    assert!(rt; has_number(&items, 0, 1_000_000));
+    assert!(rt; has_number(&items, 99_999, 100_000_000_000));
+    Ok(())
+}
+
+/// Whether a copy of the value is the same value.
+fn copies(alloc: Global, value: &Value) -> Result<bool, NoMemory> {
+    let again = value.copy(alloc)?;
+    same(alloc, value, &again, &NoLife)
+}
+
+#[test]
+fn a_hundred_thousand_numbers_are_copied_and_printed(rt: HostRuntime) -> Result<(), Fail> {
+    let alloc = rt.alloc();
+    let flat = Value::Items(falling(alloc)?);
+    assert!(rt; copies(alloc, &flat)?);
+    assert_eq!(rt; text_len(alloc, &flat, false), Ok(588_896));
+    Ok(())
+}
+
+#[test]
+fn items_are_taken_away_from_the_end(rt: HostRuntime) -> Result<(), Fail> {
+    let alloc = rt.alloc();
+    let mut items = Items::filled(alloc, Num::whole(1).ok_or("1")?, 3)?;
+    items.push(alloc, Value::Nobody)?;
+    assert_eq!(rt; items.len(), 4);
+    assert!(rt; items.get(4).is_none());
+    assert!(rt; matches!(items.pop(), Some(Value::Nobody)));
+    items.truncate(2);
+    items.truncate(5);
+    assert_eq!(rt; items.len(), 2);
+    assert!(rt; has_number(&items, 1, 1_000_000));
+    items.truncate(0);
+    assert!(rt; items.is_empty());
+    assert!(rt; items.pop().is_none());
+    Ok(())
+}
+
+#[test]
+fn numbers_of_agents_are_found(rt: HostRuntime) -> Result<(), Fail> {
+    let alloc = rt.alloc();
+    let numbers = Serials::of_vec(vec![in alloc; 1, 4, 9]?);
+    assert!(rt; numbers.contains(1) && numbers.contains(4) && numbers.contains(9));
+    assert!(rt; !numbers.contains(0) && !numbers.contains(5) && !numbers.contains(10));
+    assert!(rt; !Serials::empty(alloc).contains(0));
+    Ok(())
+}
+
+/// Whether the value is within the limits, alone and as the one item of a list.
+fn within(alloc: Global, value: Value) -> Result<(bool, bool), NoMemory> {
+    let alone = value.is_within_limits();
+    let mut items = Items::empty(alloc);
+    items.push(alloc, value)?;
+    Ok((alone, items.are_within_limits()))
+}
+
+#[test]
+fn values_are_within_a_size_of_a_million_and_a_depth_of_200(rt: HostRuntime) -> Result<(), Fail> {
+    let alloc = rt.alloc();
+    assert_eq!(rt; within(alloc, letters(alloc, 999_998)?)?, (true, true));
+    assert_eq!(rt; within(alloc, letters(alloc, 999_999)?)?, (true, false));
+    assert_eq!(rt; within(alloc, letters(alloc, 1_000_000)?)?, (false, false));
+    assert_eq!(rt; within(alloc, nested(alloc, 198)?)?, (true, true));
+    assert_eq!(rt; within(alloc, nested(alloc, 199)?)?, (true, false));
+    assert_eq!(rt; within(alloc, nested(alloc, 200)?)?, (false, false));
+    Ok(())
+}
+
+/// Whether the name is that of a color of so many tenths.
+fn is_color(name: &str, tenths: i64) -> bool {
+    match color_named(name.as_bytes()) {
+        Some(number) => number.millionths() == tenths.saturating_mul(100_000),
+        None => false,
+    }
+}
+
+/// Whether each color that has a name has its number.
+fn all_are_colors() -> bool {
+    let named = [
+        ("gray", 50),
+        ("red", 150),
+        ("orange", 250),
+        ("brown", 350),
+        ("yellow", 450),
+        ("green", 550),
+        ("lime", 650),
+        ("turquoise", 750),
+        ("cyan", 850),
+        ("sky", 950),
+        ("blue", 1050),
+        ("violet", 1150),
+        ("magenta", 1250),
+        ("pink", 1350),
+        ("grey", 50),
+        ("black", 0),
+        ("white", 99),
+    ];
+    named.iter().all(|(name, tenths)| is_color(name, *tenths))
+}
+
+#[test]
+fn colors_have_these_numbers(rt: HostRuntime) -> Result<(), Fail> {
+    let alloc = rt.alloc();
+    assert!(rt; all_are_colors());
+    assert!(rt; color_named(b"purple").is_none());
+    assert!(rt; color_named(b"Red").is_none());
+    let primary = Value::Items(primary_colors(alloc)?);
+    let wanted = "[5 15 25 35 45 55 65 75 85 95 105 115 125 135]";
+    assert!(rt; prints(alloc, &primary, false, wanted)?);
     Ok(())
 }
 

@@ -1,12 +1,16 @@
 //! The texts of values.
-ghost use Rattle.std.specs.Prelude.{◌≡◌, ◌+◌, ◌<◌, ◌≤◌, ◌++◌, ◌∷◌, [], length, IsTrue, IfOk, OnOk, Err, codes, false, if◌then◌else◌};
+ghost use Rattle.std.specs.Prelude.{◌≡◌, ◌+◌, ◌<◌, ◌≤◌, length, IsTrue, IfOk, Err, codes, false, if◌then◌else◌};
 ghost use Rattle.std.specs.List.{join_with_byte};
 ghost use Rattle.nl_value.specs.Plain.{PlainItems, plains};
+ghost use Rattle.nl_value.specs.Limits.{most_bytes};
 ghost use Rattle.nl_value.specs.Living.{fits, all_fit, has_name};
-ghost use Rattle.nl_value.specs.Text.{escaped, quoted_text, text_of, texts_of, space, most_bytes};
+ghost use Rattle.nl_fixed.specs.Quoted.{written_byte, quoted_text};
+ghost use Rattle.nl_value.specs.Text.{text_of, texts_of, space};
+ghost use Rattle.nl_value.specs.inner.Appends.{Appends};
 ghost use Rattle.nl_value.specs.Views.{plain};
 
 use crate::life::Life;
+use crate::measures::MOST_SIZE;
 use crate::values::{Items, Value};
 use nl_fixed::{NoMemory, Str};
 use std::alloc::Global;
@@ -33,14 +37,12 @@ impl From<NoMemory> for TextFail {
     }
 }
 
-/// How many bytes a text has at most.
-const MOST: usize = 999_999;
+/// How many bytes a text has at most: a text has the size 1 besides its bytes.
+const MOST: usize = MOST_SIZE as usize - 1;
 
 /// Appends bytes, where the text stays within its limit.
 fn put(alloc: Global, out: &mut Str, more: &[u8]) -> Result<(), TextFail>
-    ensures ok { OnOk result (out.new ≡ out.old ++ more.now) }
-    ensures within { OnOk result (length out.new ≤ most_bytes) }
-    ensures large { result ≡ Err TextFail.TooLarge → most_bytes < length out.old + length more.now }
+    ensures { Appends result out.old more.now out.new }
 {
     if out.as_bytes().len().saturating_add(more.len()) > MOST {
         return Err(TextFail::TooLarge);
@@ -51,9 +53,7 @@ fn put(alloc: Global, out: &mut Str, more: &[u8]) -> Result<(), TextFail>
 
 /// Appends a byte of a text between quotes.
 fn put_escaped(alloc: Global, out: &mut Str, byte: u8) -> Result<(), TextFail>
-    ensures ok { OnOk result (out.new ≡ out.old ++ escaped byte) }
-    ensures within { OnOk result (length out.new ≤ most_bytes) }
-    ensures large { result ≡ Err TextFail.TooLarge → most_bytes < length out.old + length (escaped byte) }
+    ensures { Appends result out.old (written_byte byte) out.new }
 {
     match byte {
         b'\n' => put(alloc, out, b"\\n"),
@@ -66,9 +66,7 @@ fn put_escaped(alloc: Global, out: &mut Str, byte: u8) -> Result<(), TextFail>
 
 /// Appends a text between quotes.
 fn put_quoted(alloc: Global, out: &mut Str, bytes: &[u8]) -> Result<(), TextFail>
-    ensures ok { OnOk result (out.new ≡ out.old ++ quoted_text bytes.now) }
-    ensures within { OnOk result (length out.new ≤ most_bytes) }
-    ensures large { result ≡ Err TextFail.TooLarge → most_bytes < length out.old + length (quoted_text bytes.now) }
+    ensures { Appends result out.old (quoted_text bytes.now) out.new }
 {
     put(alloc, out, b"\"")?;
     for byte in bytes {
@@ -80,9 +78,7 @@ fn put_quoted(alloc: Global, out: &mut Str, bytes: &[u8]) -> Result<(), TextFail
 
 /// Appends a text as it is, or between quotes.
 fn put_words(alloc: Global, out: &mut Str, words: &Str, quoted: bool) -> Result<(), TextFail>
-    ensures ok { OnOk result (out.new ≡ out.old ++ (if quoted then quoted_text words.now else words.now)) }
-    ensures within { OnOk result (length out.new ≤ most_bytes) }
-    ensures large { result ≡ Err TextFail.TooLarge → most_bytes < length out.old + length (if quoted then quoted_text words.now else words.now) }
+    ensures { Appends result out.old (if quoted then quoted_text words.now else words.now) out.new }
 {
     if quoted {
         put_quoted(alloc, out, words.as_bytes())
@@ -93,9 +89,7 @@ fn put_words(alloc: Global, out: &mut Str, words: &Str, quoted: bool) -> Result<
 
 /// Appends the word of a truth.
 fn put_truth(alloc: Global, out: &mut Str, truth: bool) -> Result<(), TextFail>
-    ensures ok { OnOk result (out.new ≡ out.old ++ (if truth then codes "true" else codes "false")) }
-    ensures within { OnOk result (length out.new ≤ most_bytes) }
-    ensures large { result ≡ Err TextFail.TooLarge → most_bytes < length out.old + length (if truth then codes "true" else codes "false") }
+    ensures { Appends result out.old (if truth then codes "true" else codes "false") out.new }
 {
     if truth {
         put(alloc, out, b"true")
@@ -108,9 +102,8 @@ fn put_truth(alloc: Global, out: &mut Str, truth: bool) -> Result<(), TextFail>
 fn put_named<L: Life>(alloc: Global, out: &mut Str, value: &Value, life: &L) -> Result<(), TextFail>
     requires named { IsTrue (has_name (plain value.now)) }
     requires fit { IsTrue (fits (L.living life.now) (plain value.now)) }
-    ensures ok { OnOk result (out.new ≡ out.old ++ text_of (L.living life.now) false (plain value.now)) }
-    ensures within { OnOk result (length out.new ≤ most_bytes) }
-    ensures large { result ≡ Err TextFail.TooLarge → most_bytes < length out.old + length (text_of (L.living life.now) false (plain value.now)) }
+    ensures { let w = L.living life.now in
+        Appends result out.old (text_of w false (plain value.now)) out.new }
 {
     if value.is_gone(life) {
         return put(alloc, out, b"nobody");
@@ -128,8 +121,8 @@ fn put_spaced<L: Life>(
     life: &L,
 ) -> Result<(), TextFail>
     requires { IsTrue (all_fit (L.living life.now) (plains items.now)) }
-    ensures ok { OnOk result (out.new ≡ out.old ++ join_with_byte space (texts_of (L.living life.now) (plains items.now))) }
-    ensures large { result ≡ Err TextFail.TooLarge → most_bytes < length out.old + length (join_with_byte space (texts_of (L.living life.now) (plains items.now))) }
+    ensures { let w = L.living life.now in
+        Appends result out.old (join_with_byte space (texts_of w (plains items.now))) out.new }
 {
     let Some((first, others)) = items.list.split_first() else {
         return Ok(());
@@ -146,9 +139,8 @@ fn put_spaced<L: Life>(
 #[cycle(text)]
 fn put_items<L: Life>(alloc: Global, out: &mut Str, items: &Items, life: &L) -> Result<(), TextFail>
     requires { IsTrue (all_fit (L.living life.now) (plains items.now)) }
-    ensures ok { OnOk result (out.new ≡ out.old ++ text_of (L.living life.now) false (PlainItems (plains items.now))) }
-    ensures within { OnOk result (length out.new ≤ most_bytes) }
-    ensures large { result ≡ Err TextFail.TooLarge → most_bytes < length out.old + length (text_of (L.living life.now) false (PlainItems (plains items.now))) }
+    ensures { let w = L.living life.now in
+        Appends result out.old (text_of w false (PlainItems (plains items.now))) out.new }
 {
     put(alloc, out, b"[")?;
     put_spaced(alloc, out, items, life)?;
@@ -166,9 +158,8 @@ fn put_value<L: Life>(
     life: &L,
 ) -> Result<(), TextFail>
     requires { IsTrue (fits (L.living life.now) (plain value.now)) }
-    ensures ok { OnOk result (out.new ≡ out.old ++ text_of (L.living life.now) quoted (plain value.now)) }
-    ensures within { OnOk result (length out.new ≤ most_bytes) }
-    ensures large { result ≡ Err TextFail.TooLarge → most_bytes < length out.old + length (text_of (L.living life.now) quoted (plain value.now)) }
+    ensures { let w = L.living life.now in
+        Appends result out.old (text_of w quoted (plain value.now)) out.new }
 {
     match value {
         Value::Number(number) => {
@@ -190,9 +181,11 @@ fn put_value<L: Life>(
 /// agent or a set. The text of nobody and of a dead agent is `nobody`. A text of more than 999,999 bytes is TooLarge.
 pub fn text<L: Life>(alloc: Global, value: &Value, quoted: bool, life: &L) -> Result<Str, TextFail>
     requires { IsTrue (fits (L.living life.now) (plain value.now)) }
-    ensures text { IfOk result (λ text. text ≡ text_of (L.living life.now) quoted (plain value.now)) }
-    ensures within { IfOk result (λ text. 1 + length text ≤ 1000000) }
-    ensures large { result ≡ Err TextFail.TooLarge → 1000000 < 1 + length (text_of (L.living life.now) quoted (plain value.now)) }
+    ensures text { let w = L.living life.now in
+        IfOk result (λ text. text ≡ text_of w quoted (plain value.now)) }
+    ensures within { IfOk result (λ text. length text ≤ most_bytes) }
+    ensures large { let whole = text_of (L.living life.now) quoted (plain value.now) in
+        result ≡ Err TextFail.TooLarge → most_bytes < length whole }
 {
     let mut out = Str::of_vec(Vec::new(alloc));
     put_value(alloc, &mut out, value, quoted, life)?;

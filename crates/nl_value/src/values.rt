@@ -35,8 +35,8 @@ impl Model for Items {
     ghost use Rattle.std.specs.Prelude.{List};
     ghost use Rattle.std.specs.Coded.{coded_list};
     ghost use Rattle.nl_value.specs.Plain.{Plain};
-    ghost use Rattle.nl_value.specs.Codes.{plain_code};
-    ghost use Rattle.nl_value.specs.Weights.{list_weight};
+    ghost use Rattle.nl_value.specs.inner.Codes.{plain_code};
+    ghost use Rattle.nl_value.specs.inner.Weights.{list_weight};
 
     ghost Value = { List Plain };
 
@@ -50,13 +50,15 @@ impl Model for Items {
     ghost size = { list_weight };
 
     ghost use Rattle.std.proofs.Common.{arith};
-    ghost use Rattle.nl_value.specs.Falls.{falls};
+    ghost use Rattle.nl_value.specs.inner.Falls.{falls};
 
     ghost size_decreases = { λ a h. omega (arith, falls a.list.items) };
 }
 
 impl Items {
-    ghost use Rattle.std.specs.Prelude.{◌≡◌, ◌<◌, List, [], ◌∷◌, ◌++◌, length, map, slice_get, slice_set, Some, IfOk, OnOk, OnErr};
+    ghost use Rattle.std.specs.Prelude.{◌≡◌, ◌<◌, ◌-◌, ◌↔◌, List, [], ◌∷◌, ◌++◌, length, map, take, replicate, slice_get, slice_set, option_map, Some, IsTrue, IsOk, IfOk, OnOk, OnErr};
+    ghost use Rattle.std.specs.Option.{option_copied};
+    ghost use Rattle.nl_value.specs.Plain.{PlainNumber};
     ghost use Rattle.nl_value.specs.Views.{plain};
 
     /// No values.
@@ -75,6 +77,39 @@ impl Items {
         Items { list }
     }
 
+    /// One number, so many times.
+    pub fn filled(alloc: Global, number: Num, count: usize) -> Result<Items, NoMemory>
+        ensures items { IfOk result (λ items. items ≡ replicate count (PlainNumber number)) }
+        ensures none { count ≡ 0 → IsOk result }
+    {
+        let mut items = Items::empty(alloc);
+        for _ in 0..count {
+            items.push(alloc, Value::Number(number))?;
+        }
+        Ok(items)
+    }
+
+    /// How many values there are.
+    pub fn len(&self) -> usize
+        ensures { result ≡ length self.now }
+    {
+        self.list.len()
+    }
+
+    /// Whether there are none.
+    pub fn is_empty(&self) -> bool
+        ensures { IsTrue result ↔ (self.now ≡ []) }
+    {
+        self.list.is_empty()
+    }
+
+    /// The value at a place, counted from 0.
+    pub fn get(&self, at: usize) -> Option<&Value>
+        ensures { option_map plain (option_copied result) ≡ slice_get self.now at }
+    {
+        self.list.get(at)
+    }
+
     /// The values, in order.
     pub fn as_slice(&self) -> &[Value]
         ensures { map plain result.now ≡ self.now }
@@ -89,6 +124,21 @@ impl Items {
     {
         self.list.push(value)?;
         Ok(())
+    }
+
+    /// Takes the last value away and hands it back, if there is one.
+    pub fn pop(&mut self) -> Option<Value>
+        ensures rest { self.new ≡ take (length self.old - 1) self.old }
+        ensures last { option_map plain result ≡ slice_get self.old (length self.old - 1) }
+    {
+        self.list.pop()
+    }
+
+    /// Takes the values away that stand behind the first so many.
+    pub fn truncate(&mut self, most: usize)
+        ensures { self.new ≡ take most self.old }
+    {
+        self.list.truncate(most);
     }
 
     /// Puts the value at a place, counted from 0, and hands back the one that stood there.
@@ -116,12 +166,15 @@ impl Items {
 }
 
 impl Value {
-    ghost use Rattle.std.specs.Prelude.{◌≡◌, IfOk};
+    ghost use Rattle.std.specs.Prelude.{◌≡◌, false, IfOk, IsOk};
+    ghost use Rattle.nl_value.specs.Memory.{holds_memory};
+    ghost use Rattle.nl_value.specs.Views.{plain};
 
-    /// The same value again.
+    /// The same value again. Only a text, a list and a listed set take memory.
     #[cycle(copy)]
     pub fn copy(&self, alloc: Global) -> Result<Value, NoMemory>
-        ensures { IfOk result (λ value. value ≡ self.now) }
+        ensures value { IfOk result (λ value. value ≡ self.now) }
+        ensures without { holds_memory (plain self.now) ≡ false → IsOk result }
     {
         match self {
             Value::Number(number) => Ok(Value::Number(*number)),

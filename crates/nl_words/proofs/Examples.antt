@@ -1,7 +1,8 @@
 -- The definitions at examples.
 use Rattle.std.proofs.Common.{◌≡◌, true, false, [], ◌∷◌, None, length, slice_get, codes, refl}
 use Rattle.std.specs.List.{list_any, list_all}
-use Rattle.nl_words.specs.Row.{row_named}
+use Rattle.nl_words.specs.declared.codes.TheConstants.{MINUS, SPROUT, YELLOW}
+use Rattle.nl_words.specs.Row.{row_named, row_at}
 use Rattle.nl_words.specs.Rows.{rows}
 use Rattle.nl_words.specs.Table.{is_number, is_name}
 
@@ -24,6 +25,18 @@ rows_number = refl
 ask_is_found : row_named rows (codes "ask") ≡ slice_get rows 15
 unfolding rows
 ask_is_found = refl
+
+minus_is_named : row_named rows (codes "-") ≡ row_at rows MINUS
+unfolding rows
+minus_is_named = refl
+
+sprout_is_named : row_named rows (codes "sprout") ≡ row_at rows SPROUT
+unfolding rows
+sprout_is_named = refl
+
+yellow_is_named : row_named rows (codes "yellow") ≡ row_at rows YELLOW
+unfolding rows
+yellow_is_named = refl
 
 front_is_not_found : row_named rows (codes "as") ≡ None
 unfolding rows

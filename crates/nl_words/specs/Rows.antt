@@ -1,7 +1,7 @@
 -- The built-in words, in the order of their bytes.
 -- Names, inputs and who may run a word are those of the NetLogo Dictionary, as far as this profile has them.
 -- The levels of operators and what a row tells of the agents in an answer are this project's own choice.
-use Rattle.std.specs.Prelude.{ℕ, ◌+◌, Bool, true, false, List, [], ◌∷◌, codes}
+use Rattle.std.specs.Prelude.{ℕ, ◌+◌, true, false, List, [], ◌∷◌, codes}
 use Prim.Native.String.{String}
 use Rattle.nl_words.specs.Kinds.{none, everyone, observers, turtles, patches, links, turtles_and_patches, turtles_and_links, agents, not_links}
 use Rattle.nl_words.specs.Row.{Row}
@@ -10,33 +10,85 @@ use Rattle.nl_words.specs.declared.entry.Role.TheVariants as role
 use Rattle.nl_words.specs.declared.entry.Input.{Input}
 use Rattle.nl_words.specs.declared.entry.Input.TheVariants.{Value, Expression, Commands, MaybeCommands, Reporter, Variable, Fresh}
 use Rattle.nl_words.specs.declared.entry.Kinds.{Kinds}
+use Rattle.nl_words.specs.declared.entry.Runner.{Runner}
+use Rattle.nl_words.specs.declared.entry.Runner.TheVariants as runner
+use Rattle.nl_words.specs.declared.entry.Manner.{Manner}
+use Rattle.nl_words.specs.declared.entry.Manner.TheVariants as manner
+use Rattle.nl_words.specs.declared.entry.Leaving.{Leaving}
+use Rattle.nl_words.specs.declared.entry.Leaving.TheVariants as leaving
 
--- a row without its place: role, name, inputs, whether there may be more or fewer of the last one, who runs it, what it gives
-abbrev word : Role → String → List Input → Bool → Kinds → Kinds → ℕ → Row
-word role text inputs many runs gives code = record { name = codes text; role = role; inputs = inputs; many = many; runs = runs; gives = gives; code = code }
+-- a row without its place: role, name, inputs, who may run the word, what it gives; what else a row says is as for most words
+abbrev word : Role → String → List Input → Kinds → Kinds → ℕ → Row
+word role text inputs runs gives code =
+    record {
+      name = codes text;
+      role = role;
+      inputs = inputs;
+      many = false;
+      runs = runs;
+      gives = gives;
+      blocks = runner.NoBlock;
+      manner = manner.Run;
+      fixed = false;
+      leaving = leaving.Stays;
+      code = code;
+    }
+
+-- What isn't as for most words: who runs the blocks, what is done with the variable that the word names, how it leaves a procedure.
+
+abbrev run_by : Runner → (ℕ → Row) → ℕ → Row
+run_by who word code = record (word code) { blocks = who }
+
+abbrev naming : Manner → (ℕ → Row) → ℕ → Row
+naming how word code = record (word code) { manner = how }
+
+abbrev leaves : Leaving → (ℕ → Row) → ℕ → Row
+leaves how word code = record (word code) { leaving = how }
+
+-- Kinds of rows.
 
 abbrev command : String → List Input → Kinds → ℕ → Row
-command text inputs runs = word role.Command text inputs false runs none
+command text inputs runs = word role.Command text inputs runs none
+
+-- a command whose blocks the same agent runs
+abbrev control : String → List Input → ℕ → Row
+control text inputs = run_by runner.Same (command text inputs everyone)
+
+-- a command that makes so many turtles, which run the block
+abbrev births : String → Kinds → ℕ → Row
+births text runs = run_by runner.Turtles (command text (Value ∷ MaybeCommands ∷ []) runs)
+
+-- a command that links a turtle with others; the new links run the block
+abbrev link_making : String → ℕ → Row
+link_making text = run_by runner.Links (command text (Value ∷ MaybeCommands ∷ []) turtles)
+
+-- a command that reads or writes a variable on patches
+abbrev spreading : String → List Input → Kinds → ℕ → Row
+spreading text inputs runs = naming manner.Spread (command text inputs runs)
 
 abbrev reporter : String → List Input → Kinds → Kinds → ℕ → Row
-reporter text inputs runs gives = word role.Reporter text inputs false runs gives
+reporter text inputs runs gives = word role.Reporter text inputs runs gives
 
 -- a reporter that may be given more or fewer of its last input, with parentheses round the whole
 abbrev open_reporter : String → List Input → Kinds → Kinds → ℕ → Row
-open_reporter text inputs runs gives = word role.Reporter text inputs true runs gives
+open_reporter text inputs runs gives code = record (reporter text inputs runs gives code) { many = true }
 
 -- an operator of a level, with the inputs of both its sides
 abbrev operator : ℕ → String → List Input → Kinds → Kinds → ℕ → Row
-operator level text inputs runs gives = word (role.Operator level) text inputs false runs gives
+operator level text inputs runs gives = word (role.Operator level) text inputs runs gives
 
 abbrev constant : String → ℕ → Row
-constant text = word role.Constant text [] false everyone none
+constant text = word role.Constant text [] everyone none
 
 abbrev variable : String → Kinds → ℕ → Row
-variable text runs = word role.Variable text [] false runs none
+variable text runs = word role.Variable text [] runs none
+
+-- a variable that no text sets
+abbrev fixed_variable : String → Kinds → ℕ → Row
+fixed_variable text runs code = record (variable text runs code) { fixed = true }
 
 abbrev reserved : String → ℕ → Row
-reserved text = word role.Reserved text [] false everyone none
+reserved text = word role.Reserved text [] everyone none
 
 -- each word with its place, counted from the first number
 abbrev numbered : ℕ → List (ℕ → Row) → List Row
@@ -57,10 +109,10 @@ rows = numbered 0 (
     ∷ operator 7 ">=" (Value ∷ Value ∷ []) everyone none
     ∷ operator 4 "^" (Value ∷ Value ∷ []) everyone none
     ∷ reporter "abs" (Value ∷ []) everyone none
-    ∷ reporter "all?" (Value ∷ Reporter ∷ []) everyone none
+    ∷ run_by runner.Given (reporter "all?" (Value ∷ Reporter ∷ []) everyone none)
     ∷ operator 9 "and" (Value ∷ Value ∷ []) everyone none
     ∷ reporter "any?" (Value ∷ []) everyone none
-    ∷ command "ask" (Value ∷ Commands ∷ []) everyone
+    ∷ run_by runner.Given (command "ask" (Value ∷ Commands ∷ []) everyone)
     ∷ operator 1 "at-points" (Value ∷ Value ∷ []) not_links agents
     ∷ reporter "atan" (Value ∷ Value ∷ []) everyone none
     ∷ command "auto-plot-off" [] everyone
@@ -99,35 +151,35 @@ rows = numbered 0 (
     ∷ reporter "cos" (Value ∷ []) everyone none
     ∷ reporter "count" (Value ∷ []) everyone none
     ∷ command "cp" [] observers
-    ∷ command "create-link-from" (Value ∷ MaybeCommands ∷ []) turtles
-    ∷ command "create-link-to" (Value ∷ MaybeCommands ∷ []) turtles
-    ∷ command "create-link-with" (Value ∷ MaybeCommands ∷ []) turtles
-    ∷ command "create-links-from" (Value ∷ MaybeCommands ∷ []) turtles
-    ∷ command "create-links-to" (Value ∷ MaybeCommands ∷ []) turtles
-    ∷ command "create-links-with" (Value ∷ MaybeCommands ∷ []) turtles
-    ∷ command "create-ordered-turtles" (Value ∷ MaybeCommands ∷ []) observers
+    ∷ link_making "create-link-from"
+    ∷ link_making "create-link-to"
+    ∷ link_making "create-link-with"
+    ∷ link_making "create-links-from"
+    ∷ link_making "create-links-to"
+    ∷ link_making "create-links-with"
+    ∷ births "create-ordered-turtles" observers
     ∷ command "create-temporary-plot-pen" (Value ∷ []) everyone
-    ∷ command "create-turtles" (Value ∷ MaybeCommands ∷ []) observers
-    ∷ command "cro" (Value ∷ MaybeCommands ∷ []) observers
-    ∷ command "crt" (Value ∷ MaybeCommands ∷ []) observers
+    ∷ births "create-turtles" observers
+    ∷ births "cro" observers
+    ∷ births "crt" observers
     ∷ command "ct" [] observers
     ∷ constant "cyan"
     ∷ command "die" [] turtles_and_links
-    ∷ command "diffuse" (Variable ∷ Value ∷ []) observers
-    ∷ command "diffuse4" (Variable ∷ Value ∷ []) observers
+    ∷ spreading "diffuse" (Variable ∷ Value ∷ []) observers
+    ∷ spreading "diffuse4" (Variable ∷ Value ∷ []) observers
     ∷ reserved "directed-link-breed"
     ∷ command "display" [] everyone
     ∷ reporter "distance" (Value ∷ []) turtles_and_patches none
     ∷ reporter "distancexy" (Value ∷ Value ∷ []) turtles_and_patches none
-    ∷ command "downhill" (Variable ∷ []) turtles
-    ∷ command "downhill4" (Variable ∷ []) turtles
+    ∷ spreading "downhill" (Variable ∷ []) turtles
+    ∷ spreading "downhill4" (Variable ∷ []) turtles
     ∷ reporter "dx" [] turtles none
     ∷ reporter "dy" [] turtles none
     ∷ reporter "e" [] everyone none
     ∷ reporter "empty?" (Value ∷ []) everyone none
     ∷ reserved "end"
-    ∷ variable "end1" links
-    ∷ variable "end2" links
+    ∷ fixed_variable "end1" links
+    ∷ fixed_variable "end2" links
     ∷ command "face" (Value ∷ []) turtles
     ∷ command "facexy" (Value ∷ Value ∷ []) turtles
     ∷ constant "false"
@@ -142,7 +194,7 @@ rows = numbered 0 (
     ∷ constant "gray"
     ∷ constant "green"
     ∷ constant "grey"
-    ∷ command "hatch" (Value ∷ MaybeCommands ∷ []) turtles
+    ∷ births "hatch" turtles
     ∷ variable "heading" turtles
     ∷ variable "hidden?" turtles_and_links
     ∷ command "hide-link" [] links
@@ -150,9 +202,9 @@ rows = numbered 0 (
     ∷ command "histogram" (Value ∷ []) everyone
     ∷ command "home" [] turtles
     ∷ command "ht" [] turtles
-    ∷ command "if" (Value ∷ Commands ∷ []) everyone
-    ∷ command "ifelse" (Value ∷ Commands ∷ Commands ∷ []) everyone
-    ∷ reporter "ifelse-value" (Expression ∷ Reporter ∷ Reporter ∷ []) everyone none
+    ∷ control "if" (Value ∷ Commands ∷ [])
+    ∷ control "ifelse" (Value ∷ Commands ∷ Commands ∷ [])
+    ∷ run_by runner.Same (reporter "ifelse-value" (Expression ∷ Reporter ∷ Reporter ∷ []) everyone none)
     ∷ operator 1 "in-cone" (Value ∷ Value ∷ Value ∷ []) turtles agents
     ∷ reporter "in-link-from" (Value ∷ []) turtles links
     ∷ reporter "in-link-neighbor?" (Value ∷ []) turtles none
@@ -193,21 +245,21 @@ rows = numbered 0 (
     ∷ reporter "links" [] everyone links
     ∷ reserved "links-own"
     ∷ open_reporter "list" (Value ∷ Value ∷ []) everyone none
-    ∷ command "loop" (Commands ∷ []) everyone
+    ∷ control "loop" (Commands ∷ [])
     ∷ reporter "lput" (Value ∷ Value ∷ []) everyone none
     ∷ command "lt" (Value ∷ []) turtles
     ∷ constant "magenta"
     ∷ reporter "max" (Value ∷ []) everyone none
-    ∷ reporter "max-n-of" (Value ∷ Value ∷ Reporter ∷ []) everyone agents
-    ∷ reporter "max-one-of" (Value ∷ Reporter ∷ []) everyone agents
+    ∷ run_by runner.Given (reporter "max-n-of" (Value ∷ Value ∷ Reporter ∷ []) everyone agents)
+    ∷ run_by runner.Given (reporter "max-one-of" (Value ∷ Reporter ∷ []) everyone agents)
     ∷ reporter "max-pxcor" [] everyone none
     ∷ reporter "max-pycor" [] everyone none
     ∷ reporter "mean" (Value ∷ []) everyone none
     ∷ reporter "median" (Value ∷ []) everyone none
     ∷ reporter "member?" (Value ∷ Value ∷ []) everyone none
     ∷ reporter "min" (Value ∷ []) everyone none
-    ∷ reporter "min-n-of" (Value ∷ Value ∷ Reporter ∷ []) everyone agents
-    ∷ reporter "min-one-of" (Value ∷ Reporter ∷ []) everyone agents
+    ∷ run_by runner.Given (reporter "min-n-of" (Value ∷ Value ∷ Reporter ∷ []) everyone agents)
+    ∷ run_by runner.Given (reporter "min-one-of" (Value ∷ Reporter ∷ []) everyone agents)
     ∷ reporter "min-pxcor" [] everyone none
     ∷ reporter "min-pycor" [] everyone none
     ∷ operator 5 "mod" (Value ∷ Value ∷ []) everyone none
@@ -226,7 +278,7 @@ rows = numbered 0 (
     ∷ reporter "no-turtles" [] everyone turtles
     ∷ constant "nobody"
     ∷ reporter "not" (Value ∷ []) everyone none
-    ∷ operator 2 "of" (Reporter ∷ Value ∷ []) everyone none
+    ∷ run_by runner.Given (operator 2 "of" (Reporter ∷ Value ∷ []) everyone none)
     ∷ reporter "one-of" (Value ∷ []) everyone agents
     ∷ operator 9 "or" (Value ∷ Value ∷ []) everyone none
     ∷ constant "orange"
@@ -270,8 +322,8 @@ rows = numbered 0 (
     ∷ reporter "precision" (Value ∷ Value ∷ []) everyone none
     ∷ command "print" (Value ∷ []) everyone
     ∷ command "pu" [] turtles
-    ∷ variable "pxcor" turtles_and_patches
-    ∷ variable "pycor" turtles_and_patches
+    ∷ fixed_variable "pxcor" turtles_and_patches
+    ∷ fixed_variable "pycor" turtles_and_patches
     ∷ reporter "random" (Value ∷ []) everyone none
     ∷ reporter "random-float" (Value ∷ []) everyone none
     ∷ reporter "random-pxcor" [] everyone none
@@ -285,9 +337,9 @@ rows = numbered 0 (
     ∷ reporter "remove" (Value ∷ Value ∷ []) everyone none
     ∷ reporter "remove-duplicates" (Value ∷ []) everyone none
     ∷ reporter "remove-item" (Value ∷ Value ∷ []) everyone none
-    ∷ command "repeat" (Value ∷ Commands ∷ []) everyone
+    ∷ control "repeat" (Value ∷ Commands ∷ [])
     ∷ reporter "replace-item" (Value ∷ Value ∷ Value ∷ []) everyone none
-    ∷ command "report" (Value ∷ []) everyone
+    ∷ leaves leaving.Reports (command "report" (Value ∷ []) everyone)
     ∷ command "reset-perspective" [] everyone
     ∷ command "reset-ticks" [] observers
     ∷ reporter "reverse" (Value ∷ []) everyone none
@@ -301,7 +353,7 @@ rows = numbered 0 (
     ∷ open_reporter "se" (Value ∷ Value ∷ []) everyone none
     ∷ reporter "self" [] agents none
     ∷ open_reporter "sentence" (Value ∷ Value ∷ []) everyone none
-    ∷ command "set" (Variable ∷ Value ∷ []) everyone
+    ∷ naming manner.Set (command "set" (Variable ∷ Value ∷ []) everyone)
     ∷ command "set-current-plot" (Value ∷ []) everyone
     ∷ command "set-current-plot-pen" (Value ∷ []) everyone
     ∷ command "set-default-shape" (Value ∷ Value ∷ []) everyone
@@ -322,14 +374,14 @@ rows = numbered 0 (
     ∷ variable "size" turtles
     ∷ constant "sky"
     ∷ reporter "sort" (Value ∷ []) everyone none
-    ∷ reporter "sort-on" (Reporter ∷ Value ∷ []) everyone none
-    ∷ command "sprout" (Value ∷ MaybeCommands ∷ []) patches
+    ∷ run_by runner.Given (reporter "sort-on" (Reporter ∷ Value ∷ []) everyone none)
+    ∷ births "sprout" patches
     ∷ reporter "sqrt" (Value ∷ []) everyone none
     ∷ command "st" [] turtles
     ∷ command "stamp" [] turtles_and_links
     ∷ command "stamp-erase" [] turtles_and_links
     ∷ reporter "standard-deviation" (Value ∷ []) everyone none
-    ∷ command "stop" [] everyone
+    ∷ leaves leaving.Stops (command "stop" [] everyone)
     ∷ reporter "sublist" (Value ∷ Value ∷ Value ∷ []) everyone none
     ∷ reporter "substring" (Value ∷ Value ∷ Value ∷ []) everyone none
     ∷ reporter "subtract-headings" (Value ∷ Value ∷ []) everyone none
@@ -357,19 +409,19 @@ rows = numbered 0 (
     ∷ reserved "undirected-link-breed"
     ∷ reporter "up-to-n-of" (Value ∷ Value ∷ []) everyone agents
     ∷ command "update-plots" [] everyone
-    ∷ command "uphill" (Variable ∷ []) turtles
-    ∷ command "uphill4" (Variable ∷ []) turtles
+    ∷ spreading "uphill" (Variable ∷ []) turtles
+    ∷ spreading "uphill4" (Variable ∷ []) turtles
     ∷ reporter "variance" (Value ∷ []) everyone none
     ∷ constant "violet"
     ∷ command "wait" (Value ∷ []) everyone
     ∷ command "watch" (Value ∷ []) observers
     ∷ command "watch-me" [] agents
-    ∷ command "while" (Reporter ∷ Commands ∷ []) everyone
+    ∷ control "while" (Reporter ∷ Commands ∷ [])
     ∷ constant "white"
-    ∷ variable "who" turtles
-    ∷ operator 1 "with" (Value ∷ Reporter ∷ []) everyone agents
-    ∷ operator 1 "with-max" (Value ∷ Reporter ∷ []) everyone agents
-    ∷ operator 1 "with-min" (Value ∷ Reporter ∷ []) everyone agents
+    ∷ fixed_variable "who" turtles
+    ∷ run_by runner.Given (operator 1 "with" (Value ∷ Reporter ∷ []) everyone agents)
+    ∷ run_by runner.Given (operator 1 "with-max" (Value ∷ Reporter ∷ []) everyone agents)
+    ∷ run_by runner.Given (operator 1 "with-min" (Value ∷ Reporter ∷ []) everyone agents)
     ∷ open_reporter "word" (Value ∷ Value ∷ []) everyone none
     ∷ reporter "world-height" [] everyone none
     ∷ reporter "world-width" [] everyone none

@@ -3,14 +3,16 @@
 //! The words, their inputs and who may run them are those of the NetLogo Dictionary, as far as this profile has them. The levels of
 //! operators and what a row tells of the agents in an answer are this project's own choice.
 ghost use Rattle.std.specs.Prelude.{◌≡◌, IsTrue};
+ghost use Rattle.std.specs.List.{list_all};
 ghost use Rattle.nl_words.specs.Rows.{rows};
-ghost use Rattle.nl_words.specs.Table.{is_table};
+ghost use Rattle.nl_words.specs.Table.{is_table, is_fitting};
 
-use crate::entry::{Entry, Input, Kinds, Role};
+use crate::codes;
+use crate::entry::{Entry, Input, Kinds, Leaving, Manner, Role, Runner};
 use crate::words::Words;
 
-/// How many rows the table has.
-pub const ROWS: usize = 334;
+/// How many rows the table has. The last word is `yellow`.
+pub const ROWS: usize = codes::YELLOW as usize + 1;
 
 // Whether the first kind is among the others.
 macro_rules! among {
@@ -52,18 +54,50 @@ macro_rules! many {
     ($($input:ident)* *) => { true };
 }
 
-// A row: its code, its name, its role, its inputs, then who may run it, where not everyone may, and what its answer may hold, where that
-// is known. A star after the inputs says that there may be more or fewer of the last one, with parentheses round the whole.
+// Who runs the blocks, or that there are none.
+macro_rules! blocks {
+    () => { Runner::NoBlock };
+    ($runner:ident) => { Runner::$runner };
+}
+
+// How the variable that the word names stands there.
+macro_rules! manner {
+    () => { Manner::Run };
+    ($manner:ident) => { Manner::$manner };
+}
+
+// Whether the row is marked as that of a variable that no text sets.
+macro_rules! fixed {
+    () => { false };
+    (fixed) => { true };
+}
+
+// Whether and how the word leaves a procedure.
+macro_rules! leaving {
+    () => { Leaving::Stays };
+    ($leaving:ident) => { Leaving::$leaving };
+}
+
+// A row: the constant of its code, its name, its role, its inputs, and then what isn't so for most words: who may run it, where not everyone
+// may; what its answer may hold, where that is known; who runs its blocks; what it does with the variable that it names; that no text sets
+// it; how it leaves a procedure. A star after the inputs says that there may be more or fewer of the last one, with parentheses round the
+// whole.
 macro_rules! table {
-    ($($code:literal $name:literal $role:ident $(($level:literal))? [$($inputs:tt)*] $(by($($runner:ident)+))? $(gives($($given:ident)+))?;)*) => {
+    ($($code:ident $name:literal $role:ident $(($level:literal))? [$($inputs:tt)*]
+        $(by($($kind:ident)+))? $(gives($($given:ident)+))? $(blocks($runner:ident))? $(variable($manner:ident))? $(is($mark:ident))?
+        $(leaves($leaving:ident))?;)*) => {
         [$(Entry {
             name: $name,
             role: Role::$role $(($level))?,
             inputs: inputs!($($inputs)*),
             many: many!($($inputs)*),
-            runs: runners!($($($runner)+)?),
+            runs: runners!($($($kind)+)?),
             gives: kinds!($($($given)+)?),
-            code: $code,
+            blocks: blocks!($($runner)?),
+            manner: manner!($($manner)?),
+            fixed: fixed!($($mark)?),
+            leaving: leaving!($($leaving)?),
+            code: codes::$code,
         }),*]
     };
 }
@@ -72,365 +106,366 @@ macro_rules! table {
 pub fn base_words() -> Words<ROWS>
     ensures rows { result ≡ rows }
     ensures table { IsTrue (is_table result) }
+    ensures fitting { IsTrue (list_all is_fitting result) }
 {
     static TABLE: [Entry; ROWS] = table![
-        0 "!=" Operator(8) [Value Value];
-        1 "*" Operator(5) [Value Value];
-        2 "+" Operator(6) [Value Value];
-        3 "-" Operator(6) [Value Value];
-        4 "/" Operator(5) [Value Value];
-        5 "<" Operator(7) [Value Value];
-        6 "<=" Operator(7) [Value Value];
-        7 "=" Operator(8) [Value Value];
-        8 ">" Operator(7) [Value Value];
-        9 ">=" Operator(7) [Value Value];
-        10 "^" Operator(4) [Value Value];
+        NOT_EQUAL "!=" Operator(8) [Value Value];
+        TIMES "*" Operator(5) [Value Value];
+        PLUS "+" Operator(6) [Value Value];
+        MINUS "-" Operator(6) [Value Value];
+        DIVIDED "/" Operator(5) [Value Value];
+        LESS "<" Operator(7) [Value Value];
+        LESS_EQUAL "<=" Operator(7) [Value Value];
+        EQUAL "=" Operator(8) [Value Value];
+        GREATER ">" Operator(7) [Value Value];
+        GREATER_EQUAL ">=" Operator(7) [Value Value];
+        POWER "^" Operator(4) [Value Value];
 
-        11 "abs" Reporter [Value];
-        12 "all?" Reporter [Value Reporter];
-        13 "and" Operator(9) [Value Value];
-        14 "any?" Reporter [Value];
-        15 "ask" Command [Value Commands];
-        16 "at-points" Operator(1) [Value Value] by(observer turtle patch) gives(turtle patch link);
-        17 "atan" Reporter [Value Value];
-        18 "auto-plot-off" Command [];
-        19 "auto-plot-on" Command [];
+        ABS "abs" Reporter [Value];
+        ALL "all?" Reporter [Value Reporter] blocks(Given);
+        AND "and" Operator(9) [Value Value];
+        ANY "any?" Reporter [Value];
+        ASK "ask" Command [Value Commands] blocks(Given);
+        AT_POINTS "at-points" Operator(1) [Value Value] by(observer turtle patch) gives(turtle patch link);
+        ATAN "atan" Reporter [Value Value];
+        AUTO_PLOT_OFF "auto-plot-off" Command [];
+        AUTO_PLOT_ON "auto-plot-on" Command [];
 
-        20 "back" Command [Value] by(turtle);
-        21 "base-colors" Reporter [];
-        22 "behaviorspace-experiment-name" Reporter [];
-        23 "behaviorspace-run-number" Reporter [];
-        24 "bf" Reporter [Value];
-        25 "bk" Command [Value] by(turtle);
-        26 "bl" Reporter [Value];
-        27 "black" Constant [];
-        28 "blue" Constant [];
-        29 "both-ends" Reporter [] by(link) gives(turtle);
-        30 "breed" Variable [] by(turtle link);
-        31 "brown" Constant [];
-        32 "but-first" Reporter [Value];
-        33 "but-last" Reporter [Value];
-        34 "butfirst" Reporter [Value];
-        35 "butlast" Reporter [Value];
+        BACK "back" Command [Value] by(turtle);
+        BASE_COLORS "base-colors" Reporter [];
+        BEHAVIORSPACE_EXPERIMENT_NAME "behaviorspace-experiment-name" Reporter [];
+        BEHAVIORSPACE_RUN_NUMBER "behaviorspace-run-number" Reporter [];
+        BF "bf" Reporter [Value];
+        BK "bk" Command [Value] by(turtle);
+        BL "bl" Reporter [Value];
+        BLACK "black" Constant [];
+        BLUE "blue" Constant [];
+        BOTH_ENDS "both-ends" Reporter [] by(link) gives(turtle);
+        BREED "breed" Variable [] by(turtle link);
+        BROWN "brown" Constant [];
+        BUT_FIRST "but-first" Reporter [Value];
+        BUT_LAST "but-last" Reporter [Value];
+        BUTFIRST "butfirst" Reporter [Value];
+        BUTLAST "butlast" Reporter [Value];
 
-        36 "ca" Command [] by(observer);
-        37 "can-move?" Reporter [Value] by(turtle);
-        38 "cd" Command [] by(observer);
-        39 "ceiling" Reporter [Value];
-        40 "clear-all" Command [] by(observer);
-        41 "clear-all-plots" Command [];
-        42 "clear-drawing" Command [] by(observer);
-        43 "clear-globals" Command [] by(observer);
-        44 "clear-links" Command [] by(observer);
-        45 "clear-output" Command [];
-        46 "clear-patches" Command [] by(observer);
-        47 "clear-plot" Command [];
-        48 "clear-ticks" Command [] by(observer);
-        49 "clear-turtles" Command [] by(observer);
-        50 "color" Variable [] by(turtle link);
-        51 "cos" Reporter [Value];
-        52 "count" Reporter [Value];
-        53 "cp" Command [] by(observer);
-        54 "create-link-from" Command [Value MaybeCommands] by(turtle);
-        55 "create-link-to" Command [Value MaybeCommands] by(turtle);
-        56 "create-link-with" Command [Value MaybeCommands] by(turtle);
-        57 "create-links-from" Command [Value MaybeCommands] by(turtle);
-        58 "create-links-to" Command [Value MaybeCommands] by(turtle);
-        59 "create-links-with" Command [Value MaybeCommands] by(turtle);
-        60 "create-ordered-turtles" Command [Value MaybeCommands] by(observer);
-        61 "create-temporary-plot-pen" Command [Value];
-        62 "create-turtles" Command [Value MaybeCommands] by(observer);
-        63 "cro" Command [Value MaybeCommands] by(observer);
-        64 "crt" Command [Value MaybeCommands] by(observer);
-        65 "ct" Command [] by(observer);
-        66 "cyan" Constant [];
+        CA "ca" Command [] by(observer);
+        CAN_MOVE "can-move?" Reporter [Value] by(turtle);
+        CD "cd" Command [] by(observer);
+        CEILING "ceiling" Reporter [Value];
+        CLEAR_ALL "clear-all" Command [] by(observer);
+        CLEAR_ALL_PLOTS "clear-all-plots" Command [];
+        CLEAR_DRAWING "clear-drawing" Command [] by(observer);
+        CLEAR_GLOBALS "clear-globals" Command [] by(observer);
+        CLEAR_LINKS "clear-links" Command [] by(observer);
+        CLEAR_OUTPUT "clear-output" Command [];
+        CLEAR_PATCHES "clear-patches" Command [] by(observer);
+        CLEAR_PLOT "clear-plot" Command [];
+        CLEAR_TICKS "clear-ticks" Command [] by(observer);
+        CLEAR_TURTLES "clear-turtles" Command [] by(observer);
+        COLOR "color" Variable [] by(turtle link);
+        COS "cos" Reporter [Value];
+        COUNT "count" Reporter [Value];
+        CP "cp" Command [] by(observer);
+        CREATE_LINK_FROM "create-link-from" Command [Value MaybeCommands] by(turtle) blocks(Links);
+        CREATE_LINK_TO "create-link-to" Command [Value MaybeCommands] by(turtle) blocks(Links);
+        CREATE_LINK_WITH "create-link-with" Command [Value MaybeCommands] by(turtle) blocks(Links);
+        CREATE_LINKS_FROM "create-links-from" Command [Value MaybeCommands] by(turtle) blocks(Links);
+        CREATE_LINKS_TO "create-links-to" Command [Value MaybeCommands] by(turtle) blocks(Links);
+        CREATE_LINKS_WITH "create-links-with" Command [Value MaybeCommands] by(turtle) blocks(Links);
+        CREATE_ORDERED_TURTLES "create-ordered-turtles" Command [Value MaybeCommands] by(observer) blocks(Turtles);
+        CREATE_TEMPORARY_PLOT_PEN "create-temporary-plot-pen" Command [Value];
+        CREATE_TURTLES "create-turtles" Command [Value MaybeCommands] by(observer) blocks(Turtles);
+        CRO "cro" Command [Value MaybeCommands] by(observer) blocks(Turtles);
+        CRT "crt" Command [Value MaybeCommands] by(observer) blocks(Turtles);
+        CT "ct" Command [] by(observer);
+        CYAN "cyan" Constant [];
 
-        67 "die" Command [] by(turtle link);
-        68 "diffuse" Command [Variable Value] by(observer);
-        69 "diffuse4" Command [Variable Value] by(observer);
-        70 "directed-link-breed" Reserved [];
-        71 "display" Command [];
-        72 "distance" Reporter [Value] by(turtle patch);
-        73 "distancexy" Reporter [Value Value] by(turtle patch);
-        74 "downhill" Command [Variable] by(turtle);
-        75 "downhill4" Command [Variable] by(turtle);
-        76 "dx" Reporter [] by(turtle);
-        77 "dy" Reporter [] by(turtle);
+        DIE "die" Command [] by(turtle link);
+        DIFFUSE "diffuse" Command [Variable Value] by(observer) variable(Spread);
+        DIFFUSE4 "diffuse4" Command [Variable Value] by(observer) variable(Spread);
+        DIRECTED_LINK_BREED "directed-link-breed" Reserved [];
+        DISPLAY "display" Command [];
+        DISTANCE "distance" Reporter [Value] by(turtle patch);
+        DISTANCEXY "distancexy" Reporter [Value Value] by(turtle patch);
+        DOWNHILL "downhill" Command [Variable] by(turtle) variable(Spread);
+        DOWNHILL4 "downhill4" Command [Variable] by(turtle) variable(Spread);
+        DX "dx" Reporter [] by(turtle);
+        DY "dy" Reporter [] by(turtle);
 
-        78 "e" Reporter [];
-        79 "empty?" Reporter [Value];
-        80 "end" Reserved [];
-        81 "end1" Variable [] by(link);
-        82 "end2" Variable [] by(link);
+        E "e" Reporter [];
+        EMPTY "empty?" Reporter [Value];
+        END "end" Reserved [];
+        END1 "end1" Variable [] by(link) is(fixed);
+        END2 "end2" Variable [] by(link) is(fixed);
 
-        83 "face" Command [Value] by(turtle);
-        84 "facexy" Command [Value Value] by(turtle);
-        85 "false" Constant [];
-        86 "fd" Command [Value] by(turtle);
-        87 "first" Reporter [Value];
-        88 "floor" Reporter [Value];
-        89 "follow" Command [Value] by(observer);
-        90 "follow-me" Command [] by(turtle);
-        91 "forward" Command [Value] by(turtle);
-        92 "fput" Reporter [Value Value];
+        FACE "face" Command [Value] by(turtle);
+        FACEXY "facexy" Command [Value Value] by(turtle);
+        FALSE "false" Constant [];
+        FD "fd" Command [Value] by(turtle);
+        FIRST "first" Reporter [Value];
+        FLOOR "floor" Reporter [Value];
+        FOLLOW "follow" Command [Value] by(observer);
+        FOLLOW_ME "follow-me" Command [] by(turtle);
+        FORWARD "forward" Command [Value] by(turtle);
+        FPUT "fput" Reporter [Value Value];
 
-        93 "globals" Reserved [];
-        94 "gray" Constant [];
-        95 "green" Constant [];
-        96 "grey" Constant [];
+        GLOBALS "globals" Reserved [];
+        GRAY "gray" Constant [];
+        GREEN "green" Constant [];
+        GREY "grey" Constant [];
 
-        97 "hatch" Command [Value MaybeCommands] by(turtle);
-        98 "heading" Variable [] by(turtle);
-        99 "hidden?" Variable [] by(turtle link);
-        100 "hide-link" Command [] by(link);
-        101 "hide-turtle" Command [] by(turtle);
-        102 "histogram" Command [Value];
-        103 "home" Command [] by(turtle);
-        104 "ht" Command [] by(turtle);
+        HATCH "hatch" Command [Value MaybeCommands] by(turtle) blocks(Turtles);
+        HEADING "heading" Variable [] by(turtle);
+        HIDDEN "hidden?" Variable [] by(turtle link);
+        HIDE_LINK "hide-link" Command [] by(link);
+        HIDE_TURTLE "hide-turtle" Command [] by(turtle);
+        HISTOGRAM "histogram" Command [Value];
+        HOME "home" Command [] by(turtle);
+        HT "ht" Command [] by(turtle);
 
-        105 "if" Command [Value Commands];
-        106 "ifelse" Command [Value Commands Commands];
-        107 "ifelse-value" Reporter [Expression Reporter Reporter];
-        108 "in-cone" Operator(1) [Value Value Value] by(turtle) gives(turtle patch link);
-        109 "in-link-from" Reporter [Value] by(turtle) gives(link);
-        110 "in-link-neighbor?" Reporter [Value] by(turtle);
-        111 "in-link-neighbors" Reporter [] by(turtle) gives(turtle);
-        112 "in-radius" Operator(1) [Value Value] by(turtle patch) gives(turtle patch link);
-        113 "insert-item" Reporter [Value Value Value];
-        114 "int" Reporter [Value];
-        115 "is-agent?" Reporter [Value];
-        116 "is-agentset?" Reporter [Value];
-        117 "is-boolean?" Reporter [Value];
-        118 "is-directed-link?" Reporter [Value];
-        119 "is-link-set?" Reporter [Value];
-        120 "is-link?" Reporter [Value];
-        121 "is-list?" Reporter [Value];
-        122 "is-number?" Reporter [Value];
-        123 "is-patch-set?" Reporter [Value];
-        124 "is-patch?" Reporter [Value];
-        125 "is-string?" Reporter [Value];
-        126 "is-turtle-set?" Reporter [Value];
-        127 "is-turtle?" Reporter [Value];
-        128 "is-undirected-link?" Reporter [Value];
-        129 "item" Reporter [Value Value];
+        IF "if" Command [Value Commands] blocks(Same);
+        IFELSE "ifelse" Command [Value Commands Commands] blocks(Same);
+        IFELSE_VALUE "ifelse-value" Reporter [Expression Reporter Reporter] blocks(Same);
+        IN_CONE "in-cone" Operator(1) [Value Value Value] by(turtle) gives(turtle patch link);
+        IN_LINK_FROM "in-link-from" Reporter [Value] by(turtle) gives(link);
+        IN_LINK_NEIGHBOR "in-link-neighbor?" Reporter [Value] by(turtle);
+        IN_LINK_NEIGHBORS "in-link-neighbors" Reporter [] by(turtle) gives(turtle);
+        IN_RADIUS "in-radius" Operator(1) [Value Value] by(turtle patch) gives(turtle patch link);
+        INSERT_ITEM "insert-item" Reporter [Value Value Value];
+        INT "int" Reporter [Value];
+        IS_AGENT "is-agent?" Reporter [Value];
+        IS_AGENTSET "is-agentset?" Reporter [Value];
+        IS_BOOLEAN "is-boolean?" Reporter [Value];
+        IS_DIRECTED_LINK "is-directed-link?" Reporter [Value];
+        IS_LINK_SET "is-link-set?" Reporter [Value];
+        IS_LINK "is-link?" Reporter [Value];
+        IS_LIST "is-list?" Reporter [Value];
+        IS_NUMBER "is-number?" Reporter [Value];
+        IS_PATCH_SET "is-patch-set?" Reporter [Value];
+        IS_PATCH "is-patch?" Reporter [Value];
+        IS_STRING "is-string?" Reporter [Value];
+        IS_TURTLE_SET "is-turtle-set?" Reporter [Value];
+        IS_TURTLE "is-turtle?" Reporter [Value];
+        IS_UNDIRECTED_LINK "is-undirected-link?" Reporter [Value];
+        ITEM "item" Reporter [Value Value];
 
-        130 "jump" Command [Value] by(turtle);
+        JUMP "jump" Command [Value] by(turtle);
 
-        131 "label" Variable [] by(turtle link);
-        132 "label-color" Variable [] by(turtle link);
-        133 "last" Reporter [Value];
-        134 "left" Command [Value] by(turtle);
-        135 "length" Reporter [Value];
-        136 "let" Command [Fresh Value];
-        137 "lime" Constant [];
-        138 "link" Reporter [Value Value] gives(link);
-        139 "link-heading" Reporter [] by(link);
-        140 "link-length" Reporter [] by(link);
-        141 "link-neighbor?" Reporter [Value] by(turtle);
-        142 "link-neighbors" Reporter [] by(turtle) gives(turtle);
-        143 "link-set" Reporter [Value *] gives(link);
-        144 "link-with" Reporter [Value] by(turtle) gives(link);
-        145 "links" Reporter [] gives(link);
-        146 "links-own" Reserved [];
-        147 "list" Reporter [Value Value *];
-        148 "loop" Command [Commands];
-        149 "lput" Reporter [Value Value];
-        150 "lt" Command [Value] by(turtle);
+        LABEL "label" Variable [] by(turtle link);
+        LABEL_COLOR "label-color" Variable [] by(turtle link);
+        LAST "last" Reporter [Value];
+        LEFT "left" Command [Value] by(turtle);
+        LENGTH "length" Reporter [Value];
+        LET "let" Command [Fresh Value];
+        LIME "lime" Constant [];
+        LINK "link" Reporter [Value Value] gives(link);
+        LINK_HEADING "link-heading" Reporter [] by(link);
+        LINK_LENGTH "link-length" Reporter [] by(link);
+        LINK_NEIGHBOR "link-neighbor?" Reporter [Value] by(turtle);
+        LINK_NEIGHBORS "link-neighbors" Reporter [] by(turtle) gives(turtle);
+        LINK_SET "link-set" Reporter [Value *] gives(link);
+        LINK_WITH "link-with" Reporter [Value] by(turtle) gives(link);
+        LINKS "links" Reporter [] gives(link);
+        LINKS_OWN "links-own" Reserved [];
+        LIST "list" Reporter [Value Value *];
+        LOOP "loop" Command [Commands] blocks(Same);
+        LPUT "lput" Reporter [Value Value];
+        LT "lt" Command [Value] by(turtle);
 
-        151 "magenta" Constant [];
-        152 "max" Reporter [Value];
-        153 "max-n-of" Reporter [Value Value Reporter] gives(turtle patch link);
-        154 "max-one-of" Reporter [Value Reporter] gives(turtle patch link);
-        155 "max-pxcor" Reporter [];
-        156 "max-pycor" Reporter [];
-        157 "mean" Reporter [Value];
-        158 "median" Reporter [Value];
-        159 "member?" Reporter [Value Value];
-        160 "min" Reporter [Value];
-        161 "min-n-of" Reporter [Value Value Reporter] gives(turtle patch link);
-        162 "min-one-of" Reporter [Value Reporter] gives(turtle patch link);
-        163 "min-pxcor" Reporter [];
-        164 "min-pycor" Reporter [];
-        165 "mod" Operator(5) [Value Value];
-        166 "modes" Reporter [Value];
-        167 "move-to" Command [Value] by(turtle);
-        168 "my-in-links" Reporter [] by(turtle) gives(link);
-        169 "my-links" Reporter [] by(turtle) gives(link);
-        170 "my-out-links" Reporter [] by(turtle) gives(link);
-        171 "myself" Reporter [] by(turtle patch link);
+        MAGENTA "magenta" Constant [];
+        MAX "max" Reporter [Value];
+        MAX_N_OF "max-n-of" Reporter [Value Value Reporter] gives(turtle patch link) blocks(Given);
+        MAX_ONE_OF "max-one-of" Reporter [Value Reporter] gives(turtle patch link) blocks(Given);
+        MAX_PXCOR "max-pxcor" Reporter [];
+        MAX_PYCOR "max-pycor" Reporter [];
+        MEAN "mean" Reporter [Value];
+        MEDIAN "median" Reporter [Value];
+        MEMBER "member?" Reporter [Value Value];
+        MIN "min" Reporter [Value];
+        MIN_N_OF "min-n-of" Reporter [Value Value Reporter] gives(turtle patch link) blocks(Given);
+        MIN_ONE_OF "min-one-of" Reporter [Value Reporter] gives(turtle patch link) blocks(Given);
+        MIN_PXCOR "min-pxcor" Reporter [];
+        MIN_PYCOR "min-pycor" Reporter [];
+        MOD "mod" Operator(5) [Value Value];
+        MODES "modes" Reporter [Value];
+        MOVE_TO "move-to" Command [Value] by(turtle);
+        MY_IN_LINKS "my-in-links" Reporter [] by(turtle) gives(link);
+        MY_LINKS "my-links" Reporter [] by(turtle) gives(link);
+        MY_OUT_LINKS "my-out-links" Reporter [] by(turtle) gives(link);
+        MYSELF "myself" Reporter [] by(turtle patch link);
 
-        172 "n-of" Reporter [Value Value] gives(turtle patch link);
-        173 "neighbors" Reporter [] by(turtle patch) gives(patch);
-        174 "neighbors4" Reporter [] by(turtle patch) gives(patch);
-        175 "no-display" Command [];
-        176 "no-links" Reporter [] gives(link);
-        177 "no-patches" Reporter [] gives(patch);
-        178 "no-turtles" Reporter [] gives(turtle);
-        179 "nobody" Constant [];
-        180 "not" Reporter [Value];
+        N_OF "n-of" Reporter [Value Value] gives(turtle patch link);
+        NEIGHBORS "neighbors" Reporter [] by(turtle patch) gives(patch);
+        NEIGHBORS4 "neighbors4" Reporter [] by(turtle patch) gives(patch);
+        NO_DISPLAY "no-display" Command [];
+        NO_LINKS "no-links" Reporter [] gives(link);
+        NO_PATCHES "no-patches" Reporter [] gives(patch);
+        NO_TURTLES "no-turtles" Reporter [] gives(turtle);
+        NOBODY "nobody" Constant [];
+        NOT "not" Reporter [Value];
 
-        181 "of" Operator(2) [Reporter Value];
-        182 "one-of" Reporter [Value] gives(turtle patch link);
-        183 "or" Operator(9) [Value Value];
-        184 "orange" Constant [];
-        185 "other" Reporter [Value] by(turtle patch link) gives(turtle patch link);
-        186 "other-end" Reporter [] by(turtle link) gives(turtle);
-        187 "out-link-neighbor?" Reporter [Value] by(turtle);
-        188 "out-link-neighbors" Reporter [] by(turtle) gives(turtle);
-        189 "out-link-to" Reporter [Value] by(turtle) gives(link);
-        190 "output-print" Command [Value];
-        191 "output-show" Command [Value];
-        192 "output-type" Command [Value];
-        193 "output-write" Command [Value];
+        OF "of" Operator(2) [Reporter Value] blocks(Given);
+        ONE_OF "one-of" Reporter [Value] gives(turtle patch link);
+        OR "or" Operator(9) [Value Value];
+        ORANGE "orange" Constant [];
+        OTHER "other" Reporter [Value] by(turtle patch link) gives(turtle patch link);
+        OTHER_END "other-end" Reporter [] by(turtle link) gives(turtle);
+        OUT_LINK_NEIGHBOR "out-link-neighbor?" Reporter [Value] by(turtle);
+        OUT_LINK_NEIGHBORS "out-link-neighbors" Reporter [] by(turtle) gives(turtle);
+        OUT_LINK_TO "out-link-to" Reporter [Value] by(turtle) gives(link);
+        OUTPUT_PRINT "output-print" Command [Value];
+        OUTPUT_SHOW "output-show" Command [Value];
+        OUTPUT_TYPE "output-type" Command [Value];
+        OUTPUT_WRITE "output-write" Command [Value];
 
-        194 "patch" Reporter [Value Value] gives(patch);
-        195 "patch-ahead" Reporter [Value] by(turtle) gives(patch);
-        196 "patch-at" Reporter [Value Value] by(turtle patch) gives(patch);
-        197 "patch-at-heading-and-distance" Reporter [Value Value] by(turtle patch) gives(patch);
-        198 "patch-here" Reporter [] by(turtle) gives(patch);
-        199 "patch-left-and-ahead" Reporter [Value Value] by(turtle) gives(patch);
-        200 "patch-right-and-ahead" Reporter [Value Value] by(turtle) gives(patch);
-        201 "patch-set" Reporter [Value *] gives(patch);
-        202 "patches" Reporter [] gives(patch);
-        203 "patches-own" Reserved [];
-        204 "pcolor" Variable [] by(turtle patch);
-        205 "pd" Command [] by(turtle);
-        206 "pe" Command [] by(turtle);
-        207 "pen-down" Command [] by(turtle);
-        208 "pen-erase" Command [] by(turtle);
-        209 "pen-mode" Variable [] by(turtle);
-        210 "pen-size" Variable [] by(turtle);
-        211 "pen-up" Command [] by(turtle);
-        212 "pi" Reporter [];
-        213 "pink" Constant [];
-        214 "plabel" Variable [] by(turtle patch);
-        215 "plabel-color" Variable [] by(turtle patch);
-        216 "plot" Command [Value];
-        217 "plot-pen-down" Command [];
-        218 "plot-pen-reset" Command [];
-        219 "plot-pen-up" Command [];
-        220 "plotxy" Command [Value Value];
-        221 "position" Reporter [Value Value];
-        222 "precision" Reporter [Value Value];
-        223 "print" Command [Value];
-        224 "pu" Command [] by(turtle);
-        225 "pxcor" Variable [] by(turtle patch);
-        226 "pycor" Variable [] by(turtle patch);
+        PATCH "patch" Reporter [Value Value] gives(patch);
+        PATCH_AHEAD "patch-ahead" Reporter [Value] by(turtle) gives(patch);
+        PATCH_AT "patch-at" Reporter [Value Value] by(turtle patch) gives(patch);
+        PATCH_AT_HEADING_AND_DISTANCE "patch-at-heading-and-distance" Reporter [Value Value] by(turtle patch) gives(patch);
+        PATCH_HERE "patch-here" Reporter [] by(turtle) gives(patch);
+        PATCH_LEFT_AND_AHEAD "patch-left-and-ahead" Reporter [Value Value] by(turtle) gives(patch);
+        PATCH_RIGHT_AND_AHEAD "patch-right-and-ahead" Reporter [Value Value] by(turtle) gives(patch);
+        PATCH_SET "patch-set" Reporter [Value *] gives(patch);
+        PATCHES "patches" Reporter [] gives(patch);
+        PATCHES_OWN "patches-own" Reserved [];
+        PCOLOR "pcolor" Variable [] by(turtle patch);
+        PD "pd" Command [] by(turtle);
+        PE "pe" Command [] by(turtle);
+        PEN_DOWN "pen-down" Command [] by(turtle);
+        PEN_ERASE "pen-erase" Command [] by(turtle);
+        PEN_MODE "pen-mode" Variable [] by(turtle);
+        PEN_SIZE "pen-size" Variable [] by(turtle);
+        PEN_UP "pen-up" Command [] by(turtle);
+        PI "pi" Reporter [];
+        PINK "pink" Constant [];
+        PLABEL "plabel" Variable [] by(turtle patch);
+        PLABEL_COLOR "plabel-color" Variable [] by(turtle patch);
+        PLOT "plot" Command [Value];
+        PLOT_PEN_DOWN "plot-pen-down" Command [];
+        PLOT_PEN_RESET "plot-pen-reset" Command [];
+        PLOT_PEN_UP "plot-pen-up" Command [];
+        PLOTXY "plotxy" Command [Value Value];
+        POSITION "position" Reporter [Value Value];
+        PRECISION "precision" Reporter [Value Value];
+        PRINT "print" Command [Value];
+        PU "pu" Command [] by(turtle);
+        PXCOR "pxcor" Variable [] by(turtle patch) is(fixed);
+        PYCOR "pycor" Variable [] by(turtle patch) is(fixed);
 
-        227 "random" Reporter [Value];
-        228 "random-float" Reporter [Value];
-        229 "random-pxcor" Reporter [];
-        230 "random-pycor" Reporter [];
-        231 "random-seed" Command [Value];
-        232 "random-xcor" Reporter [];
-        233 "random-ycor" Reporter [];
-        234 "range" Reporter [Value *];
-        235 "red" Constant [];
-        236 "remainder" Reporter [Value Value];
-        237 "remove" Reporter [Value Value];
-        238 "remove-duplicates" Reporter [Value];
-        239 "remove-item" Reporter [Value Value];
-        240 "repeat" Command [Value Commands];
-        241 "replace-item" Reporter [Value Value Value];
-        242 "report" Command [Value];
-        243 "reset-perspective" Command [];
-        244 "reset-ticks" Command [] by(observer);
-        245 "reverse" Reporter [Value];
-        246 "ride" Command [Value] by(observer);
-        247 "ride-me" Command [] by(turtle);
-        248 "right" Command [Value] by(turtle);
-        249 "round" Reporter [Value];
-        250 "rp" Command [];
-        251 "rt" Command [Value] by(turtle);
+        RANDOM "random" Reporter [Value];
+        RANDOM_FLOAT "random-float" Reporter [Value];
+        RANDOM_PXCOR "random-pxcor" Reporter [];
+        RANDOM_PYCOR "random-pycor" Reporter [];
+        RANDOM_SEED "random-seed" Command [Value];
+        RANDOM_XCOR "random-xcor" Reporter [];
+        RANDOM_YCOR "random-ycor" Reporter [];
+        RANGE "range" Reporter [Value *];
+        RED "red" Constant [];
+        REMAINDER "remainder" Reporter [Value Value];
+        REMOVE "remove" Reporter [Value Value];
+        REMOVE_DUPLICATES "remove-duplicates" Reporter [Value];
+        REMOVE_ITEM "remove-item" Reporter [Value Value];
+        REPEAT "repeat" Command [Value Commands] blocks(Same);
+        REPLACE_ITEM "replace-item" Reporter [Value Value Value];
+        REPORT "report" Command [Value] leaves(Reports);
+        RESET_PERSPECTIVE "reset-perspective" Command [];
+        RESET_TICKS "reset-ticks" Command [] by(observer);
+        REVERSE "reverse" Reporter [Value];
+        RIDE "ride" Command [Value] by(observer);
+        RIDE_ME "ride-me" Command [] by(turtle);
+        RIGHT "right" Command [Value] by(turtle);
+        ROUND "round" Reporter [Value];
+        RP "rp" Command [];
+        RT "rt" Command [Value] by(turtle);
 
-        252 "scale-color" Reporter [Value Value Value Value];
-        253 "se" Reporter [Value Value *];
-        254 "self" Reporter [] by(turtle patch link);
-        255 "sentence" Reporter [Value Value *];
-        256 "set" Command [Variable Value];
-        257 "set-current-plot" Command [Value];
-        258 "set-current-plot-pen" Command [Value];
-        259 "set-default-shape" Command [Value Value];
-        260 "set-plot-pen-color" Command [Value];
-        261 "set-plot-pen-interval" Command [Value];
-        262 "set-plot-pen-mode" Command [Value];
-        263 "set-plot-x-range" Command [Value Value];
-        264 "set-plot-y-range" Command [Value Value];
-        265 "setup-plots" Command [];
-        266 "setxy" Command [Value Value] by(turtle);
-        267 "shade-of?" Reporter [Value Value];
-        268 "shape" Variable [] by(turtle link);
-        269 "show" Command [Value];
-        270 "show-link" Command [] by(link);
-        271 "show-turtle" Command [] by(turtle);
-        272 "shuffle" Reporter [Value];
-        273 "sin" Reporter [Value];
-        274 "size" Variable [] by(turtle);
-        275 "sky" Constant [];
-        276 "sort" Reporter [Value];
-        277 "sort-on" Reporter [Reporter Value];
-        278 "sprout" Command [Value MaybeCommands] by(patch);
-        279 "sqrt" Reporter [Value];
-        280 "st" Command [] by(turtle);
-        281 "stamp" Command [] by(turtle link);
-        282 "stamp-erase" Command [] by(turtle link);
-        283 "standard-deviation" Reporter [Value];
-        284 "stop" Command [];
-        285 "sublist" Reporter [Value Value Value];
-        286 "substring" Reporter [Value Value Value];
-        287 "subtract-headings" Reporter [Value Value];
-        288 "sum" Reporter [Value];
+        SCALE_COLOR "scale-color" Reporter [Value Value Value Value];
+        SE "se" Reporter [Value Value *];
+        SELF "self" Reporter [] by(turtle patch link);
+        SENTENCE "sentence" Reporter [Value Value *];
+        SET "set" Command [Variable Value] variable(Set);
+        SET_CURRENT_PLOT "set-current-plot" Command [Value];
+        SET_CURRENT_PLOT_PEN "set-current-plot-pen" Command [Value];
+        SET_DEFAULT_SHAPE "set-default-shape" Command [Value Value];
+        SET_PLOT_PEN_COLOR "set-plot-pen-color" Command [Value];
+        SET_PLOT_PEN_INTERVAL "set-plot-pen-interval" Command [Value];
+        SET_PLOT_PEN_MODE "set-plot-pen-mode" Command [Value];
+        SET_PLOT_X_RANGE "set-plot-x-range" Command [Value Value];
+        SET_PLOT_Y_RANGE "set-plot-y-range" Command [Value Value];
+        SETUP_PLOTS "setup-plots" Command [];
+        SETXY "setxy" Command [Value Value] by(turtle);
+        SHADE_OF "shade-of?" Reporter [Value Value];
+        SHAPE "shape" Variable [] by(turtle link);
+        SHOW "show" Command [Value];
+        SHOW_LINK "show-link" Command [] by(link);
+        SHOW_TURTLE "show-turtle" Command [] by(turtle);
+        SHUFFLE "shuffle" Reporter [Value];
+        SIN "sin" Reporter [Value];
+        SIZE "size" Variable [] by(turtle);
+        SKY "sky" Constant [];
+        SORT "sort" Reporter [Value];
+        SORT_ON "sort-on" Reporter [Reporter Value] blocks(Given);
+        SPROUT "sprout" Command [Value MaybeCommands] by(patch) blocks(Turtles);
+        SQRT "sqrt" Reporter [Value];
+        ST "st" Command [] by(turtle);
+        STAMP "stamp" Command [] by(turtle link);
+        STAMP_ERASE "stamp-erase" Command [] by(turtle link);
+        STANDARD_DEVIATION "standard-deviation" Reporter [Value];
+        STOP "stop" Command [] leaves(Stops);
+        SUBLIST "sublist" Reporter [Value Value Value];
+        SUBSTRING "substring" Reporter [Value Value Value];
+        SUBTRACT_HEADINGS "subtract-headings" Reporter [Value Value];
+        SUM "sum" Reporter [Value];
 
-        289 "tan" Reporter [Value];
-        290 "thickness" Variable [] by(link);
-        291 "tick" Command [] by(observer);
-        292 "tick-advance" Command [Value] by(observer);
-        293 "ticks" Reporter [];
-        294 "tie-mode" Variable [] by(link);
-        295 "to" Reserved [];
-        296 "to-report" Reserved [];
-        297 "towards" Reporter [Value] by(turtle patch);
-        298 "towardsxy" Reporter [Value Value] by(turtle patch);
-        299 "true" Constant [];
-        300 "turquoise" Constant [];
-        301 "turtle" Reporter [Value] gives(turtle);
-        302 "turtle-set" Reporter [Value *] gives(turtle);
-        303 "turtles" Reporter [] gives(turtle);
-        304 "turtles-at" Reporter [Value Value] by(turtle patch) gives(turtle);
-        305 "turtles-here" Reporter [] by(turtle patch) gives(turtle);
-        306 "turtles-on" Reporter [Value] gives(turtle);
-        307 "turtles-own" Reserved [];
-        308 "type" Command [Value];
+        TAN "tan" Reporter [Value];
+        THICKNESS "thickness" Variable [] by(link);
+        TICK "tick" Command [] by(observer);
+        TICK_ADVANCE "tick-advance" Command [Value] by(observer);
+        TICKS "ticks" Reporter [];
+        TIE_MODE "tie-mode" Variable [] by(link);
+        TO "to" Reserved [];
+        TO_REPORT "to-report" Reserved [];
+        TOWARDS "towards" Reporter [Value] by(turtle patch);
+        TOWARDSXY "towardsxy" Reporter [Value Value] by(turtle patch);
+        TRUE "true" Constant [];
+        TURQUOISE "turquoise" Constant [];
+        TURTLE "turtle" Reporter [Value] gives(turtle);
+        TURTLE_SET "turtle-set" Reporter [Value *] gives(turtle);
+        TURTLES "turtles" Reporter [] gives(turtle);
+        TURTLES_AT "turtles-at" Reporter [Value Value] by(turtle patch) gives(turtle);
+        TURTLES_HERE "turtles-here" Reporter [] by(turtle patch) gives(turtle);
+        TURTLES_ON "turtles-on" Reporter [Value] gives(turtle);
+        TURTLES_OWN "turtles-own" Reserved [];
+        TYPE "type" Command [Value];
 
-        309 "undirected-link-breed" Reserved [];
-        310 "up-to-n-of" Reporter [Value Value] gives(turtle patch link);
-        311 "update-plots" Command [];
-        312 "uphill" Command [Variable] by(turtle);
-        313 "uphill4" Command [Variable] by(turtle);
+        UNDIRECTED_LINK_BREED "undirected-link-breed" Reserved [];
+        UP_TO_N_OF "up-to-n-of" Reporter [Value Value] gives(turtle patch link);
+        UPDATE_PLOTS "update-plots" Command [];
+        UPHILL "uphill" Command [Variable] by(turtle) variable(Spread);
+        UPHILL4 "uphill4" Command [Variable] by(turtle) variable(Spread);
 
-        314 "variance" Reporter [Value];
-        315 "violet" Constant [];
+        VARIANCE "variance" Reporter [Value];
+        VIOLET "violet" Constant [];
 
-        316 "wait" Command [Value];
-        317 "watch" Command [Value] by(observer);
-        318 "watch-me" Command [] by(turtle patch link);
-        319 "while" Command [Reporter Commands];
-        320 "white" Constant [];
-        321 "who" Variable [] by(turtle);
-        322 "with" Operator(1) [Value Reporter] gives(turtle patch link);
-        323 "with-max" Operator(1) [Value Reporter] gives(turtle patch link);
-        324 "with-min" Operator(1) [Value Reporter] gives(turtle patch link);
-        325 "word" Reporter [Value Value *];
-        326 "world-height" Reporter [];
-        327 "world-width" Reporter [];
-        328 "wrap-color" Reporter [Value];
-        329 "write" Command [Value];
+        WAIT "wait" Command [Value];
+        WATCH "watch" Command [Value] by(observer);
+        WATCH_ME "watch-me" Command [] by(turtle patch link);
+        WHILE "while" Command [Reporter Commands] blocks(Same);
+        WHITE "white" Constant [];
+        WHO "who" Variable [] by(turtle) is(fixed);
+        WITH "with" Operator(1) [Value Reporter] gives(turtle patch link) blocks(Given);
+        WITH_MAX "with-max" Operator(1) [Value Reporter] gives(turtle patch link) blocks(Given);
+        WITH_MIN "with-min" Operator(1) [Value Reporter] gives(turtle patch link) blocks(Given);
+        WORD "word" Reporter [Value Value *];
+        WORLD_HEIGHT "world-height" Reporter [];
+        WORLD_WIDTH "world-width" Reporter [];
+        WRAP_COLOR "wrap-color" Reporter [Value];
+        WRITE "write" Command [Value];
 
-        330 "xcor" Variable [] by(turtle);
-        331 "xor" Operator(9) [Value Value];
+        XCOR "xcor" Variable [] by(turtle);
+        XOR "xor" Operator(9) [Value Value];
 
-        332 "ycor" Variable [] by(turtle);
-        333 "yellow" Constant [];
+        YCOR "ycor" Variable [] by(turtle);
+        YELLOW "yellow" Constant [];
     ];
     Words { rows: &TABLE }
 }

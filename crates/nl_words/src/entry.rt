@@ -48,6 +48,44 @@ pub struct Kinds {
     pub link: bool,
 }
 
+/// Who runs the blocks of a word.
+#[derive(Clone, Copy, Debug, PartialEq, Eq)]
+pub enum Runner {
+    /// The word has no block.
+    NoBlock,
+    /// The agent that runs the word.
+    Same,
+    /// The turtles that the word makes.
+    Turtles,
+    /// The links that the word makes.
+    Links,
+    /// The agents that the word is given: those of its input of agents, which is the left side of an operator of level 1, and else the last
+    /// `Value`.
+    Given,
+}
+
+/// How a word stands at its place in a text.
+#[derive(Clone, Copy, Debug, PartialEq, Eq)]
+pub enum Manner {
+    /// The agent that runs the text runs the word.
+    Run,
+    /// The word is a variable, which the agent that runs the text sets.
+    Set,
+    /// The word is a variable, which is read or written on patches, whoever runs the text.
+    Spread,
+}
+
+/// Whether the agent that runs a word leaves the procedure with it.
+#[derive(Clone, Copy, Debug, PartialEq, Eq)]
+pub enum Leaving {
+    /// It goes on after the word.
+    Stays,
+    /// It leaves with a value.
+    Reports,
+    /// It leaves without a value.
+    Stops,
+}
+
 /// The row of one word.
 ///
 /// `name` is in lower case. `many` says that the word may be given more or fewer of its last input, with parentheses round the whole.
@@ -55,9 +93,12 @@ pub struct Kinds {
 /// reserved word.
 ///
 /// `gives` says what agents the value may hold, which is known only of some words. Turtles, patches or links alone are told for a word
-/// that gives such agents. All three are told for a word that gives agents of its own input of agents (the left side of an operator,
-/// else its last `Value`), and so what that input may hold. None is told where nothing is known: for words of other values, for
+/// that gives such agents. All three are told for a word that gives agents of its own input of agents (the left side of an operator of
+/// level 1, else its last `Value`), and so what that input may hold. None is told where nothing is known: for words of other values, for
 /// variables, and for `self`, `myself` and `of`. No row gives the observer.
+///
+/// `blocks` says who runs the word's blocks. `manner` says how the variable stands there that the word names, as that of `set` does; it is
+/// `Run` where the word names none. `fixed` is told of a variable that no text sets.
 ///
 /// `code` is the place of the row in the table, from 0. A second spelling has a row and a code of its own.
 #[derive(Clone, Copy, Debug)]
@@ -68,5 +109,9 @@ pub struct Entry {
     pub many: bool,
     pub runs: Kinds,
     pub gives: Kinds,
+    pub blocks: Runner,
+    pub manner: Manner,
+    pub fixed: bool,
+    pub leaving: Leaving,
     pub code: u16,
 }

@@ -2,11 +2,12 @@
 #![tactic(auto)]
 
 pub mod base;
+pub mod codes;
 pub mod entry;
 pub mod words;
 
 pub use base::{ROWS, base_words};
-pub use entry::{Entry, Input, Kinds, Role};
+pub use entry::{Entry, Input, Kinds, Leaving, Manner, Role, Runner};
 pub use words::Words;
 
 #[cfg(test)]

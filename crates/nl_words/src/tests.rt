@@ -1,6 +1,7 @@
 //! Rows as the NetLogo Dictionary has the words, and names that have no row.
 use crate::base::{ROWS, base_words};
-use crate::entry::{Input, Kinds, Role};
+use crate::codes;
+use crate::entry::{Input, Kinds, Leaving, Manner, Role, Runner};
 use Input::{Commands, Expression, Fresh, MaybeCommands, Value};
 
 const TEST: Input = Input::Reporter;
@@ -193,6 +194,75 @@ fn rows_say_what_the_dictionary_says(rt: HostRuntime) {
 }
 
 #[test]
+fn blocks_are_run_by_whom_the_guide_says(rt: HostRuntime) {
+    let words = base_words();
+    for (name, blocks) in [
+        ("ask", Runner::Given),
+        ("of", Runner::Given),
+        ("with-max", Runner::Given),
+        ("sort-on", Runner::Given),
+        ("all?", Runner::Given),
+        ("while", Runner::Same),
+        ("ifelse-value", Runner::Same),
+        ("loop", Runner::Same),
+        ("hatch", Runner::Turtles),
+        ("sprout", Runner::Turtles),
+        ("cro", Runner::Turtles),
+        ("create-link-with", Runner::Links),
+        ("create-links-from", Runner::Links),
+        ("fd", Runner::NoBlock),
+        ("who", Runner::NoBlock),
+    ] {
+        assert_eq!(rt;
+            words.find(name.as_bytes()).map(|entry| entry.blocks),
+            Some(blocks),
+            "{name}"
+        );
+    }
+}
+
+#[test]
+fn variables_are_set_spread_or_fixed(rt: HostRuntime) {
+    let words = base_words();
+    for (name, manner, fixed) in [
+        ("set", Manner::Set, false),
+        ("diffuse", Manner::Spread, false),
+        ("diffuse4", Manner::Spread, false),
+        ("uphill", Manner::Spread, false),
+        ("downhill4", Manner::Spread, false),
+        ("let", Manner::Run, false),
+        ("who", Manner::Run, true),
+        ("pxcor", Manner::Run, true),
+        ("pycor", Manner::Run, true),
+        ("end1", Manner::Run, true),
+        ("end2", Manner::Run, true),
+        ("xcor", Manner::Run, false),
+        ("breed", Manner::Run, false),
+    ] {
+        let found = words.find(name.as_bytes());
+        assert_eq!(rt; found.map(|entry| entry.manner), Some(manner), "{name}");
+        assert_eq!(rt; found.map(|entry| entry.fixed), Some(fixed), "{name}");
+    }
+}
+
+#[test]
+fn two_words_leave_a_procedure(rt: HostRuntime) {
+    let words = base_words();
+    for (name, leaving) in [
+        ("report", Leaving::Reports),
+        ("stop", Leaving::Stops),
+        ("die", Leaving::Stays),
+        ("loop", Leaving::Stays),
+    ] {
+        assert_eq!(rt;
+            words.find(name.as_bytes()).map(|entry| entry.leaving),
+            Some(leaving),
+            "{name}"
+        );
+    }
+}
+
+#[test]
 fn some_words_take_any_number_of_inputs_in_parentheses(rt: HostRuntime) {
     let words = base_words();
     for (name, many) in [
@@ -223,10 +293,24 @@ fn other_names_have_no_row(rt: HostRuntime) {
 }
 
 #[test]
-fn codes_are_places(rt: HostRuntime) {
+fn codes_are_places_and_have_names(rt: HostRuntime) {
     let words = base_words();
     assert_eq!(rt; ROWS, 334);
-    for (code, name) in [(0, "!="), (11, "abs"), (333, "yellow")] {
+    assert_eq!(rt; codes::NOT_EQUAL, 0);
+    assert_eq!(rt; codes::ABS, 11);
+    assert_eq!(rt; codes::YELLOW, 333);
+    for (code, name) in [
+        (codes::NOT_EQUAL, "!="),
+        (codes::MINUS, "-"),
+        (codes::POWER, "^"),
+        (codes::ALL, "all?"),
+        (codes::BF, "bf"),
+        (codes::IS_LINK_SET, "is-link-set?"),
+        (codes::LT, "lt"),
+        (codes::MAGENTA, "magenta"),
+        (codes::SELF, "self"),
+        (codes::YELLOW, "yellow"),
+    ] {
         assert_eq!(rt;
             words.find(name.as_bytes()).map(|entry| entry.code),
             Some(code),

@@ -1,7 +1,6 @@
 //! A table of words, and the look-ups in it.
-ghost use Rattle.std.specs.Prelude.{◌≡◌, ◌<◌, ◌↔◌, option_map, Some, IfSome, IsSome, All, IsTrue, map};
-ghost use Rattle.std.specs.Option.{option_copied};
-ghost use Rattle.nl_words.specs.Row.{row_of, row_named, row_at};
+ghost use Rattle.std.specs.Prelude.{◌≡◌, ◌<◌, ◌↔◌, Some, IfSome, IsSome, All, IsTrue, map};
+ghost use Rattle.nl_words.specs.Row.{row_of, row_in, row_named, row_at, IsInPlace};
 ghost use Rattle.nl_words.specs.Table.{ascends};
 
 use crate::entry::Entry;
@@ -28,17 +27,17 @@ impl<const N: usize> Model for Words<N> {
 impl<const N: usize> Words<N> {
     /// The row of the word that is written so, in lower case.
     pub fn find(&self, name: &[u8]) -> Option<&Entry>
-        ensures row { option_map row_of (option_copied result) ≡ row_named self.now name.now }
-        ensures only { All (λ row. row.name ≡ name.now → option_map row_of (option_copied result) ≡ Some row) self.now }
+        ensures row { row_in result ≡ row_named self.now name.now }
+        ensures only { All (λ row. row.name ≡ name.now → row_in result ≡ Some row) self.now }
         ensures name { IfSome result (λ entry. entry.now.name.now ≡ name.now) }
-        ensures place { IfSome result (λ entry. row_at self.now entry.now.code ≡ Some (row_of entry.now)) }
+        ensures place { IfSome result (λ entry. IsInPlace self.now entry.now) }
     {
         search(self.rows, name)
     }
 
     /// The row with this code.
     pub fn row(&self, code: u16) -> Option<&Entry>
-        ensures row { option_map row_of (option_copied result) ≡ row_at self.now code }
+        ensures row { row_in result ≡ row_at self.now code }
         ensures code { IfSome result (λ entry. entry.now.code ≡ code) }
         ensures below { IsSome result ↔ (code < N) }
     {
@@ -49,7 +48,7 @@ impl<const N: usize> Words<N> {
 // The row of this name among rows whose names ascend: a binary search.
 fn search<'a>(rows: &'a [Entry], name: &[u8]) -> Option<&'a Entry>
     requires { IsTrue (ascends (map row_of rows.now)) }
-    ensures { option_map row_of (option_copied result) ≡ row_named (map row_of rows.now) name.now }
+    ensures { row_in result ≡ row_named (map row_of rows.now) name.now }
 {
     match rows.binary_search_by(|row| row.name.as_bytes().cmp(name)) {
         Ok(at) => Some(&rows[at]),

@@ -8,27 +8,7 @@ use std::process::ExitCode;
 use std::rt::Env;
 
 #[cfg(test)]
-mod test_calls;
-#[cfg(test)]
-mod test_texts;
-#[cfg(test)]
 mod tests;
-#[cfg(test)]
-mod tests_bodies;
-#[cfg(test)]
-mod tests_context;
-#[cfg(test)]
-mod tests_exchanges;
-#[cfg(test)]
-mod tests_fire;
-#[cfg(test)]
-mod tests_lone;
-#[cfg(test)]
-mod tests_models;
-#[cfg(test)]
-mod tests_places;
-#[cfg(test)]
-mod tests_trees;
 
 /// What the process ends with where its words could not be got or kept. `run` never gives it.
 const NO_WORDS: u8 = 9;

@@ -96,3 +96,72 @@ fn a_read_that_fails_in_mid_stream_is_a_fault(rt: HostRuntime) {
     };
     assert!(rt; read_on(rt.alloc(), &mut file, 99).err() == Some(ReadFail::Failed));
 }
+
+#[test]
+fn a_file_of_many_pieces_is_read_whole_whatever_its_path(rt: HostRuntime) -> Result<(), Fail> {
+    let mut text = Vec::new(rt.alloc());
+    for part in 0..20_000u32 {
+        text.extend_from_slice(&part.to_be_bytes())?;
+        text.extend_from_slice(b"\0\r\n\xff\x80 ")?;
+    }
+    assert_eq!(rt; text.len(), 200_000);
+    let mut files = HostFiles::new(&rt);
+    // A path is taken as it is, with a space at its end too.
+    for path in ["nl_outer_host_files_many", "nl_outer_host_files_many "] {
+        text.push(path.len().to_be_bytes()[7])?;
+        fs::write(&rt, path, text.as_slice())?;
+        let read = files.read_file(rt.alloc(), path, u64::MAX).ok();
+        fs::remove_file(&rt, path)?;
+        assert!(rt;
+            read.is_some_and(|bytes| bytes.as_slice() == text.as_slice()),
+            "{path}"
+        );
+    }
+    assert_eq!(rt; files.faults, 0);
+    Ok(())
+}
+
+// Gives one byte a read, each of the next value, and is interrupted before each third.
+#[derive(Drop)]
+struct Slow {
+    reads: u64,
+    given: u64,
+    end: u64,
+}
+
+impl Read for Slow {
+    fn read(&mut self, buf: &mut [u8]) -> io::Result<usize> {
+        self.reads = self.reads.saturating_add(1);
+        if self.reads % 3 == 0 {
+            return Err(io::Error::from(ErrorKind::Interrupted));
+        }
+        if self.given >= self.end || buf.is_empty() {
+            return Ok(0);
+        }
+        buf[0] = (self.given % 251) as u8;
+        self.given = self.given.saturating_add(1);
+        Ok(1)
+    }
+}
+
+#[test]
+fn a_reader_of_one_byte_at_a_time_is_read_to_its_end(rt: HostRuntime) -> Result<(), Fail> {
+    for (most, len) in [
+        (u64::MAX, 5_000),
+        (5_000, 5_000),
+        (4_999, 5_000),
+        (4_998, 4_999),
+    ] {
+        let mut file = Slow {
+            reads: 0,
+            given: 0,
+            end: 5_000,
+        };
+        let bytes = read_on(rt.alloc(), &mut file, most).ok().ok_or("no bytes")?;
+        assert_eq!(rt; bytes.len(), len);
+        for (at, byte) in bytes.as_slice().iter().enumerate() {
+            assert_eq!(rt; *byte as usize, at % 251);
+        }
+    }
+    Ok(())
+}

@@ -82,3 +82,53 @@ fn a_writer_that_fails_or_takes_nothing_is_a_fault(rt: HostRuntime) {
         assert_eq!(rt; to.flushes, flushes);
     }
 }
+
+// Takes one byte a write, and is interrupted before each third.
+#[derive(Drop)]
+struct Slow {
+    held: Vec<u8>,
+    writes: u64,
+    flushes: u64,
+}
+
+impl Write for Slow {
+    fn write(&mut self, buf: &[u8]) -> io::Result<usize> {
+        self.writes = self.writes.saturating_add(1);
+        if self.writes % 3 == 0 {
+            return Err(io::Error::from(ErrorKind::Interrupted));
+        }
+        let count = buf.len().min(1);
+        self.held.extend_from_slice(&buf[..count])?;
+        Ok(count)
+    }
+
+    fn flush(&mut self) -> io::Result<()> {
+        self.flushes = self.flushes.saturating_add(1);
+        Ok(())
+    }
+}
+
+#[test]
+fn a_writer_of_one_byte_at_a_time_takes_all_and_is_flushed_after_each_put(
+    rt: HostRuntime,
+) -> Result<(), Fail> {
+    let mut piece = Vec::new(rt.alloc());
+    for part in 0..1_250u32 {
+        piece.extend_from_slice(&part.to_be_bytes())?;
+    }
+    let mut to = Slow {
+        held: Vec::new(rt.alloc()),
+        writes: 0,
+        flushes: 0,
+    };
+    let mut err = HostErr::new(&mut to);
+    assert!(rt; err.put(piece.as_slice()) == Ok(()));
+    assert!(rt; err.put(b"") == Ok(()));
+    assert!(rt; err.put(b"x") == Ok(()));
+    assert_eq!(rt; err.stream.faults, 0);
+    drop(err);
+    assert_eq!(rt; to.flushes, 3);
+    assert_eq!(rt; to.held.len(), 5_001);
+    assert!(rt; to.held.as_slice().starts_with(piece.as_slice()));
+    Ok(())
+}

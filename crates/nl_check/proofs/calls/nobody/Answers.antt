@@ -1,5 +1,5 @@
 use Rattle.std.proofs.Common.{[], ◌∷◌, ◌++◌, ap, ◌∙◌}
-use Rattle.nl_check.specs.Calls.{nobody}
+use Rattle.nl_check.specs.inner.Calls.{nobody}
 use Rattle.nl_check.proofs.Around.{nobody_more}
 use Rattle.nl_check.proofs.calls.nobody.Goals as goal
 

@@ -1,5 +1,5 @@
 use Rattle.std.proofs.Common.{◌≡◌, ◌++◌, drop}
-use Rattle.nl_check.specs.Calls.{calls_in}
+use Rattle.nl_check.specs.inner.Calls.{calls_in}
 use Rattle.nl_check.proofs.calls.put_calls.Given as goal
 
 abbrev pub invariant-loop-step : goal.invariant-loop-step

@@ -1,5 +1,5 @@
 use Rattle.std.proofs.Common.{ap, ◌∙◌, length}
-use Rattle.nl_check.specs.Calls.{reversed}
+use Rattle.nl_check.specs.inner.Calls.{reversed}
 use Rattle.nl_check.proofs.Around.{nobody_length}
 use Rattle.nl_check.proofs.calls.reversed.Goals as goal
 

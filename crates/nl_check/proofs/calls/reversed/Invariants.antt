@@ -1,5 +1,5 @@
 use Rattle.std.proofs.Common.{◌≡◌, length, drop}
-use Rattle.nl_check.specs.Calls.{reversed, nobody}
+use Rattle.nl_check.specs.inner.Calls.{reversed, nobody}
 use Rattle.nl_check.proofs.calls.reversed.Given as goal
 
 abbrev pub invariant-loop-call : goal.invariant-loop-call

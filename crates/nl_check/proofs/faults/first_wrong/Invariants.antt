@@ -1,5 +1,5 @@
 use Rattle.std.proofs.Common.{◌≡◌, [], drop}
-use Rattle.nl_check.specs.Faults.{first_wrong}
+use Rattle.nl_check.specs.inner.Faults.{first_wrong}
 use Rattle.nl_check.proofs.faults.first_wrong.Given as goal
 
 -- what the steps that are left tell is what all tell

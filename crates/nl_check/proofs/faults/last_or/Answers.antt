@@ -1,5 +1,5 @@
 use Rattle.std.proofs.Common.{sym, ap, ◌∙◌}
-use Rattle.nl_check.specs.Faults.{last_or, front}
+use Rattle.nl_check.specs.inner.Faults.{last_or, front}
 use Rattle.nl_check.proofs.Around.{last_push, front_push}
 use Rattle.nl_check.proofs.faults.last_or.Goals as goal
 

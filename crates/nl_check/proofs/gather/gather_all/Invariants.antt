@@ -1,7 +1,7 @@
 use Rattle.std.proofs.Common.{◌≡◌, ◌++◌, drop, map}
 use Rattle.nl_tree.specs.Views.{plain}
 use Rattle.nl_tree.specs.Vocabulary.{terms}
-use Rattle.nl_check.specs.Calls.{own_of, calls_from}
+use Rattle.nl_check.specs.inner.Calls.{own_of, calls_from}
 use Rattle.nl_check.proofs.gather.gather_all.Given as goal
 
 abbrev pub invariant-loop-at : goal.invariant-loop-at

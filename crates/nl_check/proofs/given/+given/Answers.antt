@@ -7,7 +7,7 @@ use Rattle.nl_tree.specs.Views.{plain}
 use Rattle.nl_tree.specs.Vocabulary.{terms, term_named}
 use Rattle.nl_tree.specs.Context.{given, givens, given_as, first_kinds, told, told_by}
 use Rattle.nl_tree.proofs.Parts.{listed_nodes}
-use Rattle.nl_decl.specs.Words.{named}
+use Rattle.nl_tree.specs.Index.{named}
 use Rattle.nl_check.proofs.given.+given.Goals as goal
 
 first_there : (table : List Term) (parts : List Node) (t : Node) → Some t ≡ slice_get (listed (nodes parts)) 0 → given table t ≡ first_kinds (givens table (nodes parts))
@@ -38,4 +38,4 @@ given-returns-in-None-part t c =
     let table = terms c.args.declared.now in
     let tree = c.args.tree.now in
     let at = sym c.label.ensures ∙ c.in-Paren.is in
-    c.kinds-in-None-part.ensures ∙ first_missing table tree.parts c.in-None-part.ensures.value ∙ sym (ap (λ l. given_as table l (givens table (nodes tree.parts))) at)
+    c.agents-in-None-part.ensures ∙ first_missing table tree.parts c.in-None-part.ensures.value ∙ sym (ap (λ l. given_as table l (givens table (nodes tree.parts))) at)

@@ -6,8 +6,8 @@ use Rattle.nl_tree.specs.Views.{plain}
 use Rattle.nl_tree.specs.Tree.{size, parts, nodes}
 use Rattle.nl_tree.specs.Tokens.{inputs_of}
 use Rattle.nl_tree.specs.Context.{givens, last_value}
-use Rattle.nl_check.specs.Given.{given_by, is_value}
-use Rattle.nl_decl.specs.Words.{named}
+use Rattle.nl_check.specs.inner.Given.{given_by, is_value}
+use Rattle.nl_tree.specs.Index.{named}
 use Rattle.nl_check.proofs.Agents.{agents_step, agents_end}
 use Rattle.nl_check.proofs.given.last_value.Goals as goal
 

@@ -7,8 +7,8 @@ use Rattle.nl_tree.specs.Term.{Term}
 use Rattle.nl_tree.specs.Tree.{size, parts, nodes}
 use Rattle.nl_tree.specs.Tokens.{inputs_of}
 use Rattle.nl_tree.specs.Context.{givens, last_value}
-use Rattle.nl_check.specs.Given.{given_by}
-use Rattle.nl_decl.specs.Words.{named}
+use Rattle.nl_check.specs.inner.Given.{given_by}
+use Rattle.nl_tree.specs.Index.{named}
 use Rattle.nl_check.proofs.given.last_value.Given as goal
 
 abbrev pub invariant-loop-at : goal.invariant-loop-at

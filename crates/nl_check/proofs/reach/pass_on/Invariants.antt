@@ -1,5 +1,5 @@
 use Rattle.std.proofs.Common.{◌≡◌, length, drop}
-use Rattle.nl_check.specs.Reach.{passed_kinds, passed_work}
+use Rattle.nl_check.specs.inner.Reach.{passed_kinds, passed_work}
 use Rattle.nl_check.proofs.reach.pass_on.Given as goal
 
 abbrev pub invariant-loop-caller : goal.invariant-loop-caller

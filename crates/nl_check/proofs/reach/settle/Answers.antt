@@ -1,6 +1,6 @@
 use Rattle.std.proofs.Common.{ℕ, ◌<◌, length, All, arith, subst}
 use Rattle.std.specs.List.{Contains}
-use Rattle.nl_check.specs.Reach.{Settling}
+use Rattle.nl_check.specs.inner.Reach.{Settling}
 use Rattle.nl_check.proofs.Chains.{begun, settled, all_reached, is_place, callers_inside, next_settling, next_less, no_work}
 use Rattle.nl_check.proofs.reach.settle.Goals as goal
 
@@ -26,11 +26,11 @@ pass_on-requires c = callers_inside c.args.own.items c.args.callers.now c.requir
 
 pub loop-place-smaller : goal.loop-place-smaller
 loop-place-smaller c = next_less c.args.own.items c.args.callers.now c.requires.places c.loop-place.kinds.items c.loop-place.work.items c.pop.new.self.items c.in-Some.place c.loop-place.invariant c.in-Some.ensures.items
-    c.index-given.result.now c.as_slice.result.now c.index-given.ensures c.requires.many c.index-callers-place.result c.index-callers-place.is c.as_slice.ensures c.pass_on.new.kinds.items c.pass_on.new.work.items c.in_ok-pass_on.ensures.0 c.in_ok-pass_on.ensures.1
+    c.index-given.result.now c.as_slice.result.now c.index-given.ensures c.requires.many c.index-callers-place.result c.index-callers-place.is c.as_slice.ensures c.pass_on.new.kinds.items c.pass_on.new.work.items c.in_ok-pass_on.ensures.kinds c.in_ok-pass_on.ensures.work
 
 pub loop-place-preserved : goal.loop-place-preserved
 loop-place-preserved c = next_settling c.args.own.items c.args.callers.now c.requires.places c.loop-place.kinds.items c.loop-place.work.items c.pop.new.self.items c.in-Some.place c.loop-place.invariant c.in-Some.ensures.items
-    c.index-given.result.now c.as_slice.result.now c.index-given.ensures c.requires.many c.index-callers-place.result c.index-callers-place.is c.as_slice.ensures c.pass_on.new.kinds.items c.pass_on.new.work.items c.in_ok-pass_on.ensures.0 c.in_ok-pass_on.ensures.1
+    c.index-given.result.now c.as_slice.result.now c.index-given.ensures c.requires.many c.index-callers-place.result c.index-callers-place.is c.as_slice.ensures c.pass_on.new.kinds.items c.pass_on.new.work.items c.in_ok-pass_on.ensures.kinds c.in_ok-pass_on.ensures.work
 
 pub returns-clause-many : goal.returns-clause-many
 returns-clause-many c = c.loop-place.invariant.many

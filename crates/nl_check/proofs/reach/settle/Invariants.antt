@@ -1,4 +1,4 @@
-use Rattle.nl_check.specs.Reach.{Settling, left_to_do}
+use Rattle.nl_check.specs.inner.Reach.{Settling, left_to_do}
 use Rattle.nl_check.proofs.reach.settle.Given as goal
 
 abbrev pub invariant-loop-place : goal.invariant-loop-place

@@ -1,6 +1,6 @@
 use Rattle.std.proofs.Common.{◌≡◌, ◌++◌, drop}
 use Rattle.nl_words.specs.Rows.{rows}
-use Rattle.nl_check.specs.Tables.{base_whats}
+use Rattle.nl_check.specs.inner.Tables.{base_whats}
 use Rattle.nl_check.proofs.rows.base_rows.Given as goal
 
 abbrev pub invariant-loop-place : goal.invariant-loop-place

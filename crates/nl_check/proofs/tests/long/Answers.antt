@@ -1,6 +1,6 @@
 use Rattle.std.proofs.Common.{◌≡◌, length, ap, sym, subst, ◌∙◌, arith}
-use Rattle.nl_check.specs.Calls.{reversed, nobody}
-use Rattle.nl_check.specs.Reach.{ArePlaces}
+use Rattle.nl_check.specs.inner.Calls.{reversed, nobody}
+use Rattle.nl_check.specs.inner.Reach.{ArePlaces}
 use Rattle.nl_check.proofs.SampleModel.{as_many, callers_fit}
 use Rattle.nl_check.proofs.tests.long.Goals as goal
 

@@ -5,4 +5,4 @@ use Rattle.nl_cli.proofs.program.read_bodies.Given as goal
 
 -- the trees of the procedures so far
 abbrev pub invariant-procedures : goal.invariant-procedures
-invariant-procedures l = AreBodies l.code l.tokens (terms l.declared) (take l.procedure-index l.declared.procedures) l.bodies
+invariant-procedures l = AreBodies l.source.text.now l.source.tokens.now (terms l.declared) (take l.procedure-index l.declared.procedures) l.bodies

@@ -1,5 +1,5 @@
 use Rattle.std.proofs.Common.{◌∙◌, ap}
-use Rattle.nl_decl.specs.Gathering.{with_owned}
+use Rattle.nl_decl.specs.inner.Gathering.{with_owned}
 use Rattle.nl_decl.proofs.Spread.{all_given}
 use Rattle.nl_decl.proofs.gathering.breeds_of.Goals as goal
 

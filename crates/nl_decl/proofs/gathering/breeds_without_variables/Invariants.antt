@@ -1,5 +1,5 @@
 use Rattle.std.proofs.Common.{◌≡◌, ◌++◌, drop}
-use Rattle.nl_decl.specs.Gathering.{bare_breeds}
+use Rattle.nl_decl.specs.inner.Gathering.{bare_breeds}
 use Rattle.nl_decl.proofs.gathering.breeds_without_variables.Given as goal
 
 -- the breeds so far, and those that are left

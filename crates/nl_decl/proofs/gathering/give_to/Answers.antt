@@ -1,6 +1,6 @@
 use Rattle.std.proofs.Common.{◌∙◌, slice_set, sym, ap, arith}
 use Rattle.std.proofs.lemmas.Grind.{common_steps}
-use Rattle.nl_decl.specs.Gathering.{with_owned}
+use Rattle.nl_decl.specs.inner.Gathering.{with_owned}
 use Rattle.nl_decl.proofs.Spread.{given_none, given_some, given_past}
 use Rattle.nl_decl.proofs.gathering.give_to.Goals as goal
 

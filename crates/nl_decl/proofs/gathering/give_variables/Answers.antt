@@ -1,6 +1,6 @@
 use Rattle.std.proofs.Common.{◌∙◌, sym, ap}
 use Rattle.std.proofs.lemmas.List.{drop_all}
-use Rattle.nl_decl.specs.Gathering.{with_owned}
+use Rattle.nl_decl.specs.inner.Gathering.{with_owned}
 use Rattle.nl_decl.proofs.Spread.{given_nothing}
 use Rattle.nl_decl.proofs.gathering.give_variables.Goals as goal
 

@@ -1,5 +1,5 @@
 use Rattle.std.proofs.Common.{◌≡◌, drop}
-use Rattle.nl_decl.specs.Gathering.{with_owned}
+use Rattle.nl_decl.specs.inner.Gathering.{with_owned}
 use Rattle.nl_decl.proofs.gathering.give_variables.Given as goal
 
 -- the breeds have what is declared so far, and get the rest

@@ -1,7 +1,7 @@
 use Rattle.std.proofs.Common.{◌≡◌, drop}
 use Rattle.std.specs.List.{list_any}
 use Rattle.std.specs.HashSet.{contains}
-use Rattle.nl_decl.specs.Ledger.{same_marked}
+use Rattle.nl_decl.specs.inner.Ledger.{same_marked}
 use Rattle.nl_decl.proofs.ledger.bears.Given as goal
 
 -- none of the marks so far is on the name

@@ -2,8 +2,9 @@ use Rattle.std.proofs.Common.{◌≡◌, ◌∙◌, ℕ, ◌+◌, ◌≤◌, Lis
 use Rattle.std.proofs.lemmas.List.{take_all}
 use Rattle.std.specs.HashSet.{contains}
 use Rattle.nl_decl.specs.Claims.{is_taken, first_clash, widget_claim}
-use Rattle.nl_decl.specs.Ledger.{same_marked, Notes, Holds}
-use Rattle.nl_decl.proofs.Clashing.{held_before, next_of, goes_on}
+use Rattle.nl_decl.specs.inner.Ledger.{same_marked, Notes, Holds}
+use Rattle.nl_decl.proofs.Clashing.{held_before, goes_on}
+use Rattle.nl_vocabulary.proofs.Rows.{next_of}
 use Rattle.nl_decl.proofs.ledger.first_duplicate.Goals as goal
 
 pub claims-init : goal.claims-init

@@ -2,7 +2,7 @@ use Rattle.std.proofs.Common.{◌≡◌, List, map, take, drop}
 use Rattle.std.specs.HashSet.{contains}
 use Rattle.nl_decl.specs.declared.claims.Claimed.{Claimed}
 use Rattle.nl_decl.specs.Claims.{first_clash, widget_claim}
-use Rattle.nl_decl.specs.Ledger.{same_marked, Holds}
+use Rattle.nl_decl.specs.inner.Ledger.{same_marked, Holds}
 use Rattle.nl_decl.proofs.ledger.first_duplicate.Given as goal
 
 -- the marks are those of the widgets so far

@@ -1,5 +1,5 @@
 use Rattle.std.specs.HashSet.{contains}
-use Rattle.nl_decl.specs.Ledger.{same_marked}
+use Rattle.nl_decl.specs.inner.Ledger.{same_marked}
 use Rattle.nl_decl.proofs.Barring.{tells}
 use Rattle.nl_decl.proofs.ledger.is_barred.Goals as goal
 

@@ -1,6 +1,6 @@
 use Rattle.std.proofs.Common.{sym, ◌∙◌}
 use Rattle.std.specs.HashSet.{contains}
-use Rattle.nl_decl.specs.Ledger.{same_marked}
+use Rattle.nl_decl.specs.inner.Ledger.{same_marked}
 use Rattle.nl_decl.proofs.Noting.{one_noted, two_noted}
 use Rattle.nl_decl.proofs.ledger.note.Goals as goal
 

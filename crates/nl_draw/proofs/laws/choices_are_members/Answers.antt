@@ -1,5 +1,5 @@
-use Rattle.nl_draw.proofs.Shuffles.{chosen-member}
+use Rattle.nl_draw.proofs.Shuffles.{chosen-member, chosen-at, chosen-map}
 use Rattle.nl_draw.proofs.laws.choices_are_members.Goals as goal
 
 pub returns : goal.returns
-returns c = chosen-member
+returns g c = record { members = chosen-member; indices = chosen-at; map = chosen-map }

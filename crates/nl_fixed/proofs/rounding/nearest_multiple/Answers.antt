@@ -7,11 +7,11 @@ use Rattle.nl_fixed.proofs.rounding.nearest_multiple.Goals as goal
 pub overflow_mul-result : goal.overflow_mul-result
 overflow_mul-result c =
     let count : to_z w128 (of_z w128 c.from.result) ≡ c.args.count = omega (arith, ints) in
-    let product = nearest_product _ _ _ _ _ c.rounded.ensures c.from-2.ensures count (record { sfits = c.rounded.type_inv }) c.requires.above_zero c.requires.narrow c.requires.in_range in
+    let product = nearest_product _ _ _ _ _ c.rounded_quotient.ensures c.from-2.ensures count (record { sfits = c.rounded_quotient.type_inv }) c.requires.above_zero c.requires.narrow c.requires.in_range in
     rw product (nearest_fits c.args.count c.args.step c.requires.above_zero c.requires.narrow c.requires.in_range)
 
 pub returns : goal.returns
 returns c =
     let count : to_z w128 (of_z w128 c.from.result) ≡ c.args.count = omega (arith, ints) in
-    let product = nearest_product _ _ _ _ _ c.rounded.ensures c.from-2.ensures count (record { sfits = c.rounded.type_inv }) c.requires.above_zero c.requires.narrow c.requires.in_range in
+    let product = nearest_product _ _ _ _ _ c.rounded_quotient.ensures c.from-2.ensures count (record { sfits = c.rounded_quotient.type_inv }) c.requires.above_zero c.requires.narrow c.requires.in_range in
     rw product (to_z-of_z w128 _ (nearest_fits c.args.count c.args.step c.requires.above_zero c.requires.narrow c.requires.in_range))

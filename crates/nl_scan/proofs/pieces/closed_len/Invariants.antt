@@ -1,5 +1,5 @@
 use Rattle.std.proofs.Common.{◌≡◌, drop, false}
-use Rattle.nl_scan.specs.Tokens.{closed_length}
+use Rattle.nl_scan.specs.inner.Pieces.{closed_length}
 use Rattle.nl_scan.proofs.Runs.{plus}
 use Rattle.nl_scan.proofs.pieces.closed_len.Given as goal
 

@@ -1,5 +1,5 @@
 use Rattle.std.proofs.Common.{arith, sym, ◌∙◌, ap}
-use Rattle.nl_scan.specs.Tokens.{piece_at}
+use Rattle.nl_scan.specs.inner.Pieces.{piece_at}
 use Rattle.nl_scan.proofs.Cutting.{all_found, bad_met, found_more, gap_over, rest_from}
 use Rattle.nl_scan.proofs.Order.{cut_from-in_order}
 use Rattle.nl_scan.proofs.scanner.cut.Goals as goal

@@ -1,5 +1,6 @@
 use Rattle.std.proofs.Common.{◌≡◌, ◌≤◌, ◌-◌, length, drop}
-use Rattle.nl_scan.specs.Tokens.{cut_from, text_limit}
+use Rattle.nl_scan.specs.Faults.{text_limit}
+use Rattle.nl_scan.specs.inner.Pieces.{cut_from}
 use Rattle.nl_scan.proofs.Cutting.{tokens_first}
 use Rattle.nl_scan.proofs.scanner.cut.Given as goal
 

@@ -1,6 +1,6 @@
 use Rattle.std.proofs.lemmas.List.Sorted.{IsPermutation-refl}
 use Rattle.nl_words.specs.Rows.{rows}
-use Rattle.nl_tree.specs.Samples.{base_whats}
+use Rattle.nl_tree.specs.inner.Samples.{base_whats}
 use Rattle.nl_tree.proofs.SampleRows.{bare_names, bare_rows}
 use Rattle.nl_tree.proofs.tests.bare_program.Goals as goal
 

@@ -1,6 +1,6 @@
 use Rattle.std.proofs.Common.{◌≡◌, take}
 use Rattle.nl_words.specs.Rows.{rows}
-use Rattle.nl_tree.specs.Samples.{base_whats}
+use Rattle.nl_tree.specs.inner.Samples.{base_whats}
 use Rattle.nl_tree.proofs.tests.base_rows.Given as goal
 
 -- the rows so far, and the table that they come from

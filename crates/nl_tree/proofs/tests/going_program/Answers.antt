@@ -1,7 +1,7 @@
 use Rattle.std.proofs.Common.{[], ◌∷◌}
 use Rattle.std.proofs.lemmas.List.Sorted.{IsPermutation-refl}
 use Rattle.nl_tree.specs.Vocabulary.{whats}
-use Rattle.nl_tree.specs.Samples.{declaring, going}
+use Rattle.nl_tree.specs.inner.Samples.{declaring, going}
 use Rattle.nl_tree.proofs.SampleRows.{going_names, going_fits, going_right, going_left}
 use Rattle.nl_tree.proofs.tests.going_program.Goals as goal
 

@@ -1,7 +1,7 @@
 -- The lists are the same where what is left of them is; each call is on less of the first value.
 use Rattle.std.proofs.Common.{◌≡◌, ◌+◌, length}
 use Rattle.nl_value.specs.Plain.{plains}
-use Rattle.nl_value.specs.Weights.{weight, weights}
+use Rattle.nl_value.specs.inner.Weights.{weight, weights}
 use Rattle.nl_value.specs.Views.{plain}
 use Rattle.nl_value.proofs.Sameness.{lists_alike, rest_alike}
 use Rattle.nl_value.proofs.equality.+same.Given as goal

@@ -1,14 +1,15 @@
-use Rattle.std.proofs.Common.{◌++◌, ◌+◌, arith, sym, ◌∙◌, refl}
+use Rattle.std.proofs.Common.{[], ◌++◌, ◌+◌, arith, sym, ◌∙◌, refl}
 use Rattle.std.specs.Prelude.{slice_get}
 use Rattle.nl_tree.specs.Views.{plain}
 use Rattle.nl_tree.specs.Tree.{span, parts}
 use Rattle.nl_tree.specs.Vocabulary.{terms}
 use Rattle.nl_tree.specs.Tokens.{inputs_of}
 use Rattle.nl_tree.specs.Context.{pieces, part_pieces}
-use Rattle.nl_decl.specs.Words.{named}
+use Rattle.nl_tree.specs.Index.{named}
 use Rattle.std.proofs.lemmas.List.{drop_all}
-use Rattle.nl_check.specs.Steps.{steps_of}
-use Rattle.nl_check.specs.Bodies.{or_value, sub_of, first_of, pieces_from, flat_from}
+use Rattle.std.proofs.lemmas.Grind.{common_steps}
+use Rattle.nl_check.specs.inner.Steps.{steps_of}
+use Rattle.nl_check.specs.inner.Bodies.{or_value, sub_of, first_of, pieces_from, flat_from}
 use Rattle.nl_check.proofs.Pieces.{put_more, put_end, word_first, word_alone, word_between, word_node, plain_node, told_again, then_ok, pieces_step, pieces_end, flat_step, flat_end}
 use Rattle.nl_check.proofs.body.Site.+put.Goals as goal
 
@@ -58,6 +59,9 @@ put-returns-in-Some t c =
     let tree = c.args.tree.now in
     told_again table c.args.self.now.inner c.put_word.result c.args.steps.now.items c.put_word.new.steps.items _ _
     (word_node table tree.label tree.span tree.parts c.in-Named.name c.as_bytes.result.now c.as_bytes-in-Some.result.now c.in-Some.word (sym c.label.ensures ∙ c.in-Named.is) c.as_bytes.ensures c.as_bytes-in-Some.ensures c.in-Some.ensures) c.put_word.ensures
+
+pub put-returns-in-None : goal.put-returns-in-None
+put-returns-in-None t c = grind (arith, common_steps, c.use_of.ensures [])
 
 pub put-returns-in_default : goal.put-returns-in_default
 put-returns-in_default t c =

@@ -2,9 +2,9 @@ use Rattle.std.proofs.Common.{◌≡◌, ◌++◌, ◌+◌, ◌*◌}
 use Rattle.nl_tree.specs.Views.{plain}
 use Rattle.nl_tree.specs.Tree.{size, parts}
 use Rattle.nl_tree.specs.Vocabulary.{terms}
-use Rattle.nl_decl.specs.Words.{named}
-use Rattle.nl_check.specs.Steps.{steps_of}
-use Rattle.nl_check.specs.Bodies.{first_of, pieces_from, flat_from}
+use Rattle.nl_tree.specs.Index.{named}
+use Rattle.nl_check.specs.inner.Steps.{steps_of}
+use Rattle.nl_check.specs.inner.Bodies.{first_of, pieces_from, flat_from}
 use Rattle.nl_check.proofs.body.Site.+put.Given as goal
 
 -- each call is on less of the tree, or a step further in the treatment of one node

@@ -5,26 +5,26 @@ use Rattle.nl_draw.proofs.stream.Stream.shuffle.Goals as goal
 
 pub loop-i-init : goal.loop-i-init
 unfolding shuffled
-loop-i-init c = refl
+loop-i-init g c = refl
 
 pub loop-i-preserved : goal.loop-i-preserved
-loop-i-preserved c =
-    let drawn_place = c.draw-place.ensures in
+loop-i-preserved g c =
+    let drawn_other = c.draw-other.ensures in
     rw c.swap.ensures.after
-    (shuffled_from-more c.loop-i.i c.draw-place.result c.loop-i.self c.draw-place.new.self c.loop-i.list
-    c.loop-i-test.true drawn_place.value drawn_place.state
+    (shuffled_from-more c.loop-i.i c.draw-other.result c.loop-i.self c.draw-other.new.self c.loop-i.list
+    c.loop-i-test.true drawn_other.value drawn_other.state
     ∙ c.loop-i.invariant)
 
 pub returns-clause-order : goal.returns-clause-order
-returns-clause-order c =
-    ap (λ (after : List ℕ × ℕ). after.0)
+returns-clause-order g c =
+    ap (λ (after : List g.row.T.Denot × ℕ). after.0)
     (sym (shuffled_from-first _ c.loop-i.list c.loop-i.self (omega arith)) ∙ c.loop-i.invariant)
 
 pub returns-clause-state : goal.returns-clause-state
-returns-clause-state c =
-    ap (λ (after : List ℕ × ℕ). after.1)
+returns-clause-state g c =
+    ap (λ (after : List g.row.T.Denot × ℕ). after.1)
     (sym (shuffled_from-first _ c.loop-i.list c.loop-i.self (omega arith)) ∙ c.loop-i.invariant)
 
 pub returns-clause-permutation : goal.returns-clause-permutation
-returns-clause-permutation c =
-    rw (returns-clause-order c) (shuffled-permutes c.args.list.now c.args.self.now)
+returns-clause-permutation g c =
+    rw (returns-clause-order g c) (shuffled-permutes c.args.list.now c.args.self.now)

@@ -10,8 +10,8 @@ use Rattle.nl_fixed.proofs.number.Num.div.Goals.{then-other-lt0, else-other-lt0}
 pub returns-then-other-eq0 : goal.returns-then-other-eq0
 returns-then-other-eq0 c = quotient_by_zero _ _ (omega (arith, ints))
 
-pub rounded-requires-clause-product : goal.rounded-requires-clause-product
-rounded-requires-clause-product c = elim c.if-other-lt0.branch [ then-other-lt0 w ↦ omega (arith, ints) | else-other-lt0 w ↦ omega (arith, ints) ]
+pub rounded_quotient-requires-clause-product : goal.rounded_quotient-requires-clause-product
+rounded_quotient-requires-clause-product c = elim c.if-other-lt0.branch [ then-other-lt0 w ↦ omega (arith, ints) | else-other-lt0 w ↦ omega (arith, ints) ]
 
 pub returns : goal.returns
 returns c =
@@ -19,8 +19,8 @@ returns c =
     elim c.if-other-lt0.branch [
       | then-other-lt0 w ↦
           (let top : to_z w128 c.if-other-lt0.dividend-bits ≡ neg_ℤ (c.args.self *ℤ pos one) = omega (arith, ints) in
-          c.number_of.ensures ∙ rounded_count _ _ _ _ _ (record { sfits = c.rounded.type_inv }) c.rounded.ensures top size ∙ quotient_by_negative _ _ (omega (arith, ints)))
+          c.number_of.ensures ∙ rounded_count _ _ _ _ _ (record { sfits = c.rounded_quotient.type_inv }) c.rounded_quotient.ensures top size ∙ quotient_by_negative _ _ (omega (arith, ints)))
       | else-other-lt0 w ↦
           (let top : to_z w128 c.if-other-lt0.dividend-bits ≡ c.args.self *ℤ pos one = omega (arith, ints) in
-          c.number_of.ensures ∙ rounded_count _ _ _ _ _ (record { sfits = c.rounded.type_inv }) c.rounded.ensures top size ∙ quotient_by_positive _ _ (λ e. omega (arith, ints)) (omega (arith, ints)))
+          c.number_of.ensures ∙ rounded_count _ _ _ _ _ (record { sfits = c.rounded_quotient.type_inv }) c.rounded_quotient.ensures top size ∙ quotient_by_positive _ _ (λ e. omega (arith, ints)) (omega (arith, ints)))
     ]

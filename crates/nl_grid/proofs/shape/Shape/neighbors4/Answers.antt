@@ -2,6 +2,8 @@ use Rattle.std.proofs.Common.{◌≤◌, length, length-set, take, ap, sym, subs
 use Rattle.nl_grid.specs.Geometry.{is_in_line}
 use Rattle.nl_grid.proofs.WalkLemmas.{pick_begins, pick_keeps, pick_skips, pick_ends, room_to_pick, in_line_are}
 use Rattle.nl_grid.proofs.FewLemmas.{neighbors4_few}
+use Rattle.nl_grid.specs.Geometry.{ArePatchesOf}
+use Rattle.nl_grid.proofs.LawLemmas.{neighbors4_of_world}
 use Rattle.nl_grid.proofs.shape.Shape.neighbors4.Goals as goal
 use Rattle.nl_grid.proofs.shape.Shape.neighbors4.Goals.{then-is_in_line, else-is_in_line}
 
@@ -43,4 +45,11 @@ returns c =
     let list = take c.neighbors-found.result c.neighbors-found.new.out in
     let ends = pick_ends test list c.loop-other.out c.loop-other.other-index c.loop-other.count c.loop-other.invariant c.loop-other-test.false in
     let all = in_line_are c.args.self.now c.args.patch list c.neighbors-found.ensures.patches in
-    record { count = ends.1 ∙ ap length all; patches = ends.0 ∙ all }
+    let count = ends.1 ∙ ap length all in
+    let patches = ends.0 ∙ all in
+    record {
+      count = count;
+      few = omega (arith, count, neighbors4_few c.args.self.now c.args.patch c.requires);
+      world = subst (ArePatchesOf c.args.self.now) (sym patches) (neighbors4_of_world c.args.self.now c.args.patch);
+      patches = patches;
+    }

@@ -1,5 +1,5 @@
-use Rattle.nl_parse.specs.Reading.{mode_of, mode_names}
-use Rattle.nl_parse.specs.State.{state_of, names_of, stack_of}
+use Rattle.nl_reading.specs.inner.Reading.{mode_of, mode_names}
+use Rattle.nl_parse.specs.inner.State.{state_of, names_of, stack_of}
 use Rattle.nl_grammar.proofs.Over.{ends_over, tree_over}
 use Rattle.nl_parse.proofs.reader.Reader.finish.Goals as goal
 

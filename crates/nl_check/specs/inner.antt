@@ -1,0 +1,10 @@
+pub mod Bodies
+pub mod Calls
+pub mod Faults
+pub mod Given
+pub mod Judged
+pub mod Kinds
+pub mod Reach
+pub mod Samples
+pub mod Steps
+pub mod Tables

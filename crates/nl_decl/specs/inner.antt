@@ -1,0 +1,4 @@
+pub mod Claiming
+pub mod Gathering
+pub mod Ledger
+pub mod Marks

@@ -1,0 +1,10 @@
+pub mod Begins
+pub mod Counting
+pub mod Heard
+pub mod Known
+pub mod Lawful
+pub mod Lengths
+pub mod NamesOf
+pub mod Owning
+pub mod Places
+pub mod Taken

@@ -1,0 +1,5 @@
+pub mod Around
+pub mod Asked
+pub mod State
+pub mod Steps
+pub mod Stops

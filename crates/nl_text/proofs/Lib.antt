@@ -1,0 +1,3 @@
+pub mod Meant
+mod Numbers
+mod Split

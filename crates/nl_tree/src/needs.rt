@@ -1,0 +1,30 @@
+//! What words read, and what ends statements.
+
+/// What a block holds.
+#[derive(Clone, Copy, Debug, Drop, PartialEq, Eq)]
+pub enum Block {
+    Commands,
+    /// One expression.
+    Reporter,
+}
+
+/// What a word reads at one place.
+#[derive(Clone, Copy, Debug, Drop, PartialEq, Eq)]
+pub enum Need {
+    /// A call with its inputs, or what is closed.
+    Item,
+    /// An expression with all its operators.
+    Whole,
+    Within(Block),
+    /// A block of commands that may be missing.
+    Maybe,
+    /// The name of a variable.
+    Variable,
+}
+
+/// What ends statements: the bracket of their block, or the end of the text.
+#[derive(Clone, Copy, Debug, Drop, PartialEq, Eq)]
+pub enum Ending {
+    AtBracket,
+    AtEnd,
+}

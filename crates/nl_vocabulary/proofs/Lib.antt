@@ -1,0 +1,3 @@
+mod Joining
+mod Sets
+pub mod Rows
