@@ -95,7 +95,7 @@ fn many_names(alloc: Global, count: u64) -> Result<String, Fail> {
         let statement = format!(in alloc; "let n{number} i{number}\n")?;
         lets.push_str(statement.as_str())?;
     }
-    let last = count - 1;
+    let last = count.saturating_sub(1);
     Ok(format!(in alloc; "to a [ {inputs}]\n{lets}show i0 + i{last} + n0 + n{last} end")?)
 }
 
