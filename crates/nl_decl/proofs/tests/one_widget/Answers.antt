@@ -2,4 +2,4 @@ use Rattle.nl_decl.proofs.WidgetExamples.{speed_is_a_widget}
 use Rattle.nl_decl.proofs.tests.one_widget.Goals as goal
 
 pub returns : goal.returns
-returns c = rw (c.in_ok-push.ensures.ok, c.empty-names.ensures, c.in_ok-name.ensures) speed_is_a_widget
+returns c = rw (c.in_ok-push.ensures.ok, c.empty-names.ensures, c.in_ok-name.ensures.ok) speed_is_a_widget
