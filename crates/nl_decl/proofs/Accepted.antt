@@ -10,19 +10,14 @@ use Rattle.nl_tree.specs.declared.declared.Declared.{Declared}
 use Rattle.nl_tree.specs.Tokens.{Lexeme, IsLexeme}
 use Rattle.nl_tree.specs.Vocabulary.{breed_terms, counted, procedure_term}
 use Rattle.nl_tree.specs.Names.{are_distinct, are_apart, all_names, breeds_names, procedures_names, directions_fit, AreWidgets}
-use Rattle.nl_outline.specs.declared.declaration.Sort.{Sort}
-use Rattle.nl_outline.specs.declared.declaration.Owner.{Owner}
 use Rattle.nl_outline.specs.declared.declaration.Owner.TheVariants as owner
 use Rattle.nl_outline.specs.declared.declaration.Declaration.{Declaration}
-use Rattle.nl_decl.specs.declared.claims.Claim.{Claim}
-use Rattle.nl_decl.specs.declared.claims.Claim.TheVariants as claim
 use Rattle.nl_outline.specs.Declarations.{AreDeclarations}
-use Rattle.nl_decl.specs.Gathered.{Gathers, owned_in}
-use Rattle.nl_decl.specs.Claims.{claims, claim_of_owner, duplicate_in}
+use Rattle.nl_decl.specs.Gathered.{Gathers}
+use Rattle.nl_decl.specs.Claims.{claims, duplicate_in}
 use Rattle.nl_decl.specs.Accepted.{AcceptedWhereNoneIsTwice}
 use Rattle.nl_decl.proofs.Often.{often}
-use Rattle.nl_decl.proofs.Clashes.{claimed}
-use Rattle.nl_decl.proofs.Linked.{sorts_in, globals_claimed, owned_claimed, breed_owned, breeds_claimed, procedures_claimed, EachBreed, EachProcedure}
+use Rattle.nl_decl.proofs.Linked.{sorts_in, globals_claimed, turtles_claimed, patches_claimed, links_claimed, breed_owned, breeds_claimed, procedures_claimed, EachBreed, EachProcedure}
 use Rattle.nl_decl.proofs.MadeWords.{names_of, words_claimed}
 use Rattle.nl_decl.proofs.Once.{built_in}
 use Rattle.nl_decl.proofs.Differ.{IsClaimed, no_duplicate}
@@ -30,16 +25,12 @@ use Rattle.nl_decl.proofs.Named.{all_named, all_both, declarations_named, global
 use Rattle.nl_decl.proofs.Sizes.{own_total, owned_total, breeds_names_length, total_within}
 
 module _ (ls : List Lexeme) (ds : List Declaration) (widgets : List (List ℕ)) (d : Declared) (spelt : AreDeclarations ls ds) (g : Gathers widgets ds d) where
-  -- the variables of all agents of one kind
-  kind_claimed : (o : Owner) (c : Claim) (n : List ℕ) → ((sorts : List Sort) → claim_of_owner sorts o ≡ c) → often n (owned_in o ds) ≤ claimed c n (claims ds)
-  kind_claimed o c n is = owned_claimed (sorts_in ds) o c n (λ breeds sorts more word fit all by. is sorts) [] [] 0 0 ds ls spelt refl refl
-
   all_claimed : IsClaimed d (claims ds)
   all_claimed = record {
     globals = λ n. omega (arith, ap (often n) g.1, globals_claimed n [] 0 0 ds);
-    turtles = λ n. omega (arith, ap (often n) g.2, kind_claimed owner.AllTurtles claim.Turtles n (λ sorts. refl));
-    patches = λ n. omega (arith, ap (often n) g.3, kind_claimed owner.AllPatches claim.Patches n (λ sorts. refl));
-    links = λ n. omega (arith, ap (often n) g.4, kind_claimed owner.AllLinks claim.Links n (λ sorts. refl));
+    turtles = λ n. omega (arith, ap (often n) g.2, turtles_claimed ds ls n spelt);
+    patches = λ n. omega (arith, ap (often n) g.3, patches_claimed ds ls n spelt);
+    links = λ n. omega (arith, ap (often n) g.4, links_claimed ds ls n spelt);
     breeds = subst (EachBreed (claims ds)) (sym g.5) (breeds_claimed (claims ds) (sorts_in ds) ds (λ j s is n. breed_owned ds ls j s n spelt is) [] 0 ds refl refl);
     procedures = subst (EachProcedure (claims ds)) (sym g.6) (procedures_claimed (claims ds) [] 0 0 ds (λ c n. omega arith));
     words = λ n. omega (arith, ap (λ (bs : List Breed). often n (names_of (breed_terms 1 bs))) g.5, ap (λ (ps : List Procedure). often n (names_of (counted procedure_term 0 ps))) g.6, words_claimed n ds 1 0 0 [] 0 0 ds);

@@ -4,8 +4,8 @@ use Rattle.std.specs.Prelude.{codes, slice_get}
 use Rattle.std.specs.List.{list_all}
 use Rattle.nl_outline.specs.declared.declaration.Declaration.{Declaration}
 use Rattle.nl_outline.specs.declared.declaration.Declaration.TheVariants.{Globals, Own, Breed, Procedure}
-use Rattle.nl_tree.specs.Tokens.{Lexeme, Word, Close}
-use Rattle.nl_outline.specs.Declarations.{AreDeclarations, words, listed, listed_or_none, word_of_procedure, is_end, begins_open, is_body, Spells, SpellAll}
+use Rattle.nl_tree.specs.Tokens.{Lexeme, Word}
+use Rattle.nl_outline.specs.Declarations.{AreDeclarations, listed_or_none, word_of_procedure, is_end, begins_open, is_body, Spells, SpellAll}
 use Rattle.nl_outline.specs.Lengths.{inputs_length, length_of}
 use Rattle.nl_decl.specs.Gathered.{procedure_at, procedures_from}
 use Rattle.nl_decl.specs.Bodies.{place_of, places_from, LieFrom}

@@ -24,7 +24,7 @@ same_claim (claim.LinkBreed i) (claim.LinkBreed j) = i == j
 same_claim (claim.Input i) (claim.Input j) = i == j
 same_claim c e = false
 
-same_claim-is : (c e : Claim) → same_claim c e ≡ true → c ≡ e
+pub same_claim-is : (c e : Claim) → same_claim c e ≡ true → c ≡ e
 same_claim-is claim.Word claim.Word h = refl
 same_claim-is claim.Widget claim.Widget h = refl
 same_claim-is claim.Global claim.Global h = refl
@@ -140,7 +140,7 @@ pub widgets_claimed : (n : List ℕ) (ws : List (List ℕ)) → claimed claim.Wi
 widgets_claimed n [] = refl
 widgets_claimed n (w ∷ ws) = omega (arith, widgets_claimed n ws)
 
-other_claim : (b c : Bool) → b ≡ false → tick (b && c) ≡ 0
+pub other_claim : (b c : Bool) → b ≡ false → tick (b && c) ≡ 0
 other_claim true c h = cc
 other_claim false c h = refl
 

@@ -7,11 +7,13 @@ mod Differ
 mod Linked
 mod MadeWords
 mod Named
+mod NoneTwice
 mod Noting
 mod Often
 mod Once
 mod Sizes
 mod Spread
+mod Untaken
 mod WidgetExamples
 mod Within
 pub mod BodyOrder

@@ -1,5 +1,5 @@
 -- How often a name stands in a list, and what that says of lists whose names differ.
-use Rattle.std.proofs.Common.{◌≡◌, ℕ, ◌+◌, ◌<◌, ◌≤◌, Bool, true, false, cond, not, ◌||◌, List, [], ◌∷◌, ◌++◌, bytes_eq, ap, subst, refl, arith, inl, inr}
+use Rattle.std.proofs.Common.{◌≡◌, ℕ, ◌+◌, ◌<◌, ◌≤◌, Bool, true, false, cond, not, ◌||◌, List, [], ◌∷◌, ◌++◌, bytes_eq, sym, ap, subst, refl, arith, inl, inr}
 use Rattle.std.specs.List.{list_all, filter}
 use Rattle.std.specs.Cmp.{first_so, second_so}
 use Rattle.std.specs.Cmp.Derive.{both_true}
@@ -110,3 +110,22 @@ joined_once n xs ys h k = elim (cases_lt 0 (often n xs)) [
 
 pub joined_none : (n : List ℕ) (xs ys : List (List ℕ)) → often n xs ≡ 0 → often n ys ≡ 0 → often n (joined xs ys) ≡ 0
 joined_none n xs ys h k = omega (arith, often-append n xs (others xs ys), others-le n xs ys, h, k)
+
+-- and a name that stands in either of them stands there
+pub joined_first : (n : List ℕ) (xs ys : List (List ℕ)) → often n xs ≤ often n (joined xs ys)
+joined_first n xs ys = omega (arith, often-append n xs (others xs ys))
+
+keep_step : (n y : List ℕ) (xs zs : List (List ℕ)) (k : ℕ) (p b : Bool) → among y xs ≡ p → bytes_eq y n ≡ b → often n xs ≡ 0 → k ≤ often n zs → tick b + k ≤ often n (cond (not p) (y ∷ zs) zs)
+keep_step n y xs zs k false b is same none later = omega (arith, ap tick same, later)
+keep_step n y xs zs k true true is same none later = let out = none_often y xs (subst (λ m. often m xs ≡ 0) (sym ((bytes_eq-Decides y n).0 same)) none) in cc
+keep_step n y xs zs k true false is same none later = omega (arith, later)
+
+others_all : (n : List ℕ) (xs ys : List (List ℕ)) → often n xs ≡ 0 → often n ys ≤ often n (others xs ys)
+others_all n xs [] none = omega arith
+others_all n xs (y ∷ ys) none = keep_step n y xs (others xs ys) (often n ys) (among y xs) (bytes_eq y n) refl refl none (others_all n xs ys none)
+
+pub joined_second : (n : List ℕ) (xs ys : List (List ℕ)) → 0 < often n ys → 0 < often n (joined xs ys)
+joined_second n xs ys some = elim (cases_lt 0 (often n xs)) [
+  | inl more ↦ omega (arith, often-append n xs (others xs ys), more)
+  | inr none ↦ omega (arith, often-append n xs (others xs ys), others_all n xs ys (omega (arith, none)), some)
+]

@@ -1,15 +1,14 @@
 -- What declarations declare is no more than their tokens.
 use Rattle.std.proofs.Common.{◌≡◌, ℕ, ◌+◌, ◌<◌, ◌≤◌, ◌==◌, Bool, true, false, List, [], ◌∷◌, ◌++◌, length, Option, Some, None, ap, refl, arith, if◌then◌else◌, length-append, codes}
-use Rattle.std.proofs.Math.ListN.{length-map}
 use Rattle.std.proofs.lemmas.Bool.{eqb-true, ne_eqb}
 use Rattle.nl_tree.specs.declared.declared.Breed.{Breed}
-use Rattle.nl_tree.specs.Tokens.{Lexeme, Word, Close}
+use Rattle.nl_tree.specs.Tokens.{Lexeme, Word}
 use Rattle.nl_tree.specs.Names.{breeds_names, procedures_names}
 use Rattle.nl_outline.specs.declared.declaration.Owner.{Owner}
 use Rattle.nl_outline.specs.declared.declaration.Owner.TheVariants as owner
 use Rattle.nl_outline.specs.declared.declaration.Declaration.{Declaration}
 use Rattle.nl_outline.specs.declared.declaration.Declaration.TheVariants as declaration
-use Rattle.nl_outline.specs.Declarations.{plural_of, words, listed, listed_or_none, SpellAll}
+use Rattle.nl_outline.specs.Declarations.{plural_of, listed_or_none, SpellAll}
 use Rattle.nl_outline.specs.Lengths.{length_of}
 use Rattle.nl_outline.specs.Named.{names_of_inputs}
 use Rattle.nl_outline.proofs.Lengths.{listed_length}

@@ -1,4 +1,4 @@
--- Declarations are accepted where no name is declared twice.
+-- Declarations are accepted where no name is declared twice, and only there.
 use Rattle.std.specs.Prelude.{◌≡◌, ◌+◌, ◌^◌, ◌<◌, ◌≤◌, ◌&&◌, IsTrue, List, None, length}
 use Rattle.std.specs.List.{All, list_all}
 use Rattle.nl_fixed.specs.Nouns.{Names}
@@ -19,3 +19,10 @@ AcceptedWhereNoneIsTwice =
     → AreDeclarations ls ds → All IsLexeme ls → length ls ≤ 4194304 → AreWidgets widgets → Gathers widgets ds d → duplicate_in widgets ds ≡ None
     → IsTrue (has_no_duplicate d && list_all is_name (all_names d) && directions_fit d)
     × (length (all_names d) + length d.breeds + length d.procedures < 2 ^ 31)
+
+-- No name is declared twice where what declarations declare in all has no duplicate, whatever the widgets are. So `duplicate_in` finds one
+-- exactly where the test of a model's names does.
+abbrev pub NoneIsTwiceWhereAccepted : Type 0
+NoneIsTwiceWhereAccepted =
+    (ls : List Lexeme) (ds : List Declaration) (widgets : Names) (d : Declared)
+    → AreDeclarations ls ds → Gathers widgets ds d → IsTrue (has_no_duplicate d) → duplicate_in widgets ds ≡ None

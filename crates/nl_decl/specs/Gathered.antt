@@ -1,5 +1,5 @@
 -- What declarations declare in all.
-use Rattle.std.specs.Prelude.{◌≡◌, ℕ, ◌+◌, ◌==◌, Bool, true, false, if◌then◌else◌, List, [], ◌∷◌, ◌++◌, Option, Some, None}
+use Rattle.std.specs.Prelude.{◌≡◌, ℕ, ◌+◌, ◌==◌, Bool, true, false, if◌then◌else◌, List, [], ◌∷◌, ◌++◌, Option}
 use Rattle.nl_fixed.specs.Nouns.{Name, Names}
 use Rattle.nl_tree.specs.declared.declared.Breed as tree
 use Rattle.nl_tree.specs.declared.declared.Procedure as procedure

@@ -1,5 +1,5 @@
 -- What the parts of the collection of claims owe to each other.
-use Rattle.std.specs.Prelude.{◌≡◌, ℕ, ◌+◌, List, [], ◌∷◌, ◌++◌, map, length, Option, if◌then◌else◌}
+use Rattle.std.specs.Prelude.{◌≡◌, ℕ, ◌+◌, List, ◌++◌, map, length, Option, if◌then◌else◌}
 use Rattle.nl_fixed.specs.Nouns.{Name, Names}
 use Rattle.nl_tree.specs.Vocabulary.{Pattern}
 use Rattle.nl_outline.specs.Lengths.{length_of}
