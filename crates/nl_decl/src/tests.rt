@@ -158,6 +158,26 @@ fn bad_declaration_comes_first(rt: HostRuntime) {
     assert!(rt; is_refused(alloc, b"breed [foxes]", false, DeclKind::BadDeclaration, 3));
 }
 
+// Whether so many of each are declared.
+fn are_so_many(declared: &Declared, globals: usize, breeds: usize, procedures: usize) -> bool {
+    declared.globals.as_slice().len() == globals
+        && declared.breeds.as_slice().len() == breeds
+        && declared.procedures.as_slice().len() == procedures
+}
+
+// Whether a word is this construct, or has this role.
+fn is_what(declared: &Declared, name: &[u8], what: What) -> bool
+    requires { IsDeclared declared.now }
+{
+    matches!(word(declared, name), Some(found) if found.what == what)
+}
+
+fn has_role(declared: &Declared, name: &[u8], role: Role) -> bool
+    requires { IsDeclared declared.now }
+{
+    matches!(word(declared, name), Some(found) if found.role == role)
+}
+
 // Each declaration is where it belongs, and words are found by their names.
 #[test]
 fn declarations_are_kept(rt: HostRuntime) {
@@ -165,18 +185,17 @@ fn declarations_are_kept(rt: HostRuntime) {
     let Ok(declared) = declared(rt.alloc(), text, true) else {
         panic!(rt);
     };
-    assert!(rt; declared.globals.as_slice().len() == 1);
-    assert!(rt; declared.breeds.as_slice().len() == 1);
+    assert!(rt; are_so_many(&declared, 1, 1, 1));
     assert!(rt;
         matches!(declared.breeds.as_slice().first(), Some(breed) if breed.own.as_slice().len() == 1)
     );
     assert!(rt;
         matches!(declared.procedures.as_slice().first(), Some(go) if go.first == 18 && go.after == 20)
     );
-    assert!(rt; matches!(word(&declared, b"a"), Some(found) if found.what == What::Global(1)));
-    assert!(rt; matches!(word(&declared, b"speed"), Some(found) if found.what == What::Global(0)));
+    assert!(rt; is_what(&declared, b"a", What::Global(1)));
+    assert!(rt; is_what(&declared, b"speed", What::Global(0)));
     assert!(rt; matches!(word(&declared, b"go"), Some(found) if found.values == 1));
-    assert!(rt; matches!(word(&declared, b"ask"), Some(found) if found.role == Role::Command));
+    assert!(rt; has_role(&declared, b"ask", Role::Command));
     assert!(rt; word(&declared, b"x").is_none());
 }
 
@@ -221,16 +240,10 @@ fn many_names_are_declared(rt: HostRuntime) {
     let Ok(declared) = declared(alloc, text.as_slice(), false) else {
         panic!(rt);
     };
-    assert!(rt; declared.globals.as_slice().len() == 5000);
-    assert!(rt; declared.procedures.as_slice().len() == 5000);
-    assert!(rt; declared.breeds.as_slice().len() == 1000);
-    assert!(rt;
-        matches!(word(&declared, b"p4999"), Some(found) if found.what == What::Procedure(4999))
-    );
-    assert!(rt; matches!(word(&declared, b"g0000"), Some(found) if found.what == What::Global(0)));
-    assert!(rt;
-        matches!(word(&declared, b"hatch-b0999"), Some(found) if found.role == Role::Command)
-    );
+    assert!(rt; are_so_many(&declared, 5000, 1000, 5000));
+    assert!(rt; is_what(&declared, b"p4999", What::Procedure(4999)));
+    assert!(rt; is_what(&declared, b"g0000", What::Global(0)));
+    assert!(rt; has_role(&declared, b"hatch-b0999", Role::Command));
 }
 
 // Behind all that is kept, each fault is told as itself.
