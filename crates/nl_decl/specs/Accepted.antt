@@ -20,8 +20,8 @@ AcceptedWhereNoneIsTwice =
     → IsTrue (has_no_duplicate d && list_all is_name (all_names d) && directions_fit d)
     × (length (all_names d) + length d.breeds + length d.procedures < 2 ^ 31)
 
--- No name is declared twice where what declarations declare in all has no duplicate, whatever the widgets are. So `duplicate_in` finds one
--- exactly where the test of a model's names does.
+-- No name is declared twice where what declarations declare in all has no duplicate, whatever the widgets are. So both laws together say that
+-- none is declared twice exactly where the test of a model's names finds no duplicate.
 abbrev pub NoneIsTwiceWhereAccepted : Type 0
 NoneIsTwiceWhereAccepted =
     (ls : List Lexeme) (ds : List Declaration) (widgets : Names) (d : Declared)
