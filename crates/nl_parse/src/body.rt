@@ -20,7 +20,7 @@ ghost use Rattle.nl_parse.specs.inner.Stops.{StopsAt, StopsIn, first_span};
 ghost use Rattle.nl_reading.specs.inner.Reading.{mode_of};
 ghost use Rattle.nl_parse.specs.inner.State.{state_of};
 
-use crate::reader::{Reader, Refusal};
+use crate::reader::{Reader, Refusal, let_go};
 use nl_fixed::{Names, NoMemory, Span};
 use nl_reading::classes::class_of_word;
 use nl_reading::frames::{Frame, Mode};
@@ -75,7 +75,9 @@ pub fn read_body(
 {
     let inputs = KnownNames::of(alloc, inputs.as_slice())?;
     let mut reader = begin(alloc, form, &inputs, first_place(tokens, end))?;
-    reader.read_whole(text, tokens, end, declared)
+    let read = reader.read_whole(text, tokens, end, declared);
+    let_go(reader);
+    read
 }
 
 // Where the first token stands, or what ends them.
