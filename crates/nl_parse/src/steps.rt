@@ -1,5 +1,5 @@
 //! The next token, in each mode.
-ghost use Rattle.std.specs.Prelude.{◌≡◌, ◌∷◌, suc, nat_lt, OnOk};
+ghost use Rattle.std.specs.Prelude.{◌≡◌, ◌∷◌, suc, nat_lt, true, OnOk};
 ghost use Rattle.std.specs.Result.{IsErrOf};
 ghost use Rattle.nl_tree.specs.Grammar.{top};
 ghost use Rattle.nl_grammar.specs.Machine.{next, without_maybes, st, go, stop, settle, takes_operator, feed_plain, feed_optional, feed_ready, feed_broken, feed_binary, feed_of, feed_have, feed};
@@ -8,7 +8,7 @@ ghost use Rattle.nl_reading.specs.inner.View.{class_of, mark_of, needs_of};
 ghost use Rattle.nl_tree.specs.Tokens.{word, open_bracket};
 ghost use Rattle.nl_reading.specs.inner.Reading.{mode_of, mode_names};
 ghost use Rattle.nl_parse.specs.inner.State.{stack_of, names_of, state_of};
-ghost use Rattle.nl_parse.specs.inner.Steps.{Follows, FollowsLate};
+ghost use Rattle.nl_parse.specs.inner.Steps.{Follows, FollowsLate, sees_first};
 ghost use Rattle.nl_parse.specs.inner.Asked.{feed_missing, is_in_call};
 
 use crate::reader::{Reader, Refusal, refuse};
@@ -25,6 +25,9 @@ impl<'a> Reader<'a> {
     pub fn feed(&mut self, mark: Mark) -> Result<(), Refusal>
         ensures ok { OnOk result (feed (state_of self.old) (mark_of mark) ≡ go (state_of self.new)) }
         ensures fault { IsErrOf result Unexpected → feed (state_of self.old) (mark_of mark) ≡ stop }
+        ensures told { sees_first (mode_of self.old.mode) ≡ true →
+            feed (state_of self.old) (mark_of mark) ≡ stop →
+            IsErrOf result Unexpected }
     {
         match self.take_mode() {
             Mode::Have(shape, tree) => self.feed_have(shape, tree, mark),
@@ -45,8 +48,14 @@ impl<'a> Reader<'a> {
 
     // A token in this mode, where no chain is at hand.
     fn feed_ready(&mut self, mode: Mode, mark: Mark) -> Result<(), Refusal>
-        ensures { FollowsLate result self.old self.new
+        ensures steps { FollowsLate result self.old self.new
             (λ e K. feed_ready (st (mode_of mode) (mode_names mode e) K) (mark_of mark)) }
+        ensures told { sees_first (mode_of mode) ≡ true →
+            feed_ready
+            (st (mode_of mode) (mode_names mode (names_of self.old)) (stack_of self.old))
+            (mark_of mark)
+            ≡ stop →
+            IsErrOf result Unexpected }
     {
         match mode {
             Mode::Optional => self.feed_optional(mark),

@@ -1,8 +1,8 @@
 -- What a step of the reader does, beside one of the machine.
-use Rattle.std.specs.Prelude.{◌≡◌, List, Result, OnOk}
+use Rattle.std.specs.Prelude.{◌≡◌, Bool, true, false, List, Result, OnOk}
 use Rattle.std.specs.Result.{IsErrOf}
 use Rattle.nl_fixed.specs.Nouns.{Names}
-use Rattle.nl_grammar.specs.Machine.{Frame, State, Step, go, stop}
+use Rattle.nl_grammar.specs.Machine.{Frame, Mode, Have, Optional, State, Step, go, stop}
 use Rattle.nl_parse.specs.inner.State.{names_of, stack_of, state_of}
 use Rattle.nl_parse.specs.declared.reader.Reader.{Reader}
 use Rattle.nl_parse.specs.declared.reader.Refusal.{Refusal}
@@ -20,6 +20,12 @@ Follows result old new step =
     OnOk result (step (names_of old) (stack_of old) ≡ go (state_of new))
     × (IsErrOf result Unexpected → step (names_of old) (stack_of old) ≡ stop)
     × (step (names_of old) (stack_of old) ≡ stop → IsErrOf result Unexpected)
+
+-- in such a mode the reader sees where the machine stops before it wants memory: no chain has to be ended first, and no block to be left out
+abbrev pub sees_first : Mode → Bool
+sees_first (Have x t) = false
+sees_first Optional = false
+sees_first m = true
 
 -- the reader comes to this state, which the machine reaches of the names that it knew and of what it had open
 abbrev pub Reaches : Result (Unit {0}) Refusal → Reader → Reader → (Names → List Frame → State) → Type 0
