@@ -224,7 +224,10 @@ impl<'a> Reader<'a> {
     {
         match self.take_mode() {
             Mode::Over(tree) => Some(tree),
-            _ => None,
+            other => {
+                let_go(other);
+                None
+            }
         }
     }
 }

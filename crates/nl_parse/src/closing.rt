@@ -1,7 +1,7 @@
 //! Tokens behind what is at hand, and those of lists.
 ghost use Rattle.std.specs.Prelude.{◌≡◌, ℕ, List, [], ◌∷◌, OnOk};
 ghost use Rattle.nl_fixed.specs.Nouns.{Names};
-ghost use Rattle.nl_tree.specs.Grammar.{leaf, and_last};
+ghost use Rattle.nl_tree.specs.Grammar.{leaf, and_last, one};
 ghost use Rattle.nl_tree.specs.Tokens.{Tok, close_paren, word};
 ghost use Rattle.std.specs.Result.{IsErrOf};
 ghost use Rattle.nl_grammar.specs.Machine.{go, stop, feed_blocked, feed_items, feed_listing, feed_bracket, feed_paren, feed_minus, feed_reporter, feed_whole, feed_shut, feed_ended, st, Listing, InList};
@@ -191,7 +191,6 @@ impl<'a> Reader<'a> {
     }
 
     // A token behind an expression in a bracket: a literal is an item of a list, and anything else makes it a block.
-    #[tactic(auto, using(crate::proofs::Stacked::no_item, crate::proofs::Stacked::an_item))]
     fn feed_bracket(
         &mut self,
         shape: Shape,
@@ -203,11 +202,7 @@ impl<'a> Reader<'a> {
             (λ e K. feed_bracket shape tree bracket e K (mark_of mark)) }
     {
         if let Shape::Literal = shape {
-            if !may_follow_item(&mark) {
-                return Err(Refusal::Unexpected);
-            }
-            let items = Grouped::of(self.alloc, tree)?;
-            return self.feed_items(bracket, items, mark);
+            return self.feed_literal(tree, bracket, mark);
         }
         match mark {
             Mark::CloseBracket(_) => {
@@ -217,6 +212,19 @@ impl<'a> Reader<'a> {
             }
             other => refuse(other),
         }
+    }
+
+    // A token behind a literal in a bracket.
+    #[tactic(auto, using(crate::proofs::Stacked::no_item, crate::proofs::Stacked::an_item))]
+    fn feed_literal(&mut self, tree: Grown, bracket: Span, mark: Mark) -> Result<(), Refusal>
+        ensures { Follows result self.old self.new
+            (λ e K. feed_items bracket (one tree) e K (mark_of mark)) }
+    {
+        if !may_follow_item(&mark) {
+            return refuse(mark);
+        }
+        let items = Grouped::of(self.alloc, tree)?;
+        self.feed_items(bracket, items, mark)
     }
 
     // A token behind an expression in parentheses: a call may have more items than its usual number.

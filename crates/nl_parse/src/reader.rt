@@ -72,7 +72,10 @@ impl<'a> Reader<'a> {
     {
         match self.stack.push(frame) {
             Ok(()) => Ok(()),
-            Err(_) => Err(Refusal::NoMemory),
+            Err(refused) => {
+                let_go(refused);
+                Err(Refusal::NoMemory)
+            }
         }
     }
 

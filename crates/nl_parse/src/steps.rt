@@ -100,31 +100,13 @@ impl<'a> Reader<'a> {
         ensures { FollowsLate result self.old self.new (λ e K. feed_missing e K (mark_of mark)) }
     {
         match self.take() {
-            Some(Frame::Call(head, inputs, _, rest, last)) => self.feed_without(
-                head, inputs, rest, last, mark,
-            ),
+            Some(Frame::Call(head, inputs, _, rest, last)) => {
+                self.next(head, inputs, rest.without_maybes(), last)?;
+                let mode = self.take_mode();
+                self.feed_plain(mode, mark)
+            }
             other => refuse(other),
         }
-    }
-
-    // The same in this call.
-    fn feed_without(
-        &mut self,
-        head: Head,
-        inputs: Grouped,
-        rest: Inputs,
-        last: Last,
-        mark: Mark,
-    ) -> Result<(), Refusal>
-        ensures { FollowsLate result self.old self.new
-            (λ e K.
-            feed_plain
-            (next head.name head.place inputs (without_maybes (needs_of rest)) last e K)
-            (mark_of mark)) }
-    {
-        self.next(head, inputs, rest.without_maybes(), last)?;
-        let mode = self.take_mode();
-        self.feed_plain(mode, mark)
     }
 
     // A token in this mode, where no chain is at hand and no block may be missing.
