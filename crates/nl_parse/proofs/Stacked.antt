@@ -9,8 +9,8 @@ use Rattle.nl_tree.specs.declared.needs.Need.{Need}
 use Rattle.nl_grammar.specs.declared.pending.Shape.{Shape}
 use Rattle.nl_grammar.specs.declared.pending.Shape.TheVariants.{Literal}
 use Rattle.nl_grammar.specs.declared.pending.Last.TheVariants as lasts
-use Rattle.nl_grammar.specs.Machine.{Have, closed, end_list, Frame, InNear, InCall, InItems, InLet, InMany, InOf, InList, InBracket, Begin, Listing, st, go, stop, next, begin_call, begin_many, begin_bracket, feed_of, InStatements, InStatementParen, begins_statement, feed_statement, feed_stating, feed_optional, feed_items, Stating, accept, Shut, end_statement, Ended, got, settle}
-use Rattle.nl_parse.specs.inner.Asked.{more_sides, is_at_side, is_in_list, is_in_call, is_waiting, is_in_parens, may_follow_item, feed_missing, is_stating, ends_newest}
+use Rattle.nl_grammar.specs.Machine.{Have, closed, end_list, Frame, InNear, InCall, InItems, InLet, InMany, InOf, InList, InBracket, Begin, Listing, st, go, stop, next, begin_call, begin_many, begin_bracket, feed_of, InStatements, InStatementParen, begins_statement, feed_statement, feed_stating, feed_optional, feed_items, Stating, accept, Shut, got, settle}
+use Rattle.nl_parse.specs.inner.Asked.{more_sides, is_at_side, is_in_list, is_in_call, is_waiting, may_follow_item, feed_missing, is_stating, ends_newest}
 use Rattle.nl_tree.specs.declared.needs.Ending.TheVariants.{AtBracket}
 use Rattle.nl_reading.specs.inner.View.{mark_of}
 use Rattle.nl_reading.specs.declared.marks.Mark.{Mark}
@@ -106,10 +106,6 @@ not_waiting x t e (InMany w s ts (suc n) ∷ K) h = cc h
 not_waiting x t e (InItems p l s ts ∷ K) h = cc h
 not_waiting x t e (InLet w s n r ∷ K) h = cc h
 not_waiting x t e K h = refl
-
-pub in_parens : (t : Node) (e : List (List ℕ)) (K : List Frame) → is_in_parens K ≡ true → end_statement t e K ≡ st (Ended t) e K
-in_parens t e (InStatementParen s ∷ K) h = refl
-in_parens t e K h = cc h
 
 -- Items of literal lists.
 

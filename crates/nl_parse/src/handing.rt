@@ -1,5 +1,5 @@
 //! Trees handed to what waits for them.
-ghost use Rattle.std.specs.Prelude.{◌≡◌, ◌∷◌, List, false, OnOk, IfOk};
+ghost use Rattle.std.specs.Prelude.{◌≡◌, ◌∷◌, List, OnOk, IfOk};
 ghost use Rattle.nl_fixed.specs.Nouns.{Names};
 ghost use Rattle.nl_tree.specs.Tree.{node};
 ghost use Rattle.nl_tree.specs.Grammar.{and_last, leaf, two};
@@ -12,7 +12,7 @@ ghost use Rattle.nl_parse.specs.declared.reader.Refusal.TheVariants.{Unexpected}
 ghost use Rattle.nl_reading.specs.inner.View.{needs_of};
 ghost use Rattle.nl_reading.specs.inner.Reading.{frame_of, maybe_over};
 ghost use Rattle.nl_parse.specs.inner.State.{stack_of, names_of, state_of};
-ghost use Rattle.nl_parse.specs.inner.Asked.{ends_newest, is_in_parens, is_waiting};
+ghost use Rattle.nl_parse.specs.inner.Asked.{ends_newest, is_waiting};
 ghost use Rattle.nl_parse.specs.inner.Steps.{Reaches};
 
 use crate::reader::{Reader, Refusal};
@@ -25,32 +25,8 @@ use nl_tree::Label;
 
 impl<'a> Reader<'a> {
     /// Ends a statement that makes this name.
-    #[tactic(auto, using(crate::proofs::Stacked::in_parens))]
-    pub fn end_statement(&mut self, tree: Grown, made: Option<Str>) -> Result<(), Refusal>
-        ensures { Reaches result self.old self.new
-            (λ e K. end_statement tree (maybe_over made e) K) }
-    {
-        if self.is_in_parens() {
-            self.turn(Mode::Ended(tree, made));
-            return Ok(());
-        }
-        self.another_statement(tree, made)
-    }
-
-    // Whether a statement in parentheses is read.
-    fn is_in_parens(&self) -> bool
-        ensures { result ≡ is_in_parens (stack_of self.now) }
-    {
-        match self.newest() {
-            Some(Frame::StatementParen(_)) => true,
-            _ => false,
-        }
-    }
-
-    // The same where it is in no parentheses of its own.
     #[tactic(auto, using(nl_reading::proofs::Framed::made_push))]
-    fn another_statement(&mut self, tree: Grown, made: Option<Str>) -> Result<(), Refusal>
-        requires { is_in_parens (stack_of self.old) ≡ false }
+    pub fn end_statement(&mut self, tree: Grown, made: Option<Str>) -> Result<(), Refusal>
         ensures { Reaches result self.old self.new
             (λ e K. end_statement tree (maybe_over made e) K) }
     {
@@ -66,6 +42,11 @@ impl<'a> Reader<'a> {
                     Mode::Stating,
                     Frame::Statements(bracket, ending, names, statements),
                 )
+            }
+            Some(Frame::StatementParen(bracket)) => {
+                self.put_back(Frame::StatementParen(bracket));
+                self.turn(Mode::Ended(tree, made));
+                Ok(())
             }
             other => {
                 self.turn(Mode::Dead(other, made));

@@ -36,11 +36,6 @@ is_waiting (InItems p l s ts ∷ K) = true
 is_waiting (InLet w s n r ∷ K) = true
 is_waiting K = false
 
--- a statement in parentheses is read
-abbrev pub is_in_parens : List Frame → Bool
-is_in_parens (InStatementParen s ∷ K) = true
-is_in_parens K = false
-
 -- the token may stand behind an item of a literal list
 abbrev pub may_follow_item : Tok → Bool
 may_follow_item (number n s) = true
