@@ -4,13 +4,17 @@ use Rattle.nl_fixed.specs.declared.span.Span.{Span}
 use Rattle.nl_tree.specs.Tree.{Node, Nodes, node, none, more}
 use Rattle.nl_tree.specs.declared.tree.Label.TheVariants as label
 use Rattle.nl_reading.specs.inner.Limit.{is_one}
-use Rattle.nl_tree.specs.Tokens.{Tok, word, open_paren}
+use Rattle.nl_tree.specs.Tokens.{Tok, Constant, number, text, word, open_bracket, close_bracket, open_paren}
 use Rattle.nl_tree.specs.declared.needs.Need.{Need}
 use Rattle.nl_grammar.specs.declared.pending.Shape.{Shape}
 use Rattle.nl_grammar.specs.declared.pending.Shape.TheVariants.{Literal}
 use Rattle.nl_grammar.specs.declared.pending.Last.TheVariants as lasts
-use Rattle.nl_grammar.specs.Machine.{Have, closed, end_list, Frame, InNear, InMany, InOf, InList, InBracket, Begin, Listing, st, go, stop, next, begin_call, begin_many, begin_bracket, feed_of, InStatements, InStatementParen, begins_statement, feed_statement, feed_stating, got, settle}
-use Rattle.nl_parse.specs.inner.Asked.{more_sides, is_at_side, is_in_list, is_stating, ends_newest}
+use Rattle.nl_grammar.specs.Machine.{Have, closed, end_list, Frame, InNear, InCall, InItems, InLet, InMany, InOf, InList, InBracket, Begin, Listing, st, go, stop, next, begin_call, begin_many, begin_bracket, feed_of, InStatements, InStatementParen, begins_statement, feed_statement, feed_stating, feed_optional, feed_items, Stating, accept, Shut, got, settle}
+use Rattle.nl_parse.specs.inner.Asked.{more_sides, is_at_side, is_in_list, is_in_call, is_waiting, may_follow_item, feed_missing, is_stating, ends_newest}
+use Rattle.nl_tree.specs.declared.needs.Ending.TheVariants.{AtBracket}
+use Rattle.nl_reading.specs.inner.View.{mark_of}
+use Rattle.nl_reading.specs.declared.marks.Mark.{Mark}
+use Rattle.nl_reading.specs.declared.marks.Mark.TheVariants as marks
 
 pub no_call : (w : List ℕ) (s : Span) (is : List Need) (e : List (List ℕ)) (K : List Frame) → more_sides K ≡ true → begin_call w s is e K ≡ stop
 no_call w s is e (InNear v r ts (suc n) ∷ K) h = refl
@@ -55,6 +59,21 @@ no_block w s r none e K h = refl
 no_block w s r (more t none) e K h = cc h
 no_block w s r (more t (more u ts)) e K h = refl
 
+-- Blocks that may be missing.
+
+pub in_no_call : (r : Span) (e : List (List ℕ)) (K : List Frame) → is_in_call K ≡ false → feed_optional e K (open_bracket r) ≡ stop
+in_no_call r e (InCall w s ts i is last ∷ K) h = cc h
+in_no_call r e K h = refl
+
+pub a_missing : (r : Span) (e : List (List ℕ)) (K : List Frame) → is_in_call K ≡ true → feed_optional e K (open_bracket r) ≡ go (st Stating e (InStatements r AtBracket e none ∷ K))
+a_missing r e (InCall w s ts i is last ∷ K) h = refl
+a_missing r e K h = cc h
+
+pub missing : (e : List (List ℕ)) (K : List Frame) (m : Mark) → ((r : Span) → m ≡ marks.OpenBracket r → ⊥) → feed_optional e K (mark_of m) ≡ feed_missing e K (mark_of m)
+missing e (InCall w s ts i is last ∷ K) (marks.OpenBracket r) h = absurd (h r refl)
+missing e (InCall w s ts i is last ∷ K) m h = refl
+missing e K m h = refl
+
 -- Statements.
 
 pub not_stating : (e : List (List ℕ)) (K : List Frame) (tok : Tok) → is_stating K ≡ false → feed_stating e K tok ≡ stop
@@ -78,3 +97,30 @@ no_statement e K tok h = refl
 pub nothing_ends : (l : ℕ) (x : Shape) (t : Node) (K : List Frame) → ends_newest l K ≡ false → settle l x t K ≡ got x t K
 nothing_ends l x t [] h = refl
 nothing_ends l x t (f ∷ K) h = rw (h, settle) refl
+
+-- What waits for an expression.
+
+pub not_waiting : (x : Shape) (t : Node) (e : List (List ℕ)) (K : List Frame) → is_waiting K ≡ false → accept x t e K ≡ st (Shut x t) e K
+not_waiting x t e (InCall w s ts i is last ∷ K) h = cc h
+not_waiting x t e (InMany w s ts (suc n) ∷ K) h = cc h
+not_waiting x t e (InItems p l s ts ∷ K) h = cc h
+not_waiting x t e (InLet w s n r ∷ K) h = cc h
+not_waiting x t e K h = refl
+
+-- Items of literal lists.
+
+pub no_item : (s : Span) (ts : Nodes) (e : List (List ℕ)) (K : List Frame) (tok : Tok) → may_follow_item tok ≡ false → feed_items s ts e K tok ≡ stop
+no_item s ts e K (number n r) h = cc h
+no_item s ts e K (text bytes r) h = cc h
+no_item s ts e K (word w Constant r) h = cc h
+no_item s ts e K (open_bracket r) h = cc h
+no_item s ts e K (close_bracket r) h = cc h
+no_item s ts e K tok h = refl
+
+pub an_item : (s : Span) (ts : Nodes) (e : List (List ℕ)) (K : List Frame) (tok : Tok) → may_follow_item tok ≡ true → feed_items s ts e K tok ≡ stop → ⊥
+an_item s ts e K (number n r) h q = cc q
+an_item s ts e K (text bytes r) h q = cc q
+an_item s ts e K (word w Constant r) h q = cc q
+an_item s ts e K (open_bracket r) h q = cc q
+an_item s ts e K (close_bracket r) h q = cc q
+an_item s ts e K tok h q = cc h

@@ -15,8 +15,8 @@ ghost use Rattle.nl_tree.specs.Tokens.{word};
 ghost use Rattle.nl_tree.specs.Grammar.{leaf};
 ghost use Rattle.nl_tree.specs.declared.tree.Label.TheVariants as label;
 
-use crate::reader::{Reader, Refusal, refuse};
-use nl_fixed::{NoMemory, Span};
+use crate::reader::{Reader, Refusal, let_go, refuse};
+use nl_fixed::Span;
 use nl_grammar::{Last, Shape};
 use nl_reading::frames::{Frame, Mode};
 use nl_reading::marks::{Class, Head, Inputs, Mark};
@@ -31,21 +31,16 @@ impl<'a> Reader<'a> {
         match mark {
             Mark::Number(number, place) => {
                 let tree = Grown::leaf(self.alloc, Label::Number(number), place);
-                self.closed(Shape::Literal, tree)?;
-                Ok(())
+                self.closed(Shape::Literal, tree)
             }
             Mark::Text(text, place) => {
                 let tree = Grown::leaf(self.alloc, Label::Text(text), place);
-                self.closed(Shape::Literal, tree)?;
-                Ok(())
+                self.closed(Shape::Literal, tree)
             }
             Mark::Word(head, class) => self.begin_word(head, class),
             Mark::OpenBracket(place) => self.begin_bracket(place),
             Mark::CloseBracket(_) => self.end_bracket(),
-            Mark::OpenParen(place) => {
-                self.enter(Mode::Begin, Frame::Paren(place))?;
-                Ok(())
-            }
+            Mark::OpenParen(place) => self.enter(Mode::Begin, Frame::Paren(place)),
             Mark::CloseParen(_) => self.end_many(),
             Mark::End(_) => Err(Refusal::Unexpected),
         }
@@ -58,24 +53,14 @@ impl<'a> Reader<'a> {
     {
         match class {
             Class::Unknown => self.begin_local(head),
-            Class::Constant => {
-                self.begin_leaf(head, Shape::Literal)?;
-                Ok(())
-            }
-            Class::Plain => {
-                self.begin_leaf(head, Shape::Fixed)?;
-                Ok(())
-            }
-            Class::Named => {
-                self.begin_leaf(head, Shape::Fixed)?;
-                Ok(())
-            }
+            Class::Constant => self.begin_leaf(head, Shape::Literal),
+            Class::Plain => self.begin_leaf(head, Shape::Fixed),
+            Class::Named => self.begin_leaf(head, Shape::Fixed),
             Class::Prefix(inputs) => self.begin_call(head, inputs),
             Class::Many(others) => self.begin_many(head, others),
             Class::Closing(inputs, block) => {
                 let none = Grouped::new(self.alloc);
-                self.next(head, none, inputs, Last::Block(block))?;
-                Ok(())
+                self.next(head, none, inputs, Last::Block(block))
             }
             Class::Binary(_, minus) => self.begin_minus(head.place, minus),
             _ => Err(Refusal::Unexpected),
@@ -83,7 +68,7 @@ impl<'a> Reader<'a> {
     }
 
     // A word that is an expression by itself.
-    fn begin_leaf(&mut self, head: Head, shape: Shape) -> Result<(), NoMemory>
+    fn begin_leaf(&mut self, head: Head, shape: Shape) -> Result<(), Refusal>
         ensures { Reaches result self.old self.new
             (closed shape (leaf (label.Named head.name) head.place)) }
     {
@@ -99,8 +84,7 @@ impl<'a> Reader<'a> {
         if !self.knows(head.name.as_bytes()) {
             return Err(Refusal::Unexpected);
         }
-        self.begin_leaf(head, Shape::Fixed)?;
-        Ok(())
+        self.begin_leaf(head, Shape::Fixed)
     }
 
     // A call whose last input is an item.
@@ -113,8 +97,7 @@ impl<'a> Reader<'a> {
             return Err(Refusal::Unexpected);
         }
         let none = Grouped::new(self.alloc);
-        self.next(head, none, inputs, Last::Item)?;
-        Ok(())
+        self.next(head, none, inputs, Last::Item)
     }
 
     // A call of any number of items.
@@ -126,8 +109,7 @@ impl<'a> Reader<'a> {
             return Err(Refusal::Unexpected);
         }
         let none = Grouped::new(self.alloc);
-        self.enter(Mode::Begin, Frame::Many(head, none, others))?;
-        Ok(())
+        self.enter(Mode::Begin, Frame::Many(head, none, others))
     }
 
     // Whether a right side is read that others follow.
@@ -147,13 +129,12 @@ impl<'a> Reader<'a> {
         if !minus {
             return Err(Refusal::Unexpected);
         }
-        match self.take() {
-            Some(Frame::Paren(bracket)) => {
-                self.enter(Mode::Begin, Frame::Minus(bracket, place))?;
-                Ok(())
-            }
-            other => refuse(other),
-        }
+        let frame = self.take();
+        let Some(Frame::Paren(bracket)) = frame else {
+            return refuse(frame);
+        };
+        let_go(frame);
+        self.enter(Mode::Begin, Frame::Minus(bracket, place))
     }
 
     // A bracket: a literal list where a right side begins, since that has no block.
@@ -163,25 +144,21 @@ impl<'a> Reader<'a> {
     {
         if self.is_at_side() {
             let none = Grouped::new(self.alloc);
-            self.enter(Mode::Listing, Frame::List(place, none))?;
-            return Ok(());
+            return self.enter(Mode::Listing, Frame::List(place, none));
         }
-        self.enter(Mode::Begin, Frame::Bracket(place))?;
-        Ok(())
+        self.enter(Mode::Begin, Frame::Bracket(place))
     }
 
     // A closing bracket, which ends a list in which nothing is.
     fn end_bracket(&mut self) -> Result<(), Refusal>
         ensures { Follows result self.old self.new end_bracket }
     {
-        match self.take() {
-            Some(Frame::Bracket(place)) => {
-                let tree = Grown::leaf(self.alloc, Label::List, place);
-                self.closed(Shape::Literal, tree)?;
-                Ok(())
-            }
-            other => refuse(other),
-        }
+        let frame = self.take();
+        let Some(Frame::Bracket(place)) = frame else {
+            return refuse(frame);
+        };
+        let_go(frame);
+        self.closed(Shape::Literal, Grown::leaf(self.alloc, Label::List, place))
     }
 
     // A closing parenthesis, which ends a call of any number of items.
@@ -192,8 +169,7 @@ impl<'a> Reader<'a> {
             Some(Frame::Items(bracket, label, place, items)) => {
                 let call = items.under(label, place);
                 let tree = Grown::over(self.alloc, Label::Paren, bracket, call)?;
-                self.closed(Shape::Fixed, tree)?;
-                Ok(())
+                self.closed(Shape::Fixed, tree)
             }
             Some(Frame::Many(head, items, _)) => self.end_usual(head, items),
             other => refuse(other),
@@ -205,15 +181,14 @@ impl<'a> Reader<'a> {
         ensures { (n : ℕ) → Follows result self.old self.new
             (λ e K. end_many e (InMany head.name head.place items n ∷ K)) }
     {
-        match self.take() {
-            Some(Frame::Paren(bracket)) => {
-                let call = items.under(Label::Named(head.name), head.place);
-                let tree = Grown::over(self.alloc, Label::Paren, bracket, call)?;
-                self.closed(Shape::Fixed, tree)?;
-                Ok(())
-            }
-            other => refuse(other),
-        }
+        let frame = self.take();
+        let Some(Frame::Paren(bracket)) = frame else {
+            return refuse(frame);
+        };
+        let_go(frame);
+        let call = items.under(Label::Named(head.name), head.place);
+        let tree = Grown::over(self.alloc, Label::Paren, bracket, call)?;
+        self.closed(Shape::Fixed, tree)
     }
 }
 

@@ -1,5 +1,5 @@
 //! The reader of one text.
-ghost use Rattle.std.specs.Prelude.{◌≡◌, ℕ, List, [], ◌∷◌, ◌+◌, ◌++◌, ◌≤◌, OnOk, IfOk, IfErr, IfSome, IfNone, All, length};
+ghost use Rattle.std.specs.Prelude.{◌≡◌, ℕ, true, List, [], ◌∷◌, ◌+◌, ◌++◌, ◌≤◌, OnOk, IfOk, IfErr, IfSome, IfNone, All, length};
 ghost use Rattle.nl_fixed.specs.Nouns.{Names};
 ghost use Rattle.nl_scan.specs.Tokens.{IsTokenOf};
 ghost use Rattle.nl_text.specs.Texts.{plain_token, plain_tokens};
@@ -11,7 +11,7 @@ ghost use Rattle.nl_tree.specs.Vocabulary.{terms};
 ghost use Rattle.nl_tree.specs.Views.{plain};
 ghost use Rattle.nl_tree.specs.Tokens.{mark, marked};
 ghost use Rattle.nl_tree.specs.BodyFault.{IsGood, ends_at, deepest};
-ghost use Rattle.nl_grammar.specs.Machine.{start, feed, go, st, Over, run_from};
+ghost use Rattle.nl_grammar.specs.Machine.{start, feed, go, stop, st, Over, run_from};
 ghost use Rattle.nl_grammar.specs.Depth.{least_depth};
 ghost use Rattle.nl_tree.specs.declared.declared.Form.{Form};
 ghost use Rattle.nl_reading.specs.inner.View.{mark_of};
@@ -19,8 +19,11 @@ ghost use Rattle.nl_parse.specs.Outcome.{Refuses};
 ghost use Rattle.nl_parse.specs.inner.Stops.{StopsAt, StopsIn, first_span};
 ghost use Rattle.nl_reading.specs.inner.Reading.{mode_of};
 ghost use Rattle.nl_parse.specs.inner.State.{state_of};
+ghost use Rattle.nl_parse.specs.inner.Steps.{sees_first};
+ghost use Rattle.std.specs.Result.{IsErrOf};
+ghost use Rattle.nl_parse.specs.declared.body.BodyRefusal.TheVariants as BodyRefusal;
 
-use crate::reader::{Reader, Refusal};
+use crate::reader::{Reader, Refusal, let_go};
 use nl_fixed::{Names, NoMemory, Span};
 use nl_reading::classes::class_of_word;
 use nl_reading::frames::{Frame, Mode};
@@ -75,7 +78,9 @@ pub fn read_body(
 {
     let inputs = KnownNames::of(alloc, inputs.as_slice())?;
     let mut reader = begin(alloc, form, &inputs, first_place(tokens, end))?;
-    reader.read_whole(text, tokens, end, declared)
+    let read = reader.read_whole(text, tokens, end, declared);
+    let_go(reader);
+    read
 }
 
 // Where the first token stands, or what ends them.
@@ -175,6 +180,9 @@ impl<'a> Reader<'a> {
         ensures ok { OnOk result (feed (state_of self.old) (mark_of mark) ≡ go (state_of self.new)) }
         ensures allowed { OnOk result (least_depth (state_of self.new) ≤ deepest) }
         ensures fault { IfErr result (StopsAt (state_of self.old) (mark_of mark) place) }
+        ensures told { sees_first (mode_of self.old.mode) ≡ true →
+            feed (state_of self.old) (mark_of mark) ≡ stop →
+            IsErrOf result BodyRefusal.NoMemory → ⊥ }
     {
         let kind = self.kind_before(&mark);
         match self.feed(mark) {
@@ -196,6 +204,9 @@ impl<'a> Reader<'a> {
             × ((feed (state_of self.old) (T.end end) ≡ go (st (Over (plain tree)) e K))
             × (depth (plain tree) ≤ deepest))) }
         ensures fault { IfErr result (StopsAt (state_of self.old) (T.end end) place) }
+        ensures told { sees_first (mode_of self.old.mode) ≡ true →
+            feed (state_of self.old) (T.end end) ≡ stop →
+            IsErrOf result BodyRefusal.NoMemory → ⊥ }
     {
         if let Err(refusal) = self.step(place, Mark::End(end)) {
             return Err(refusal);
@@ -213,7 +224,10 @@ impl<'a> Reader<'a> {
     {
         match self.take_mode() {
             Mode::Over(tree) => Some(tree),
-            _ => None,
+            other => {
+                let_go(other);
+                None
+            }
         }
     }
 }

@@ -1,12 +1,12 @@
 //! Tokens behind what is at hand, and those of lists.
 ghost use Rattle.std.specs.Prelude.{◌≡◌, ℕ, List, [], ◌∷◌, OnOk};
 ghost use Rattle.nl_fixed.specs.Nouns.{Names};
-ghost use Rattle.nl_tree.specs.Grammar.{leaf, and_last};
+ghost use Rattle.nl_tree.specs.Grammar.{leaf, and_last, one};
 ghost use Rattle.nl_tree.specs.Tokens.{Tok, close_paren, word};
 ghost use Rattle.std.specs.Result.{IsErrOf};
 ghost use Rattle.nl_grammar.specs.Machine.{go, stop, feed_blocked, feed_items, feed_listing, feed_bracket, feed_paren, feed_minus, feed_reporter, feed_whole, feed_shut, feed_ended, st, Listing, InList};
 ghost use Rattle.nl_parse.specs.declared.reader.Refusal.TheVariants.{Unexpected};
-ghost use Rattle.nl_parse.specs.inner.Asked.{feed_more};
+ghost use Rattle.nl_parse.specs.inner.Asked.{feed_more, may_follow_item};
 ghost use Rattle.nl_parse.specs.inner.Around.{shut_in};
 ghost use Rattle.nl_parse.specs.declared.closing.Around.TheVariants as Around;
 ghost use Rattle.nl_grammar.specs.Machine as M;
@@ -14,11 +14,11 @@ ghost use Rattle.nl_grammar.specs.declared.pending.Shape.{Shape};
 ghost use Rattle.nl_tree.specs.Tree.{Node};
 ghost use Rattle.nl_reading.specs.inner.View.{class_of, mark_of};
 ghost use Rattle.nl_reading.specs.inner.Reading.{frame_of, names_with, maybe_over};
-ghost use Rattle.nl_parse.specs.inner.State.{stack_of, names_of, state_of};
+ghost use Rattle.nl_parse.specs.inner.State.{stack_of, names_of, state_of, HasRoom};
 ghost use Rattle.nl_parse.specs.inner.Steps.{Follows, Reaches};
 
-use crate::reader::{Reader, Refusal, refuse};
-use nl_fixed::{NoMemory, Span, Str};
+use crate::reader::{Reader, Refusal, let_go, refuse};
+use nl_fixed::{Span, Str};
 use nl_grammar::Shape;
 use nl_reading::frames::{Frame, Mode};
 use nl_reading::marks::{Class, Head, Mark};
@@ -54,6 +54,20 @@ fn what_is(frame: &Frame) -> Around
     }
 }
 
+// Whether the token may stand behind an item of a literal list.
+fn may_follow_item(mark: &Mark) -> bool
+    ensures { result ≡ may_follow_item (mark_of mark.now) }
+{
+    match mark {
+        Mark::Number(_, _) => true,
+        Mark::Text(_, _) => true,
+        Mark::Word(_, Class::Constant) => true,
+        Mark::OpenBracket(_) => true,
+        Mark::CloseBracket(_) => true,
+        _ => false,
+    }
+}
+
 impl<'a> Reader<'a> {
     /// A token behind a block, which is `of`.
     pub fn feed_blocked(&mut self, block: Grown, mark: Mark) -> Result<(), Refusal>
@@ -71,10 +85,7 @@ impl<'a> Reader<'a> {
             (λ e K. feed_blocked block e K (word head.name (class_of class) head.place)) }
     {
         match class {
-            Class::Of => {
-                self.enter(Mode::Begin, Frame::Of(head, block))?;
-                Ok(())
-            }
+            Class::Of => self.enter(Mode::Begin, Frame::Of(head, block)),
             _ => Err(Refusal::Unexpected),
         }
     }
@@ -85,25 +96,20 @@ impl<'a> Reader<'a> {
             (λ e K. feed_items bracket items e K (mark_of mark)) }
     {
         match mark {
-            Mark::Number(number, place) => {
-                self.add_item(bracket, items, Label::Number(number), place)?;
-                Ok(())
-            }
-            Mark::Text(text, place) => {
-                self.add_item(bracket, items, Label::Text(text), place)?;
-                Ok(())
-            }
+            Mark::Number(number, place) => self.add_item(
+                bracket,
+                items,
+                Label::Number(number),
+                place,
+            ),
+            Mark::Text(text, place) => self.add_item(bracket, items, Label::Text(text), place),
             Mark::Word(head, class) => self.add_word(bracket, items, head, class),
             Mark::OpenBracket(place) => {
                 let none = Grouped::new(self.alloc);
                 self.put(Frame::List(bracket, items))?;
-                self.enter(Mode::Listing, Frame::List(place, none))?;
-                Ok(())
+                self.enter(Mode::Listing, Frame::List(place, none))
             }
-            Mark::CloseBracket(_) => {
-                self.end_list(items.under(Label::List, bracket))?;
-                Ok(())
-            }
+            Mark::CloseBracket(_) => self.end_list(items.under(Label::List, bracket)),
             other => refuse(other),
         }
     }
@@ -120,10 +126,7 @@ impl<'a> Reader<'a> {
             (λ e K. feed_items bracket items e K (word head.name (class_of class) head.place)) }
     {
         match class {
-            Class::Constant => {
-                self.add_item(bracket, items, Label::Named(head.name), head.place)?;
-                Ok(())
-            }
+            Class::Constant => self.add_item(bracket, items, Label::Named(head.name), head.place),
             _ => Err(Refusal::Unexpected),
         }
     }
@@ -135,7 +138,7 @@ impl<'a> Reader<'a> {
         items: Grouped,
         label: Label,
         place: Span,
-    ) -> Result<(), NoMemory>
+    ) -> Result<(), Refusal>
         ensures { Reaches result self.old self.new
             (λ e K. st Listing e (InList bracket (and_last items (leaf label place)) ∷ K)) }
     {
@@ -175,9 +178,14 @@ impl<'a> Reader<'a> {
             feed_shut x t (names_of self.old) (stack_of self.old) tok
             ≡ shut_in result x t (names_of self.new) (stack_of self.new) tok }
         ensures nothing { result ≡ Around.Nothing → stack_of self.new ≡ [] }
+        ensures room { (result ≡ Around.Nothing → ⊥) → HasRoom self.new }
     {
         match self.take() {
-            Some(frame) => what_is(&frame),
+            Some(frame) => {
+                let around = what_is(&frame);
+                let_go(frame);
+                around
+            }
             None => Around::Nothing,
         }
     }
@@ -194,8 +202,7 @@ impl<'a> Reader<'a> {
             (λ e K. feed_bracket shape tree bracket e K (mark_of mark)) }
     {
         if let Shape::Literal = shape {
-            let items = Grouped::of(self.alloc, tree)?;
-            return self.feed_items(bracket, items, mark);
+            return self.feed_literal(tree, bracket, mark);
         }
         match mark {
             Mark::CloseBracket(_) => {
@@ -207,6 +214,19 @@ impl<'a> Reader<'a> {
         }
     }
 
+    // A token behind a literal in a bracket.
+    #[tactic(auto, using(crate::proofs::Stacked::no_item, crate::proofs::Stacked::an_item))]
+    fn feed_literal(&mut self, tree: Grown, bracket: Span, mark: Mark) -> Result<(), Refusal>
+        ensures { Follows result self.old self.new
+            (λ e K. feed_items bracket (one tree) e K (mark_of mark)) }
+    {
+        if !may_follow_item(&mark) {
+            return refuse(mark);
+        }
+        let items = Grouped::of(self.alloc, tree)?;
+        self.feed_items(bracket, items, mark)
+    }
+
     // A token behind an expression in parentheses: a call may have more items than its usual number.
     fn feed_paren(
         &mut self,
@@ -215,14 +235,14 @@ impl<'a> Reader<'a> {
         bracket: Span,
         mark: Mark,
     ) -> Result<(), Refusal>
+        requires { HasRoom self.old }
         ensures { Follows result self.old self.new
             (λ e K. feed_paren shape tree bracket e K (mark_of mark)) }
     {
         match mark {
             Mark::CloseParen(_) => {
                 let tree = Grown::over(self.alloc, Label::Paren, bracket, tree)?;
-                self.closed(Shape::Fixed, tree)?;
-                Ok(())
+                self.closed(Shape::Fixed, tree)
             }
             mark => self.feed_grown(shape, tree, bracket, mark),
         }
@@ -236,12 +256,13 @@ impl<'a> Reader<'a> {
         bracket: Span,
         mark: Mark,
     ) -> Result<(), Refusal>
+        requires { HasRoom self.old }
         ensures { Follows result self.old self.new
             (λ e K. feed_more shape tree bracket e K (mark_of mark)) }
     {
         if let Shape::Growing = shape {
             let (label, place, items) = tree.taken_apart();
-            self.put(Frame::Items(bracket, label, place, items))?;
+            self.put_back(Frame::Items(bracket, label, place, items));
             return self.feed_begin(mark);
         }
         Err(Refusal::Unexpected)
@@ -262,8 +283,7 @@ impl<'a> Reader<'a> {
             Mark::CloseParen(_) => {
                 let negated = Grown::over(self.alloc, Label::Negate, place, tree)?;
                 let tree = Grown::over(self.alloc, Label::Paren, bracket, negated)?;
-                self.closed(Shape::Fixed, tree)?;
-                Ok(())
+                self.closed(Shape::Fixed, tree)
             }
             other => refuse(other),
         }
@@ -277,8 +297,7 @@ impl<'a> Reader<'a> {
         match mark {
             Mark::CloseBracket(_) => {
                 let block = Grown::over(self.alloc, Label::Reporter, bracket, tree)?;
-                self.supply(block)?;
-                Ok(())
+                self.supply(block)
             }
             other => refuse(other),
         }
@@ -319,13 +338,12 @@ impl<'a> Reader<'a> {
         ensures { Follows result self.old self.new
             (λ e K. feed_ended tree (maybe_over made e) K (close_paren place)) }
     {
-        match self.take() {
-            Some(Frame::StatementParen(bracket)) => {
-                let tree = Grown::over(self.alloc, Label::Paren, bracket, tree)?;
-                self.end_statement(tree, made)?;
-                Ok(())
-            }
-            other => refuse(other),
-        }
+        let frame = self.take();
+        let Some(Frame::StatementParen(bracket)) = frame else {
+            return refuse(frame);
+        };
+        let_go(frame);
+        let tree = Grown::over(self.alloc, Label::Paren, bracket, tree)?;
+        self.end_statement(tree, made)
     }
 }

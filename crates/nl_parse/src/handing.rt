@@ -1,14 +1,22 @@
 //! Trees handed to what waits for them.
-ghost use Rattle.std.specs.Prelude.{◌≡◌, ◌∷◌, OnOk, IfOk};
+ghost use Rattle.std.specs.Prelude.{◌≡◌, ◌∷◌, List, OnOk, IfOk};
+ghost use Rattle.nl_fixed.specs.Nouns.{Names};
+ghost use Rattle.nl_tree.specs.Tree.{node};
+ghost use Rattle.nl_tree.specs.Grammar.{and_last, leaf, two};
+ghost use Rattle.nl_tree.specs.declared.tree.Label.TheVariants as label;
+ghost use Rattle.nl_grammar.specs.Machine as M;
+ghost use Rattle.nl_grammar.specs.declared.pending.Shape.{Shape};
 ghost use Rattle.nl_grammar.specs.Machine.{end_statement, next, closed, supply, accept, end_list, settle, got, InMany, InNear};
+ghost use Rattle.std.specs.Result.{IsErrOf};
+ghost use Rattle.nl_parse.specs.declared.reader.Refusal.TheVariants.{Unexpected};
 ghost use Rattle.nl_reading.specs.inner.View.{needs_of};
-ghost use Rattle.nl_reading.specs.inner.Reading.{maybe_over};
+ghost use Rattle.nl_reading.specs.inner.Reading.{frame_of, maybe_over};
 ghost use Rattle.nl_parse.specs.inner.State.{stack_of, names_of, state_of};
-ghost use Rattle.nl_parse.specs.inner.Asked.{ends_newest};
+ghost use Rattle.nl_parse.specs.inner.Asked.{ends_newest, is_waiting};
 ghost use Rattle.nl_parse.specs.inner.Steps.{Reaches};
 
-use crate::reader::Reader;
-use nl_fixed::{NoMemory, Str};
+use crate::reader::{Reader, Refusal};
+use nl_fixed::Str;
 use nl_grammar::{Last, Shape};
 use nl_reading::frames::{Frame, Mode, begin_mode, build, closes};
 use nl_reading::marks::{Head, Inputs};
@@ -18,7 +26,7 @@ use nl_tree::Label;
 impl<'a> Reader<'a> {
     /// Ends a statement that makes this name.
     #[tactic(auto, using(nl_reading::proofs::Framed::made_push))]
-    pub fn end_statement(&mut self, tree: Grown, made: Option<Str>) -> Result<(), NoMemory>
+    pub fn end_statement(&mut self, tree: Grown, made: Option<Str>) -> Result<(), Refusal>
         ensures { Reaches result self.old self.new
             (λ e K. end_statement tree (maybe_over made e) K) }
     {
@@ -36,7 +44,9 @@ impl<'a> Reader<'a> {
                 )
             }
             Some(Frame::StatementParen(bracket)) => {
-                self.enter(Mode::Ended(tree, made), Frame::StatementParen(bracket))
+                self.put_back(Frame::StatementParen(bracket));
+                self.turn(Mode::Ended(tree, made));
+                Ok(())
             }
             other => {
                 self.turn(Mode::Dead(other, made));
@@ -52,7 +62,7 @@ impl<'a> Reader<'a> {
         inputs: Grouped,
         rest: Inputs,
         last: Last,
-    ) -> Result<(), NoMemory>
+    ) -> Result<(), Refusal>
         ensures { Reaches result self.old self.new
             (next head.name head.place inputs (needs_of rest) last) }
     {
@@ -65,19 +75,21 @@ impl<'a> Reader<'a> {
             }
             None => match last {
                 Last::Item => self.enter(Mode::Begin, Frame::LastItem(head, inputs)),
-                Last::Block(block) => {
-                    self.enter(Mode::Opening(block), Frame::LastBlock(head, inputs, block))
-                }
-                Last::Nothing => {
-                    self.end_statement(inputs.under(Label::Named(head.name), head.place), None)
-                }
+                Last::Block(block) => self.enter(
+                    Mode::Opening(block),
+                    Frame::LastBlock(head, inputs, block),
+                ),
+                Last::Nothing => self.end_statement(
+                    inputs.under(Label::Named(head.name), head.place),
+                    None,
+                ),
             },
         }
     }
 
     /// Hands what is closed to what waits for it.
     #[tactic(auto, using(crate::proofs::Stacked::at_hand))]
-    pub fn closed(&mut self, shape: Shape, tree: Grown) -> Result<(), NoMemory>
+    pub fn closed(&mut self, shape: Shape, tree: Grown) -> Result<(), Refusal>
         ensures { Reaches result self.old self.new (closed shape tree) }
     {
         if !self.is_at_side() {
@@ -85,9 +97,9 @@ impl<'a> Reader<'a> {
             return Ok(());
         }
         match self.take() {
-            Some(Frame::Near(head, sides, others)) => {
-                self.another_side(head, sides, others, shape, tree)
-            }
+            Some(Frame::Near(head, sides, others)) => self.another_side(
+                head, sides, others, shape, tree,
+            ),
             _ => unreachable!(),
         }
     }
@@ -101,7 +113,7 @@ impl<'a> Reader<'a> {
         others: u64,
         shape: Shape,
         tree: Grown,
-    ) -> Result<(), NoMemory>
+    ) -> Result<(), Refusal>
         ensures { Reaches result self.old self.new
             (λ e K. closed shape tree e (InNear head.name head.place sides others ∷ K)) }
     {
@@ -115,16 +127,31 @@ impl<'a> Reader<'a> {
         self.enter(Mode::Begin, Frame::Near(head, sides, others - 1))
     }
 
+    // One more input of a call, in front of the rest.
+    fn another_input(
+        &mut self,
+        head: Head,
+        inputs: Grouped,
+        rest: Inputs,
+        last: Last,
+        tree: Grown,
+    ) -> Result<(), Refusal>
+        ensures { Reaches result self.old self.new
+            (next head.name head.place (and_last inputs tree) (needs_of rest) last) }
+    {
+        let mut inputs = inputs;
+        inputs.add(self.alloc, tree)?;
+        self.next(head, inputs, rest, last)
+    }
+
     /// Hands a block, or a variable, to what waits for it.
-    pub fn supply(&mut self, tree: Grown) -> Result<(), NoMemory>
+    pub fn supply(&mut self, tree: Grown) -> Result<(), Refusal>
         ensures { Reaches result self.old self.new (supply tree) }
     {
         match self.take() {
-            Some(Frame::Call(head, inputs, _, rest, last)) => {
-                let mut inputs = inputs;
-                inputs.add(self.alloc, tree)?;
-                self.next(head, inputs, rest, last)
-            }
+            Some(Frame::Call(head, inputs, _, rest, last)) => self.another_input(
+                head, inputs, rest, last, tree,
+            ),
             Some(Frame::LastBlock(head, inputs, _)) => {
                 let mut inputs = inputs;
                 inputs.add(self.alloc, tree)?;
@@ -152,40 +179,36 @@ impl<'a> Reader<'a> {
     }
 
     /// Hands an expression, or an item, that no operator follows to what waits for it.
-    pub fn accept(&mut self, shape: Shape, tree: Grown) -> Result<(), NoMemory>
+    #[tactic(auto, using(crate::proofs::Stacked::not_waiting))]
+    pub fn accept(&mut self, shape: Shape, tree: Grown) -> Result<(), Refusal>
         ensures { Reaches result self.old self.new (accept shape tree) }
     {
+        if !self.is_waiting() {
+            self.turn(Mode::Shut(shape, tree));
+            return Ok(());
+        }
         match self.take() {
-            Some(Frame::Call(head, inputs, _, rest, last)) => {
-                let mut inputs = inputs;
-                inputs.add(self.alloc, tree)?;
-                self.next(head, inputs, rest, last)
-            }
-            Some(Frame::Many(head, items, others)) => self.another_item(
-                head, items, others, shape, tree,
+            Some(Frame::Call(head, inputs, _, rest, last)) => self.another_input(
+                head, inputs, rest, last, tree,
             ),
+            Some(Frame::Many(head, items, others)) => self.another_item(head, items, others, tree),
             Some(Frame::Items(bracket, label, place, items)) => {
                 let mut items = items;
                 items.add(self.alloc, tree)?;
                 self.enter(Mode::Begin, Frame::Items(bracket, label, place, items))
             }
-            Some(Frame::Let(head, name)) => {
-                let made = name.name.copy(self.alloc)?;
-                let named = Grown::leaf(self.alloc, Label::Named(name.name), name.place);
-                let tree = Grown::pair(
-                    self.alloc,
-                    Label::Named(head.name),
-                    head.place,
-                    named,
-                    tree,
-                )?;
-                self.end_statement(tree, Some(made))
-            }
-            Some(frame) => self.enter(Mode::Shut(shape, tree), frame),
-            None => {
-                self.turn(Mode::Shut(shape, tree));
-                Ok(())
-            }
+            Some(Frame::Let(head, name)) => self.end_let(head, name, tree),
+            _ => unreachable!(),
+        }
+    }
+
+    // Whether an expression is waited for, and not only what closes it.
+    fn is_waiting(&self) -> bool
+        ensures { result ≡ is_waiting (stack_of self.now) }
+    {
+        match self.newest() {
+            Some(frame) => waits(frame),
+            None => false,
         }
     }
 
@@ -196,18 +219,30 @@ impl<'a> Reader<'a> {
         head: Head,
         items: Grouped,
         others: u64,
-        shape: Shape,
         tree: Grown,
-    ) -> Result<(), NoMemory>
-        ensures { Reaches result self.old self.new
-            (λ e K. accept shape tree e (InMany head.name head.place items others ∷ K)) }
+    ) -> Result<(), Refusal>
+        requires { others ≡ 0 → ⊥ }
+        ensures { (x : Shape) → Reaches result self.old self.new
+            (λ e K. accept x tree e (InMany head.name head.place items others ∷ K)) }
     {
-        if others == 0 {
-            return self.enter(Mode::Shut(shape, tree), Frame::Many(head, items, 0));
-        }
         let mut items = items;
         items.add(self.alloc, tree)?;
         self.enter(Mode::Begin, Frame::Many(head, items, others - 1))
+    }
+
+    // The value of a new name.
+    fn end_let(&mut self, head: Head, name: Head, tree: Grown) -> Result<(), Refusal>
+        ensures { Reaches result self.old self.new
+            (λ e.
+            end_statement
+            (node (label.Named head.name) head.place
+            (two (leaf (label.Named name.name) name.place) tree))
+            (name.name ∷ e)) }
+    {
+        let made = name.name.copy(self.alloc)?;
+        let named = Grown::leaf(self.alloc, Label::Named(name.name), name.place);
+        let tree = Grown::pair(self.alloc, Label::Named(head.name), head.place, named, tree)?;
+        self.end_statement(tree, Some(made))
     }
 
     /// Ends all that an operator of this level ends.
@@ -217,10 +252,11 @@ impl<'a> Reader<'a> {
         level: u8,
         shape: Shape,
         tree: Grown,
-    ) -> Result<(Shape, Grown), NoMemory>
+    ) -> Result<(Shape, Grown), Refusal>
         ensures settled { IfOk result (λ held.
             settle level shape tree (stack_of self.old) ≡ got held.0 held.1 (stack_of self.new)) }
         ensures names { OnOk result (names_of self.new ≡ names_of self.old) }
+        ensures refused { IsErrOf result Unexpected → ⊥ }
     {
         let mut held = (shape, tree);
         'frames: while self.ends_newest(level) {
@@ -244,7 +280,7 @@ impl<'a> Reader<'a> {
 
     /// Hands a literal list to what waits for it.
     #[tactic(auto, using(crate::proofs::Stacked::outer_list))]
-    pub fn end_list(&mut self, tree: Grown) -> Result<(), NoMemory>
+    pub fn end_list(&mut self, tree: Grown) -> Result<(), Refusal>
         ensures { Reaches result self.old self.new (end_list tree) }
     {
         if !self.is_in_list() {
@@ -258,5 +294,18 @@ impl<'a> Reader<'a> {
             }
             _ => unreachable!(),
         }
+    }
+}
+
+// Whether the frame waits for an expression, and not only for what closes it.
+fn waits(frame: &Frame) -> bool
+    ensures { (e : Names) (below : List M.Frame) → result ≡ is_waiting (frame_of e frame.now ∷ below) }
+{
+    match frame {
+        Frame::Call(_, _, _, _, _) => true,
+        Frame::Many(_, _, others) => *others > 0,
+        Frame::Items(_, _, _, _) => true,
+        Frame::Let(_, _) => true,
+        _ => false,
     }
 }

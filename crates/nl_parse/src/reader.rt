@@ -1,12 +1,13 @@
 //! The reader between two tokens, and the ways to its stack.
 ghost use Rattle.std.specs.Prelude.{◌≡◌, ◌∷◌, [], ◌+◌, length, IfSome, IfNone, OnOk, Err};
+ghost use Rattle.std.specs.Result.{IsErrOf};
 ghost use Rattle.nl_parse.specs.declared.reader.Refusal.TheVariants as Refusal;
 ghost use Rattle.nl_tree.specs.Vocabulary.{among};
 ghost use Rattle.nl_grammar.specs.Machine.{st};
 ghost use Rattle.nl_grammar.specs.Depth.{least_depth};
 ghost use Rattle.nl_reading.specs.inner.Limit.{capped};
 ghost use Rattle.nl_reading.specs.inner.Reading.{frame_of, mode_of, mode_names, names_with};
-ghost use Rattle.nl_parse.specs.inner.State.{stack_of, names_of, state_of, outer_stack_of, outer_names_of};
+ghost use Rattle.nl_parse.specs.inner.State.{stack_of, names_of, state_of, outer_stack_of, outer_names_of, HasRoom};
 ghost use Rattle.nl_parse.specs.inner.Steps.{Reaches};
 ghost use Rattle.nl_parse.specs.inner.Asked.{is_at_side, is_in_list};
 
@@ -15,6 +16,7 @@ use nl_reading::depths::least_depth;
 use nl_reading::frames::{Frame, Mode, make_name};
 use nl_reading::known_names::KnownNames;
 use std::alloc::Global;
+use std::mem;
 
 /// Why a token is not taken.
 #[derive(Drop)]
@@ -42,6 +44,11 @@ pub fn refuse<T: Drop>(_in_the_way: T) -> Result<(), Refusal>
     Err(Refusal::Unexpected)
 }
 
+/// Lets go of something.
+///
+/// One call in the place of a walk over all that a frame or a mode may hold keeps the proofs of its callers short.
+pub fn let_go<T: Drop>(_thing: T) {}
+
 /// A reader between two tokens.
 ///
 /// The stack has what is open, the newest last. A name is kept in the frame of the statements that know it, so closing a block forgets its
@@ -57,24 +64,30 @@ pub struct Reader<'a> {
 impl<'a> Reader<'a> {
     /// Puts a frame on the stack.
     #[tactic(auto, using(nl_reading::proofs::Framed::frames_push, nl_reading::proofs::Framed::names_push))]
-    pub fn put(&mut self, frame: Frame) -> Result<(), NoMemory>
+    pub fn put(&mut self, frame: Frame) -> Result<(), Refusal>
         ensures stack { OnOk result
             (stack_of self.new ≡ frame_of (names_of self.old) frame ∷ stack_of self.old) }
         ensures names { OnOk result (names_of self.new ≡ names_with frame (names_of self.old)) }
+        ensures refused { IsErrOf result Refusal.Unexpected → ⊥ }
     {
-        self.stack.push(frame)?;
-        Ok(())
+        match self.stack.push(frame) {
+            Ok(()) => Ok(()),
+            Err(refused) => {
+                let_go(refused);
+                Err(Refusal::NoMemory)
+            }
+        }
     }
 
     /// Puts a frame on the stack, inside of which this may come next.
-    pub fn enter(&mut self, mode: Mode, frame: Frame) -> Result<(), NoMemory>
+    pub fn enter(&mut self, mode: Mode, frame: Frame) -> Result<(), Refusal>
         ensures { Reaches result self.old self.new
             (λ e K.
             st (mode_of mode) (mode_names mode (names_with frame e)) (frame_of e frame ∷ K)) }
     {
-        self.put(frame)?;
-        self.mode = mode;
-        Ok(())
+        let put = self.put(frame);
+        self.turn(mode);
+        put
     }
 
     /// Says what may come next.
@@ -82,7 +95,7 @@ impl<'a> Reader<'a> {
         ensures { state_of self.new
             ≡ st (mode_of mode) (mode_names mode (names_of self.old)) (stack_of self.old) }
     {
-        self.mode = mode;
+        let_go(mem::replace(&mut self.mode, mode));
     }
 
     /// Takes the newest frame.
@@ -95,8 +108,19 @@ impl<'a> Reader<'a> {
         ensures still_none { IfNone result (stack_of self.new ≡ []) }
         ensures same_names { IfNone result (names_of self.new ≡ names_of self.old) }
         ensures shorter { IfSome result (λ frame. length self.old.stack.items ≡ length self.new.stack.items + 1) }
+        ensures room { IfSome result (λ frame. HasRoom self.new) }
     {
         self.stack.pop()
+    }
+
+    /// Puts a frame where one was taken, which takes no memory.
+    #[tactic(auto, using(nl_reading::proofs::Framed::frames_push, nl_reading::proofs::Framed::names_push))]
+    pub fn put_back(&mut self, frame: Frame)
+        requires room { HasRoom self.old }
+        ensures stack { stack_of self.new ≡ frame_of (names_of self.old) frame ∷ stack_of self.old }
+        ensures names { names_of self.new ≡ names_with frame (names_of self.old) }
+    {
+        self.stack.push_reserved(frame);
     }
 
     /// The newest frame, which stays where it is.

@@ -14,7 +14,7 @@ ghost use Rattle.nl_parse.specs.inner.Asked.{is_stating};
 ghost use Rattle.nl_parse.specs.inner.Steps.{Follows, Reaches};
 
 use crate::reader::{Reader, Refusal, refuse};
-use nl_fixed::{NoMemory, Span};
+use nl_fixed::Span;
 use nl_grammar::Last;
 use nl_reading::frames::{Frame, Mode};
 use nl_reading::known_names::KnownNames;
@@ -38,7 +38,7 @@ impl<'a> Reader<'a> {
     }
 
     /// Begins a block of commands.
-    pub fn open_statements(&mut self, bracket: Span) -> Result<(), NoMemory>
+    pub fn open_statements(&mut self, bracket: Span) -> Result<(), Refusal>
         ensures { Reaches result self.old self.new
             (λ e K. st Stating e (InStatements bracket AtBracket e none ∷ K)) }
     {
@@ -66,23 +66,19 @@ impl<'a> Reader<'a> {
             (λ e K. feed_choosing e K (word head.name (class_of class) head.place)) }
     {
         match class {
-            Class::Named => {
-                self.choose(head)?;
-                Ok(())
-            }
+            Class::Named => self.choose(head),
             Class::Unknown => {
                 if !self.knows(head.name.as_bytes()) {
                     return Err(Refusal::Unexpected);
                 }
-                self.choose(head)?;
-                Ok(())
+                self.choose(head)
             }
             _ => Err(Refusal::Unexpected),
         }
     }
 
     // A variable's name.
-    fn choose(&mut self, head: Head) -> Result<(), NoMemory>
+    fn choose(&mut self, head: Head) -> Result<(), Refusal>
         ensures { Reaches result self.old self.new
             (supply (leaf (label.Named head.name) head.place)) }
     {
@@ -102,9 +98,9 @@ impl<'a> Reader<'a> {
             return self.feed_statement(mark);
         }
         match self.take() {
-            Some(Frame::Statements(bracket, ending, _names, statements)) => {
-                self.feed_ending(ending, bracket, statements, mark)
-            }
+            Some(Frame::Statements(bracket, ending, _names, statements)) => self.feed_ending(
+                ending, bracket, statements, mark,
+            ),
             other => refuse(other),
         }
     }
@@ -132,10 +128,10 @@ impl<'a> Reader<'a> {
             (λ e K. feed_ending ending bracket statements e K (mark_of mark)) }
     {
         match (ending, &mark) {
-            (Ending::AtBracket, Mark::CloseBracket(_)) => {
-                self.supply(statements.under(Label::Commands, bracket))?;
-                Ok(())
-            }
+            (Ending::AtBracket, Mark::CloseBracket(_)) => self.supply(statements.under(
+                Label::Commands,
+                bracket,
+            )),
             (Ending::AtEnd, Mark::End(_)) => {
                 self.turn(Mode::Over(statements.under(Label::Commands, bracket)));
                 Ok(())
@@ -150,10 +146,7 @@ impl<'a> Reader<'a> {
     {
         match mark {
             Mark::Word(head, class) => self.begin_statement(head, class),
-            Mark::OpenParen(place) => {
-                self.enter(Mode::Stating, Frame::StatementParen(place))?;
-                Ok(())
-            }
+            Mark::OpenParen(place) => self.enter(Mode::Stating, Frame::StatementParen(place)),
             other => refuse(other),
         }
     }
@@ -166,8 +159,7 @@ impl<'a> Reader<'a> {
         match class {
             Class::Command(inputs) => {
                 let none = Grouped::new(self.alloc);
-                self.next(head, none, inputs, Last::Nothing)?;
-                Ok(())
+                self.next(head, none, inputs, Last::Nothing)
             }
             Class::Let => {
                 self.turn(Mode::Naming(head));
@@ -200,8 +192,7 @@ impl<'a> Reader<'a> {
                 if self.knows(name.name.as_bytes()) {
                     return Err(Refusal::Unexpected);
                 }
-                self.enter(Mode::Begin, Frame::Let(head, name))?;
-                Ok(())
+                self.enter(Mode::Begin, Frame::Let(head, name))
             }
             _ => Err(Refusal::Unexpected),
         }

@@ -1,21 +1,23 @@
 //! The next token, in each mode.
-ghost use Rattle.std.specs.Prelude.{◌≡◌, ◌∷◌, suc, nat_lt, OnOk};
+ghost use Rattle.std.specs.Prelude.{◌≡◌, ◌∷◌, suc, nat_lt, true, OnOk};
 ghost use Rattle.std.specs.Result.{IsErrOf};
 ghost use Rattle.nl_tree.specs.Grammar.{top};
-ghost use Rattle.nl_grammar.specs.Machine.{InCall, next, without_maybes, st, go, stop, settle, takes_operator, feed_plain, feed_optional, feed_ready, feed_broken, feed_binary, feed_of, feed_have, feed};
+ghost use Rattle.nl_grammar.specs.Machine.{next, without_maybes, st, go, stop, settle, takes_operator, feed_plain, feed_optional, feed_ready, feed_broken, feed_binary, feed_of, feed_have, feed};
 ghost use Rattle.nl_parse.specs.declared.reader.Refusal.TheVariants.{Unexpected};
 ghost use Rattle.nl_reading.specs.inner.View.{class_of, mark_of, needs_of};
-ghost use Rattle.nl_tree.specs.Tokens.{word};
+ghost use Rattle.nl_tree.specs.Tokens.{word, open_bracket};
 ghost use Rattle.nl_reading.specs.inner.Reading.{mode_of, mode_names};
 ghost use Rattle.nl_parse.specs.inner.State.{stack_of, names_of, state_of};
-ghost use Rattle.nl_parse.specs.inner.Steps.{Follows};
+ghost use Rattle.nl_parse.specs.inner.Steps.{Follows, FollowsLate, sees_first};
+ghost use Rattle.nl_parse.specs.inner.Asked.{feed_missing, is_in_call};
 
 use crate::reader::{Reader, Refusal, refuse};
+use nl_fixed::Span;
 use nl_grammar::{Last, Shape};
 use nl_reading::frames::{Frame, Mode, TOP, takes_operator};
 use nl_reading::marks::{Class, Head, Inputs, Mark};
 use nl_reading::parts::{Grouped, Grown};
-use nl_tree::{Block, Label, Need};
+use nl_tree::{Block, Label};
 use std::mem;
 
 impl<'a> Reader<'a> {
@@ -23,6 +25,9 @@ impl<'a> Reader<'a> {
     pub fn feed(&mut self, mark: Mark) -> Result<(), Refusal>
         ensures ok { OnOk result (feed (state_of self.old) (mark_of mark) ≡ go (state_of self.new)) }
         ensures fault { IsErrOf result Unexpected → feed (state_of self.old) (mark_of mark) ≡ stop }
+        ensures told { sees_first (mode_of self.old.mode) ≡ true →
+            feed (state_of self.old) (mark_of mark) ≡ stop →
+            IsErrOf result Unexpected }
     {
         match self.take_mode() {
             Mode::Have(shape, tree) => self.feed_have(shape, tree, mark),
@@ -43,8 +48,14 @@ impl<'a> Reader<'a> {
 
     // A token in this mode, where no chain is at hand.
     fn feed_ready(&mut self, mode: Mode, mark: Mark) -> Result<(), Refusal>
-        ensures { Follows result self.old self.new
+        ensures steps { FollowsLate result self.old self.new
             (λ e K. feed_ready (st (mode_of mode) (mode_names mode e) K) (mark_of mark)) }
+        ensures told { sees_first (mode_of mode) ≡ true →
+            feed_ready
+            (st (mode_of mode) (mode_names mode (names_of self.old)) (stack_of self.old))
+            (mark_of mark)
+            ≡ stop →
+            IsErrOf result Unexpected }
     {
         match mode {
             Mode::Optional => self.feed_optional(mark),
@@ -53,61 +64,49 @@ impl<'a> Reader<'a> {
     }
 
     // A token where a block of commands may be missing.
+    #[tactic(auto, using(crate::proofs::Stacked::missing))]
     fn feed_optional(&mut self, mark: Mark) -> Result<(), Refusal>
-        ensures { Follows result self.old self.new (λ e K. feed_optional e K (mark_of mark)) }
+        ensures { FollowsLate result self.old self.new (λ e K. feed_optional e K (mark_of mark)) }
+    {
+        match mark {
+            Mark::OpenBracket(place) => self.open_optional(place),
+            mark => self.feed_missing(mark),
+        }
+    }
+
+    // A bracket there, inside of a call.
+    #[tactic(auto, using(crate::proofs::Stacked::in_no_call, crate::proofs::Stacked::a_missing))]
+    fn open_optional(&mut self, place: Span) -> Result<(), Refusal>
+        ensures { Follows result self.old self.new (λ e K. feed_optional e K (open_bracket place)) }
+    {
+        if !self.is_in_call() {
+            return Err(Refusal::Unexpected);
+        }
+        self.open_statements(place)
+    }
+
+    // Whether an input of a call is read.
+    fn is_in_call(&self) -> bool
+        ensures { result ≡ is_in_call (stack_of self.now) }
+    {
+        match self.newest() {
+            Some(Frame::Call(_, _, _, _, _)) => true,
+            _ => false,
+        }
+    }
+
+    // Any other token, since the block is missing.
+    fn feed_missing(&mut self, mark: Mark) -> Result<(), Refusal>
+        ensures { FollowsLate result self.old self.new (λ e K. feed_missing e K (mark_of mark)) }
     {
         match self.take() {
-            Some(Frame::Call(head, inputs, need, rest, last)) => {
-                self.feed_maybe(head, inputs, need, rest, last, mark)
+            Some(Frame::Call(head, inputs, _, rest, last)) => {
+                self.next(head, inputs, rest.without_maybes(), last)?;
+                let mode = self.take_mode();
+                self.feed_plain(mode, mark)
             }
             other => refuse(other),
         }
-    }
-
-    // The same inside this call.
-    fn feed_maybe(
-        &mut self,
-        head: Head,
-        inputs: Grouped,
-        need: Need,
-        rest: Inputs,
-        last: Last,
-        mark: Mark,
-    ) -> Result<(), Refusal>
-        ensures { Follows result self.old self.new
-            (λ e K.
-            feed_optional e
-            (InCall head.name head.place inputs need (needs_of rest) last ∷ K)
-            (mark_of mark)) }
-    {
-        match mark {
-            Mark::OpenBracket(place) => {
-                self.put(Frame::Call(head, inputs, need, rest, last))?;
-                self.open_statements(place)?;
-                Ok(())
-            }
-            mark => self.feed_without(head, inputs, rest, last, mark),
-        }
-    }
-
-    // A token in this call, where a block is missing.
-    fn feed_without(
-        &mut self,
-        head: Head,
-        inputs: Grouped,
-        rest: Inputs,
-        last: Last,
-        mark: Mark,
-    ) -> Result<(), Refusal>
-        ensures { Follows result self.old self.new
-            (λ e K.
-            feed_plain
-            (next head.name head.place inputs (without_maybes (needs_of rest)) last e K)
-            (mark_of mark)) }
-    {
-        self.next(head, inputs, rest.without_maybes(), last)?;
-        let mode = self.take_mode();
-        self.feed_plain(mode, mark)
     }
 
     // A token in this mode, where no chain is at hand and no block may be missing.
@@ -131,7 +130,7 @@ impl<'a> Reader<'a> {
 
     // A token where a chain is at hand.
     fn feed_have(&mut self, shape: Shape, tree: Grown, mark: Mark) -> Result<(), Refusal>
-        ensures { Follows result self.old self.new
+        ensures { FollowsLate result self.old self.new
             (λ e K. feed_have shape tree e K (mark_of mark)) }
     {
         match mark {
@@ -148,18 +147,14 @@ impl<'a> Reader<'a> {
         head: Head,
         class: Class,
     ) -> Result<(), Refusal>
-        ensures { Follows result self.old self.new
+        ensures { FollowsLate result self.old self.new
             (λ e K. feed_have shape tree e K (word head.name (class_of class) head.place)) }
     {
         match class {
-            Class::With => {
-                self.enter(Mode::Opening(Block::Reporter), Frame::With(head, tree))?;
-                Ok(())
-            }
+            Class::With => self.enter(Mode::Opening(Block::Reporter), Frame::With(head, tree)),
             Class::Near(others) => {
                 let sides = Grouped::of(self.alloc, tree)?;
-                self.enter(Mode::Begin, Frame::Near(head, sides, others))?;
-                Ok(())
+                self.enter(Mode::Begin, Frame::Near(head, sides, others))
             }
             Class::Of => self.feed_of(head, tree),
             Class::Binary(level, _) => self.feed_binary(level, head, shape, tree),
@@ -169,7 +164,7 @@ impl<'a> Reader<'a> {
 
     // A token that ends the chain at hand, and all that is open with it.
     fn feed_broken(&mut self, shape: Shape, tree: Grown, mark: Mark) -> Result<(), Refusal>
-        ensures { Follows result self.old self.new
+        ensures { FollowsLate result self.old self.new
             (λ e K. feed_broken e (settle top shape tree K) (mark_of mark)) }
     {
         let (shape, tree) = self.settle(TOP, shape, tree)?;
@@ -186,7 +181,7 @@ impl<'a> Reader<'a> {
         shape: Shape,
         tree: Grown,
     ) -> Result<(), Refusal>
-        ensures { Follows result self.old self.new
+        ensures { FollowsLate result self.old self.new
             (λ e K.
             feed_binary (nat_lt level top) level head.name head.place e
             (settle (suc level) shape tree K)) }
@@ -198,8 +193,7 @@ impl<'a> Reader<'a> {
         if !self.may_operate() {
             return Err(Refusal::Unexpected);
         }
-        self.enter(Mode::Begin, Frame::Binary(level + 1, head, left))?;
-        Ok(())
+        self.enter(Mode::Begin, Frame::Binary(level + 1, head, left))
     }
 
     // Whether an operator may follow an expression here.
@@ -227,7 +221,6 @@ impl<'a> Reader<'a> {
         self.enter(
             Mode::Begin,
             Frame::Of(head, parts.under(Label::Reporter, place)),
-        )?;
-        Ok(())
+        )
     }
 }

@@ -1,5 +1,6 @@
 -- The state of the machine that a reader has.
-use Rattle.std.specs.Prelude.{◌-◌, List, [], take, length}
+use Rattle.std.specs.Prelude.{◌-◌, ◌<◌, List, [], take, length}
+use Rattle.std.specs.Vec.{vec_len, vec_capacity}
 use Rattle.nl_fixed.specs.Nouns.{Names}
 use Rattle.nl_grammar.specs.Machine as M
 use Rattle.nl_reading.specs.inner.Reading.{mode_of, mode_names, frames_onto, names_onto}
@@ -21,3 +22,7 @@ outer_stack_of r = frames_onto (take (length r.stack.items - 1) r.stack.items) r
 
 abbrev pub outer_names_of : Reader → Names
 outer_names_of r = names_onto (take (length r.stack.items - 1) r.stack.items) r.inputs.now
+
+-- one more frame takes no memory
+abbrev pub HasRoom : Reader → Type 0
+HasRoom r = vec_len r.stack < vec_capacity r.stack
