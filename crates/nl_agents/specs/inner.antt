@@ -1,0 +1,3 @@
+-- What only proofs need: steps of private functions. A change here changes no meaning of a world.
+pub mod Numbering
+pub mod Views

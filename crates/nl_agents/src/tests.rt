@@ -1,0 +1,165 @@
+//! Slots, and a layout that is made by hand.
+use crate::layout::{BreedLayout, BreedLayouts, Layout};
+use crate::slots::Slots;
+use nl_fixed::{NoMemory, Str};
+use nl_tree::What;
+use nl_words::{Kinds, codes};
+use std::alloc::Global;
+use std::test::Fail;
+
+fn slots(alloc: Global, list: &[u32]) -> Result<Slots, NoMemory> {
+    Ok(Slots::of_vec(list.to_vec(alloc)?))
+}
+
+// Foxes are turtles that own the slot 15, roads are links with a direction that own 16.
+fn breeds(alloc: Global) -> Result<BreedLayouts, NoMemory> {
+    let mut breeds = BreedLayouts::empty(alloc);
+    let foxes = BreedLayout {
+        plural: Str::of(alloc, b"foxes")?,
+        singular: Str::of(alloc, b"fox")?,
+        link: false,
+        directed: false,
+        own: slots(alloc, &[15])?,
+    };
+    breeds.push(alloc, foxes)?;
+    let roads = BreedLayout {
+        plural: Str::of(alloc, b"roads")?,
+        singular: Str::of(alloc, b"road")?,
+        link: true,
+        directed: true,
+        own: slots(alloc, &[16])?,
+    };
+    breeds.push(alloc, roads)?;
+    Ok(breeds)
+}
+
+// Two global variables, of which the code declares the second. All turtles own the slot 14, beside a few of the built-in ones.
+fn layout(alloc: Global) -> Result<Layout, NoMemory> {
+    Ok(Layout {
+        globals: 2,
+        coded: slots(alloc, &[1])?,
+        slots: 17,
+        every_turtle: slots(alloc, &[0, 1, 14])?,
+        every_patch: slots(alloc, &[9])?,
+        every_link: slots(alloc, &[0, 13])?,
+        some_turtle: slots(alloc, &[0, 1, 14, 15])?,
+        some_link: slots(alloc, &[0, 13, 16])?,
+        breeds: breeds(alloc)?,
+    })
+}
+
+#[test]
+fn slots_ascend_and_are_found(rt: HostRuntime) -> Result<(), Fail> {
+    let kept = slots(rt.alloc(), &[16, 0, 14, 16, 2])?;
+    let again = kept.copy(rt.alloc())?;
+    for list in [&kept, &again] {
+        assert_eq!(rt; list.as_slice(), [0, 2, 14, 16].as_slice());
+        assert_eq!(rt; list.len(), 4);
+        assert!(rt; list.contains(14));
+        assert!(rt; !list.contains(15));
+        assert_eq!(rt; list.place(14), Some(2));
+        assert_eq!(rt; list.place(15), None);
+    }
+    assert_eq!(rt; Slots::empty(rt.alloc()).len(), 0);
+    Ok(())
+}
+
+#[test]
+fn words_have_slots(rt: HostRuntime) -> Result<(), Fail> {
+    let layout = layout(rt.alloc())?;
+    for (what, slot) in [
+        (What::Base(codes::COLOR), Some(0)),
+        (What::Base(codes::HEADING), Some(1)),
+        (What::Base(codes::TIE_MODE), Some(13)),
+        (What::Base(codes::XCOR), None),
+        (What::Base(codes::WHO), None),
+        (What::Global(1), Some(1)),
+        (What::Global(2), None),
+        (What::Own(0), Some(14)),
+        (What::Own(2), Some(16)),
+        (What::Own(3), None),
+        (What::Own(4_294_967_295), None),
+        (What::Made(1, codes::TURTLES), None),
+        (What::Procedure(0), None),
+    ] {
+        assert_eq!(rt; layout.slot(what), slot, "the slot of {what:?}");
+    }
+    Ok(())
+}
+
+// Whether turtles of no breed, foxes, links of no breed and roads own the variable of a slot.
+fn own(layout: &Layout, slot: u32) -> [bool; 4] {
+    [
+        layout.turtle_owns(0, slot),
+        layout.turtle_owns(1, slot),
+        layout.link_owns(0, slot),
+        layout.link_owns(2, slot),
+    ]
+}
+
+#[test]
+fn breeds_own_what_is_theirs(rt: HostRuntime) -> Result<(), Fail> {
+    let made = layout(rt.alloc())?;
+    let again = made.copy(rt.alloc())?;
+    for layout in [&made, &again] {
+        for (slot, owned) in [
+            (13, [false, false, true, true]),
+            (14, [true, true, false, false]),
+            (15, [false, true, false, false]),
+            (16, [false, false, false, true]),
+        ] {
+            assert_eq!(rt; own(layout, slot), owned, "who owns {slot}");
+        }
+        assert!(rt; layout.is_coded(1));
+        assert!(rt; !layout.is_coded(0));
+    }
+    Ok(())
+}
+
+#[test]
+fn breeds_have_numbers(rt: HostRuntime) -> Result<(), Fail> {
+    let layout = layout(rt.alloc())?;
+    assert_eq!(rt; layout.breeds_count(), 3);
+    assert_eq!(rt;
+        layout.breed(2).ok_or("roads")?.singular.as_bytes(),
+        b"road".as_slice()
+    );
+    assert!(rt; layout.breed(0).is_none());
+    assert!(rt; layout.breed(3).is_none());
+    // The number, and whether it is that of a breed of turtles, or of links.
+    for (breed, of_turtles, of_links) in [
+        (0, true, true),
+        (1, true, false),
+        (2, false, true),
+        (3, false, false),
+    ] {
+        assert_eq!(rt;
+            layout.is_turtle_breed(breed),
+            of_turtles,
+            "turtles of {breed}"
+        );
+        assert_eq!(rt; layout.is_link_breed(breed), of_links, "links of {breed}");
+    }
+    Ok(())
+}
+
+#[test]
+fn slots_have_owners(rt: HostRuntime) -> Result<(), Fail> {
+    let layout = layout(rt.alloc())?;
+    for (slot, turtle, patch, link) in [
+        (0, true, false, true),
+        (9, false, true, false),
+        (15, true, false, false),
+        (16, false, false, true),
+        (2, false, false, false),
+    ] {
+        let owners = Kinds {
+            observer: false,
+            turtle,
+            patch,
+            link,
+        };
+        assert_eq!(rt; layout.owners(slot), owners, "the owners of {slot}");
+    }
+    Ok(())
+}
