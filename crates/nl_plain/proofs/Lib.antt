@@ -1,0 +1,4 @@
+pub mod Cleared
+pub mod Filled
+pub mod Found
+pub mod Holds

@@ -1,0 +1,6 @@
+use Rattle.nl_agents.specs.declared.agents.Link.{Link}
+use Rattle.nl_plain.proofs.Filled.{above_taken}
+use Rattle.nl_plain.proofs.filling.fill_links.Goals as goal
+
+pub push-requires : goal.push-requires
+push-requires c = above_taken (λ (a : Link). a.serial) c.args.links.now c.loop-link.link-index c.link-item.result c.loop-link.into c.link-item.is c.loop-link-test.true c.requires c.loop-link.invariant

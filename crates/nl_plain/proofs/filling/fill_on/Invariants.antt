@@ -1,0 +1,7 @@
+-- The serials so far.
+use Rattle.std.proofs.Common.{◌≡◌, map, filter, take, ◌==◌}
+use Rattle.nl_grid.specs.Geometry.{patch_at}
+use Rattle.nl_plain.proofs.filling.fill_on.Given as goal
+
+abbrev pub invariant-loop-turtle : goal.invariant-loop-turtle
+invariant-loop-turtle l = l.into ≡ map (λ a. a.serial) (filter (λ t. patch_at l.shape t.at == l.patch) (take l.turtle-index l.turtles))

@@ -1,0 +1,11 @@
+use Rattle.std.proofs.Common.{ap, subst, sym}
+use Rattle.nl_agents.specs.Standing.{IsWorld}
+use Rattle.nl_agents.proofs.Worlds.{globals_cleared_is_world}
+use Rattle.nl_plain.specs.Held.{world_in}
+use Rattle.nl_plain.proofs.Holds.{with_globals}
+use Rattle.nl_plain.proofs.plain.PlainStore.clear_globals.Goals as goal
+
+pub invariant_of-self : goal.invariant_of-self
+invariant_of-self c =
+    let w = world_in c.args.self.now in
+    record { stands = subst IsWorld (sym (ap (with_globals w) c.clear_coded.ensures)) (globals_cleared_is_world w c.args.self.now.stands) }
