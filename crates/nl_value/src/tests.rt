@@ -9,9 +9,56 @@ use crate::sets::{AgentSet, Serials};
 use crate::small_world::SmallWorld;
 use crate::texts::{TextFail, text};
 use crate::values::{Items, Value};
+use Leaf::{Link, Nobody, Number, Patch, Truth, Turtle, Words};
+use Members::{Breed, Links, Patches, SomeLinks, SomePatches, SomeTurtles, Turtles};
+use Sample::{Deep, Falling, Letters, List, Nested, One, Set};
 use nl_fixed::{NoMemory, Num, Str};
 use std::alloc::Global;
 use std::test::Fail;
+
+/// What a list of the tests holds.
+#[derive(Clone, Copy)]
+enum Leaf {
+    /// So many millionths.
+    Number(i64),
+    Truth(bool),
+    Words(&'static [u8]),
+    Turtle(u64),
+    Patch(u32),
+    Link(u64),
+    Nobody,
+}
+
+/// The members of a set: all of a kind, a breed, or two of a kind.
+#[derive(Clone, Copy)]
+enum Members {
+    Turtles,
+    Patches,
+    Links,
+    Breed(u32),
+    SomeTurtles(u64, u64),
+    SomePatches(u64, u64),
+    SomeLinks(u64, u64),
+}
+
+/// What a value of the tests is made of. It holds no memory, so that a table of samples costs its proof little.
+#[derive(Clone, Copy)]
+enum Sample {
+    One(Leaf),
+    List(&'static [Leaf]),
+    /// A list of a list and a leaf.
+    Nested(&'static [Leaf], Leaf),
+    Set(Members),
+    /// A text of so many letters.
+    Letters(usize),
+    /// Nobody inside of so many lists.
+    Deep(u32),
+    /// Numbers from 100,000 down to 1.
+    Falling,
+}
+
+/// Lets go of a thing by one call: a value that ends inside of a function is walked there variant by variant.
+fn let_go<T: Drop>(_thing: T) {}
 
 /// The number of so many millionths, which are in range.
 fn number(millionths: i64) -> Value {
@@ -25,11 +72,37 @@ fn words(alloc: Global, bytes: &[u8]) -> Result<Value, NoMemory> {
     Ok(Value::Words(Str::of(alloc, bytes)?))
 }
 
+fn leaf_of(alloc: Global, leaf: Leaf) -> Result<Value, NoMemory> {
+    match leaf {
+        Leaf::Number(millionths) => Ok(number(millionths)),
+        Leaf::Truth(truth) => Ok(Value::Truth(truth)),
+        Leaf::Words(bytes) => words(alloc, bytes),
+        Leaf::Turtle(turtle) => Ok(Value::Turtle(turtle)),
+        Leaf::Patch(patch) => Ok(Value::Patch(patch)),
+        Leaf::Link(link) => Ok(Value::Link(link)),
+        Leaf::Nobody => Ok(Value::Nobody),
+    }
+}
+
+fn push_leaf(alloc: Global, items: &mut Items, leaf: Leaf) -> Result<(), NoMemory> {
+    let value = leaf_of(alloc, leaf)?;
+    items.push(alloc, value)
+}
+
 /// The list of these values.
-fn list(alloc: Global, first: Value, second: Value) -> Result<Value, NoMemory> {
+fn list(alloc: Global, leaves: &[Leaf]) -> Result<Value, NoMemory> {
+    let mut items = Items::empty(alloc);
+    for leaf in leaves {
+        push_leaf(alloc, &mut items, *leaf)?;
+    }
+    Ok(Value::Items(items))
+}
+
+/// The list of the one value and a leaf.
+fn list_and(alloc: Global, first: Value, second: Leaf) -> Result<Value, NoMemory> {
     let mut items = Items::empty(alloc);
     items.push(alloc, first)?;
-    items.push(alloc, second)?;
+    push_leaf(alloc, &mut items, second)?;
     Ok(Value::Items(items))
 }
 
@@ -43,63 +116,52 @@ fn serials(alloc: Global, first: u64, second: u64) -> Result<Serials, NoMemory> 
     Ok(numbers)
 }
 
+fn set_of(alloc: Global, members: Members) -> Result<AgentSet, NoMemory> {
+    match members {
+        Members::Turtles => Ok(AgentSet::Turtles),
+        Members::Patches => Ok(AgentSet::Patches),
+        Members::Links => Ok(AgentSet::Links),
+        Members::Breed(breed) => Ok(AgentSet::Breed(breed)),
+        Members::SomeTurtles(a, b) => Ok(AgentSet::SomeTurtles(serials(alloc, a, b)?)),
+        Members::SomePatches(a, b) => Ok(AgentSet::SomePatches(serials(alloc, a, b)?)),
+        Members::SomeLinks(a, b) => Ok(AgentSet::SomeLinks(serials(alloc, a, b)?)),
+    }
+}
+
+/// The value of a sample.
+fn made(alloc: Global, sample: Sample) -> Result<Value, NoMemory> {
+    match sample {
+        Sample::One(leaf) => leaf_of(alloc, leaf),
+        Sample::List(leaves) => list(alloc, leaves),
+        Sample::Nested(leaves, leaf) => list_and(alloc, list(alloc, leaves)?, leaf),
+        Sample::Set(members) => Ok(Value::Set(set_of(alloc, members)?)),
+        Sample::Letters(count) => letters(alloc, count),
+        Sample::Deep(times) => nested(alloc, times),
+        Sample::Falling => Ok(Value::Items(falling(alloc)?)),
+    }
+}
+
 /// Whether the text of the value is this one.
-fn prints(alloc: Global, value: &Value, quoted: bool, wanted: &str) -> Result<bool, TextFail> {
+fn reads(alloc: Global, value: &Value, quoted: bool, wanted: &str) -> Result<bool, TextFail> {
     let printed = text(alloc, value, quoted, &SmallWorld)?;
     Ok(printed.as_bytes() == wanted.as_bytes())
 }
 
-/// Values without agents, whether quotes are asked for, and their texts.
-fn plain_texts(alloc: Global) -> Result<Vec<(Value, bool, &'static str)>, NoMemory> {
-    let mut rows = Vec::new(alloc);
-    rows.push((number(1_500_000), true, "1.5"))?;
-    rows.push((Value::Truth(true), true, "true"))?;
-    rows.push((Value::Truth(false), false, "false"))?;
-    rows.push((words(alloc, b"a\tb")?, false, "a\tb"))?;
-    rows.push((words(alloc, b"a\tb\n\\\"")?, true, "\"a\\tb\\n\\\\\\\"\""))?;
-    rows.push((Value::Nobody, true, "nobody"))?;
-    Ok(rows)
+/// Whether the text of the sample's value is this one.
+fn prints(alloc: Global, sample: Sample, quoted: bool, wanted: &str) -> Result<bool, TextFail> {
+    let value = made(alloc, sample)?;
+    let answer = reads(alloc, &value, quoted, wanted);
+    let_go(value);
+    answer
 }
 
-/// Lists and their texts.
-fn list_texts(alloc: Global) -> Result<Vec<(Value, bool, &'static str)>, NoMemory> {
-    let inner = list(
-        alloc,
-        words(alloc, b"say \"no\"\n\tto \\")?,
-        number(-2_500_000),
-    )?;
-    let outer = list(alloc, inner, Value::Nobody)?;
-    let pair = list(alloc, number(1_000_000), words(alloc, b"a")?)?;
-    let mut rows = Vec::new(alloc);
-    rows.push((Value::Items(Items::empty(alloc)), false, "[]"))?;
-    rows.push((pair, false, "[1 \"a\"]"))?;
-    rows.push((
-        outer,
-        false,
-        "[[\"say \\\"no\\\"\\n\\tto \\\\\" -2.5] nobody]",
-    ))?;
-    Ok(rows)
-}
+/// A sample, whether quotes are asked for, and its text.
+type Printed = (Sample, bool, &'static str);
 
-/// Agents and sets and their texts.
-fn agent_texts(alloc: Global) -> Result<Vec<(Value, bool, &'static str)>, NoMemory> {
-    let some = Value::Set(AgentSet::SomeTurtles(serials(alloc, 1, 7)?));
-    let mut rows = Vec::new(alloc);
-    rows.push((Value::Turtle(1), false, "(turtle 1)"))?;
-    rows.push((Value::Turtle(2), true, "(fox 2)"))?;
-    rows.push((Value::Turtle(7), false, "nobody"))?;
-    rows.push((Value::Patch(0), false, "(patch 1 -2)"))?;
-    rows.push((Value::Link(2), false, "(link 0 1)"))?;
-    rows.push((Value::Link(9), false, "nobody"))?;
-    rows.push((Value::Set(AgentSet::Breed(1)), false, "(agentset, 1 foxes)"))?;
-    rows.push((some, false, "(agentset, 2 turtles)"))?;
-    Ok(rows)
-}
-
-/// Whether each value has its text.
-fn all_print(alloc: Global, rows: &[(Value, bool, &'static str)]) -> Result<bool, TextFail> {
-    for (value, quoted, wanted) in rows {
-        if !prints(alloc, value, *quoted, wanted)? {
+/// Whether each sample has its text.
+fn all_print(alloc: Global, rows: &[Printed]) -> Result<bool, TextFail> {
+    for (sample, quoted, wanted) in rows {
+        if !prints(alloc, *sample, *quoted, wanted)? {
             return Ok(false);
         }
     }
@@ -107,11 +169,45 @@ fn all_print(alloc: Global, rows: &[(Value, bool, &'static str)]) -> Result<bool
 }
 
 #[test]
-fn values_have_these_texts(rt: HostRuntime) -> Result<(), Fail> {
+fn values_without_agents_have_these_texts(rt: HostRuntime) -> Result<(), Fail> {
+    let rows = [
+        (One(Number(1_500_000)), true, "1.5"),
+        (One(Truth(true)), true, "true"),
+        (One(Truth(false)), false, "false"),
+        (One(Words(b"a\tb")), false, "a\tb"),
+        (One(Words(b"a\tb\n\\\"")), true, "\"a\\tb\\n\\\\\\\"\""),
+        (One(Nobody), true, "nobody"),
+        (List(&[]), false, "[]"),
+        (List(&[Number(1_000_000), Words(b"a")]), false, "[1 \"a\"]"),
+        (
+            Nested(&[Words(b"say \"no\"\n\tto \\"), Number(-2_500_000)], Nobody),
+            false,
+            "[[\"say \\\"no\\\"\\n\\tto \\\\\" -2.5] nobody]",
+        ),
+    ];
+    assert!(rt; all_print(rt.alloc(), rows.as_slice())?);
+    Ok(())
+}
+
+#[test]
+fn agents_and_sets_have_these_texts(rt: HostRuntime) -> Result<(), Fail> {
+    let rows = [
+        (One(Turtle(1)), false, "(turtle 1)"),
+        (One(Turtle(2)), true, "(fox 2)"),
+        (One(Turtle(7)), false, "nobody"),
+        (One(Patch(0)), false, "(patch 1 -2)"),
+        (One(Link(2)), false, "(link 0 1)"),
+        (One(Link(9)), false, "nobody"),
+        (Set(Breed(1)), false, "(agentset, 1 foxes)"),
+        (Set(SomeTurtles(1, 7)), false, "(agentset, 2 turtles)"),
+    ];
+    assert!(rt; all_print(rt.alloc(), rows.as_slice())?);
+    Ok(())
+}
+
+#[test]
+fn agents_of_no_world_have_no_text_of_their_own(rt: HostRuntime) -> Result<(), Fail> {
     let alloc = rt.alloc();
-    assert!(rt; all_print(alloc, plain_texts(alloc)?.as_slice())?);
-    assert!(rt; all_print(alloc, list_texts(alloc)?.as_slice())?);
-    assert!(rt; all_print(alloc, agent_texts(alloc)?.as_slice())?);
     let literal = text(alloc, &Value::Turtle(1), false, &NoLife)?;
     assert!(rt; literal.as_bytes() == "nobody".as_bytes());
     let nameless = text(alloc, &Value::Patch(0), true, &NoLife)?;
@@ -131,132 +227,133 @@ fn text_len(alloc: Global, value: &Value, quoted: bool) -> Result<usize, TextFai
     Ok(printed.as_bytes().len())
 }
 
+/// How many bytes the text of the sample's value has.
+fn sample_len(alloc: Global, sample: Sample, quoted: bool) -> Result<usize, TextFail> {
+    let value = made(alloc, sample)?;
+    let len = text_len(alloc, &value, quoted);
+    let_go(value);
+    len
+}
+
+/// Whether the text of the sample's value has so many bytes.
+fn has_text_of(alloc: Global, sample: Sample, quoted: bool, len: usize) -> bool {
+    sample_len(alloc, sample, quoted) == Ok(len)
+}
+
+/// Whether the text of the sample's value is too large.
+fn is_too_large(alloc: Global, sample: Sample, quoted: bool) -> bool {
+    sample_len(alloc, sample, quoted) == Err(TextFail::TooLarge)
+}
+
 #[test]
-fn a_text_of_a_million_bytes_is_too_large(rt: HostRuntime) -> Result<(), Fail> {
+fn a_text_of_a_million_bytes_is_too_large(rt: HostRuntime) {
     let alloc = rt.alloc();
-    let most = letters(alloc, 999_999)?;
-    let more = letters(alloc, 1_000_000)?;
-    assert_eq!(rt; text_len(alloc, &most, false), Ok(999_999));
-    assert_eq!(rt; text_len(alloc, &most, true), Err(TextFail::TooLarge));
-    assert_eq!(rt; text_len(alloc, &more, false), Err(TextFail::TooLarge));
-    Ok(())
+    assert!(rt; has_text_of(alloc, Letters(999_999), false, 999_999));
+    assert!(rt; is_too_large(alloc, Letters(999_999), true));
+    assert!(rt; is_too_large(alloc, Letters(1_000_000), false));
 }
 
-/// Appends values without agents; of all values here those with one number are the same and no others.
-fn push_contents(alloc: Global, rows: &mut Vec<(u8, Value)>) -> Result<(), NoMemory> {
-    rows.push((1, number(1_000_000)))?;
-    rows.push((2, number(2_000_000)))?;
-    rows.push((3, Value::Truth(true)))?;
-    rows.push((4, words(alloc, b"1")?))?;
-    rows.push((5, list(alloc, number(1), Value::Nobody)?))?;
-    rows.push((5, list(alloc, number(1), Value::Link(8))?))?;
-    rows.push((6, list(alloc, Value::Nobody, number(1))?))?;
-    Ok(())
-}
+/// Samples; those with one number are the same value, and no others are.
+type Kind = (u8, Sample);
 
-/// Appends agents, some of them dead.
-fn push_agents(rows: &mut Vec<(u8, Value)>) -> Result<(), NoMemory> {
-    rows.push((7, Value::Turtle(1)))?;
-    rows.push((8, Value::Turtle(2)))?;
-    rows.push((9, Value::Patch(1)))?;
-    rows.push((10, Value::Link(1)))?;
-    rows.push((11, Value::Nobody))?;
-    rows.push((11, Value::Turtle(7)))?;
-    rows.push((11, Value::Link(7)))?;
-    Ok(())
-}
-
-/// Appends sets, some of which list dead members.
-fn push_sets(alloc: Global, rows: &mut Vec<(u8, Value)>) -> Result<(), NoMemory> {
-    rows.push((12, Value::Set(AgentSet::Turtles)))?;
-    rows.push((12, Value::Set(AgentSet::SomeTurtles(serials(alloc, 1, 2)?))))?;
-    rows.push((13, Value::Set(AgentSet::Breed(1))))?;
-    rows.push((13, Value::Set(AgentSet::SomeTurtles(serials(alloc, 2, 7)?))))?;
-    rows.push((14, Value::Set(AgentSet::SomeLinks(serials(alloc, 1, 2)?))))?;
-    rows.push((15, Value::Set(AgentSet::SomePatches(serials(alloc, 1, 2)?))))?;
-    Ok(())
+/// Whether the value and that of the sample are the same.
+fn is_same(alloc: Global, value: &Value, other: Sample) -> Result<bool, NoMemory> {
+    let other = made(alloc, other)?;
+    let answer = same(alloc, value, &other, &SmallWorld);
+    let_go(other);
+    answer
 }
 
 /// Whether the value is the same as just those rows that have its number.
-fn is_same_as_its_kind(
+fn is_same_as_kind(
     alloc: Global,
     kind: u8,
     value: &Value,
-    rows: &[(u8, Value)],
+    rows: &[Kind],
 ) -> Result<bool, NoMemory> {
-    for (other, row) in rows {
-        if same(alloc, value, row, &SmallWorld)? != (kind == *other) {
+    for (other, sample) in rows {
+        if is_same(alloc, value, *sample)? != (kind == *other) {
             return Ok(false);
         }
     }
     Ok(true)
 }
 
+/// Whether the row is the same as just those rows that have its number.
+fn is_same_as_its_kind(alloc: Global, row: &Kind, rows: &[Kind]) -> Result<bool, NoMemory> {
+    let (kind, sample) = row;
+    let value = made(alloc, *sample)?;
+    let answer = is_same_as_kind(alloc, *kind, &value, rows);
+    let_go(value);
+    answer
+}
+
+// Of the agents some are dead, and some sets list dead members.
 #[test]
 fn values_are_the_same_as_these(rt: HostRuntime) -> Result<(), Fail> {
-    let alloc = rt.alloc();
-    let mut rows = Vec::new(alloc);
-    push_contents(alloc, &mut rows)?;
-    push_agents(&mut rows)?;
-    push_sets(alloc, &mut rows)?;
-    for (kind, value) in &rows {
+    let rows = [
+        (1, One(Number(1_000_000))),
+        (2, One(Number(2_000_000))),
+        (3, One(Truth(true))),
+        (4, One(Words(b"1"))),
+        (5, List(&[Number(1), Nobody])),
+        (5, List(&[Number(1), Link(8)])),
+        (6, List(&[Nobody, Number(1)])),
+        (7, One(Turtle(1))),
+        (8, One(Turtle(2))),
+        (9, One(Patch(1))),
+        (10, One(Link(1))),
+        (11, One(Nobody)),
+        (11, One(Turtle(7))),
+        (11, One(Link(7))),
+        (12, Set(Turtles)),
+        (12, Set(SomeTurtles(1, 2))),
+        (13, Set(Breed(1))),
+        (13, Set(SomeTurtles(2, 7))),
+        (14, Set(SomeLinks(1, 2))),
+        (15, Set(SomePatches(1, 2))),
+    ];
+    for row in rows.iter() {
         assert!(rt;
-            is_same_as_its_kind(alloc, *kind, value, rows.as_slice())?,
-            "{kind}"
+            is_same_as_its_kind(rt.alloc(), row, rows.as_slice())?,
+            "{}",
+            row.0
         );
     }
-    let some = Value::Set(AgentSet::SomeTurtles(serials(alloc, 1, 2)?));
-    assert!(rt; same(alloc, &some, &Value::Set(AgentSet::Breed(4)), &NoLife)?);
-    assert!(rt; !same(alloc, &some, &Value::Set(AgentSet::Patches), &NoLife)?);
     Ok(())
 }
 
-/// A value, the kind of those with which it has an order, and where it comes among all rows: values of one place are equal.
-type Row = (Value, OrderKind, u8);
+/// Whether the value and that of the sample are the same where there is no world.
+fn is_same_alone(alloc: Global, value: &Value, other: Sample) -> Result<bool, NoMemory> {
+    let other = made(alloc, other)?;
+    let answer = same(alloc, value, &other, &NoLife);
+    let_go(other);
+    answer
+}
 
-/// Appends numbers and texts. Texts compare by their bytes, so that capital letters come before small ones.
-fn push_ordered_contents(alloc: Global, rows: &mut Vec<Row>) -> Result<(), NoMemory> {
-    rows.push((number(-1_500_000), OrderKind::Numbers, 0))?;
-    rows.push((number(0), OrderKind::Numbers, 1))?;
-    rows.push((number(1), OrderKind::Numbers, 2))?;
-    rows.push((words(alloc, b"")?, OrderKind::Texts, 3))?;
-    rows.push((words(alloc, b"Z")?, OrderKind::Texts, 4))?;
-    rows.push((words(alloc, b"a")?, OrderKind::Texts, 5))?;
-    rows.push((words(alloc, b"ab")?, OrderKind::Texts, 6))?;
-    rows.push((words(alloc, b"b")?, OrderKind::Texts, 7))?;
+/// Whether the values of the samples are the same where there is no world.
+fn are_same_alone(alloc: Global, sample: Sample, other: Sample) -> Result<bool, NoMemory> {
+    let value = made(alloc, sample)?;
+    let answer = is_same_alone(alloc, &value, other);
+    let_go(value);
+    answer
+}
+
+#[test]
+fn sets_of_no_world_are_the_same_if_of_one_kind(rt: HostRuntime) -> Result<(), Fail> {
+    let alloc = rt.alloc();
+    assert!(rt; are_same_alone(alloc, Set(SomeTurtles(1, 2)), Set(Breed(4)))?);
+    assert!(rt; !are_same_alone(alloc, Set(SomeTurtles(1, 2)), Set(Patches))?);
     Ok(())
 }
 
-/// Appends living agents: turtles and patches by number, links by their ends, then their breeds and then their serials.
-fn push_ordered_agents(rows: &mut Vec<Row>) -> Result<(), NoMemory> {
-    rows.push((Value::Turtle(1), OrderKind::Turtles, 8))?;
-    rows.push((Value::Turtle(2), OrderKind::Turtles, 9))?;
-    rows.push((Value::Patch(0), OrderKind::Patches, 10))?;
-    rows.push((Value::Patch(5), OrderKind::Patches, 11))?;
-    rows.push((Value::Link(2), OrderKind::Links, 12))?;
-    rows.push((Value::Link(4), OrderKind::Links, 13))?;
-    rows.push((Value::Link(3), OrderKind::Links, 14))?;
-    rows.push((Value::Link(1), OrderKind::Links, 15))?;
-    Ok(())
-}
+/// A sample, the kind of those with which it has an order, and where it comes among all rows: values of one place are equal.
+type Row = (Sample, OrderKind, u8);
 
-/// Appends values that have no order.
-fn push_unordered(alloc: Global, rows: &mut Vec<Row>) -> Result<(), NoMemory> {
-    rows.push((Value::Truth(false), OrderKind::Unordered, 16))?;
-    rows.push((Value::Truth(true), OrderKind::Unordered, 16))?;
-    rows.push((Value::Items(Items::empty(alloc)), OrderKind::Unordered, 16))?;
-    rows.push((list(alloc, number(1), number(2))?, OrderKind::Unordered, 16))?;
-    rows.push((Value::Turtle(7), OrderKind::Unordered, 16))?;
-    rows.push((Value::Link(9), OrderKind::Unordered, 16))?;
-    rows.push((Value::Nobody, OrderKind::Unordered, 16))?;
-    rows.push((Value::Set(AgentSet::Links), OrderKind::Unordered, 16))?;
-    Ok(())
-}
-
-/// Whether the first row's value has its kind, and compares with the second row's as their places do.
-fn compares(row: &Row, other: &Row) -> bool {
-    let (value, kind, place) = row;
-    let (second, other_kind, other_place) = other;
+/// Whether the value has the first row's kind, and compares with the second row's as their places do.
+fn compares_with(value: &Value, row: &Row, other: &Row, second: &Value) -> bool {
+    let (_, kind, place) = row;
+    let (_, other_kind, other_place) = other;
     let ordered = *kind != OrderKind::Unordered && *kind == *other_kind;
     let wanted = if ordered {
         Some(place < other_place)
@@ -268,20 +365,68 @@ fn compares(row: &Row, other: &Row) -> bool {
         && compare(value, second, &SmallWorld) == place.cmp(other_place)
 }
 
-/// Whether the row compares with each row as their places do.
-fn compares_with_all(row: &Row, rows: &[Row]) -> bool {
-    rows.iter().all(|other| compares(row, other))
+/// Whether the value of the first row compares with the second row as their places do.
+fn compares(alloc: Global, value: &Value, row: &Row, other: &Row) -> Result<bool, NoMemory> {
+    let second = made(alloc, other.0)?;
+    let answer = compares_with(value, row, other, &second);
+    let_go(second);
+    Ok(answer)
 }
 
+/// Whether the value of the row compares with each row as their places do.
+fn value_compares(alloc: Global, value: &Value, row: &Row, rows: &[Row]) -> Result<bool, NoMemory> {
+    for other in rows {
+        if !compares(alloc, value, row, other)? {
+            return Ok(false);
+        }
+    }
+    Ok(true)
+}
+
+/// Whether the row compares with each row as their places do.
+fn compares_with_all(alloc: Global, row: &Row, rows: &[Row]) -> Result<bool, NoMemory> {
+    let value = made(alloc, row.0)?;
+    let answer = value_compares(alloc, &value, row, rows);
+    let_go(value);
+    answer
+}
+
+// Texts compare by their bytes, so that capital letters come before small ones. Of living agents turtles and patches come by number,
+// links by their ends, then their breeds and then their serials.
 #[test]
 fn values_of_all_kinds_come_in_this_order(rt: HostRuntime) -> Result<(), Fail> {
-    let alloc = rt.alloc();
-    let mut rows = Vec::new(alloc);
-    push_ordered_contents(alloc, &mut rows)?;
-    push_ordered_agents(&mut rows)?;
-    push_unordered(alloc, &mut rows)?;
-    for row in &rows {
-        assert!(rt; compares_with_all(row, rows.as_slice()), "{}", row.2);
+    let rows = [
+        (One(Number(-1_500_000)), OrderKind::Numbers, 0),
+        (One(Number(0)), OrderKind::Numbers, 1),
+        (One(Number(1)), OrderKind::Numbers, 2),
+        (One(Words(b"")), OrderKind::Texts, 3),
+        (One(Words(b"Z")), OrderKind::Texts, 4),
+        (One(Words(b"a")), OrderKind::Texts, 5),
+        (One(Words(b"ab")), OrderKind::Texts, 6),
+        (One(Words(b"b")), OrderKind::Texts, 7),
+        (One(Turtle(1)), OrderKind::Turtles, 8),
+        (One(Turtle(2)), OrderKind::Turtles, 9),
+        (One(Patch(0)), OrderKind::Patches, 10),
+        (One(Patch(5)), OrderKind::Patches, 11),
+        (One(Link(2)), OrderKind::Links, 12),
+        (One(Link(4)), OrderKind::Links, 13),
+        (One(Link(3)), OrderKind::Links, 14),
+        (One(Link(1)), OrderKind::Links, 15),
+        (One(Truth(false)), OrderKind::Unordered, 16),
+        (One(Truth(true)), OrderKind::Unordered, 16),
+        (List(&[]), OrderKind::Unordered, 16),
+        (List(&[Number(1), Number(2)]), OrderKind::Unordered, 16),
+        (One(Turtle(7)), OrderKind::Unordered, 16),
+        (One(Link(9)), OrderKind::Unordered, 16),
+        (One(Nobody), OrderKind::Unordered, 16),
+        (Set(Links), OrderKind::Unordered, 16),
+    ];
+    for row in rows.iter() {
+        assert!(rt;
+            compares_with_all(rt.alloc(), row, rows.as_slice())?,
+            "{}",
+            row.2
+        );
     }
     Ok(())
 }
@@ -296,13 +441,19 @@ fn mixed(alloc: Global) -> Result<Items, NoMemory> {
     Ok(Items::of_vec(list))
 }
 
+/// The values in the order of sorts.
+fn sorted(alloc: Global, mut items: Items) -> Result<Value, NoMemory> {
+    items.sort(alloc, &SmallWorld)?;
+    Ok(Value::Items(items))
+}
+
 #[test]
 fn a_sort_keeps_equal_values_in_place(rt: HostRuntime) -> Result<(), Fail> {
     let alloc = rt.alloc();
-    let mut items = mixed(alloc)?;
-    items.sort(alloc, &SmallWorld)?;
-    let sorted = Value::Items(items);
-    assert!(rt; prints(alloc, &sorted, true, "[1 2 (fox 2) nobody true nobody]")?);
+    let list = sorted(alloc, mixed(alloc)?)?;
+    let answer = reads(alloc, &list, true, "[1 2 (fox 2) nobody true nobody]");
+    let_go(list);
+    assert!(rt; answer?);
     Ok(())
 }
 
@@ -323,61 +474,98 @@ fn has_number(items: &Items, at: usize, millionths: i64) -> bool {
     }
 }
 
-#[test]
-fn a_hundred_thousand_numbers_are_sorted(rt: HostRuntime) -> Result<(), Fail> {
-    let alloc = rt.alloc();
+/// Whether the numbers from 100,000 down to 1 are sorted from 1 on.
+fn falling_are_sorted(alloc: Global) -> Result<bool, NoMemory> {
     let mut items = falling(alloc)?;
     items.sort(alloc, &NoLife)?;
-    assert!(rt; has_number(&items, 0, 1_000_000));
-    assert!(rt; has_number(&items, 99_999, 100_000_000_000));
+    let first = has_number(&items, 0, 1_000_000);
+    let last = has_number(&items, 99_999, 100_000_000_000);
+    Ok(first && last)
+}
+
+#[test]
+fn a_hundred_thousand_numbers_are_sorted(rt: HostRuntime) -> Result<(), Fail> {
+    assert!(rt; falling_are_sorted(rt.alloc())?);
     Ok(())
 }
 
 /// Whether a copy of the value is the same value.
-fn copies(alloc: Global, value: &Value) -> Result<bool, NoMemory> {
+fn is_copied(alloc: Global, value: &Value) -> Result<bool, NoMemory> {
     let again = value.copy(alloc)?;
-    same(alloc, value, &again, &NoLife)
+    let answer = same(alloc, value, &again, &NoLife);
+    let_go(again);
+    answer
+}
+
+/// Whether a copy of the sample's value is the same value.
+fn copies(alloc: Global, sample: Sample) -> Result<bool, NoMemory> {
+    let value = made(alloc, sample)?;
+    let answer = is_copied(alloc, &value);
+    let_go(value);
+    answer
 }
 
 #[test]
 fn a_hundred_thousand_numbers_are_copied_and_printed(rt: HostRuntime) -> Result<(), Fail> {
     let alloc = rt.alloc();
-    let flat = Value::Items(falling(alloc)?);
-    assert!(rt; copies(alloc, &flat)?);
-    assert_eq!(rt; text_len(alloc, &flat, false), Ok(588_896));
+    assert!(rt; copies(alloc, Falling)?);
+    assert!(rt; has_text_of(alloc, Falling, false, 588_896));
     Ok(())
+}
+
+/// Takes the last item away: whether it is nobody.
+fn pops_nobody(items: &mut Items) -> bool {
+    let last = items.pop();
+    let answer = matches!(&last, Some(Value::Nobody));
+    let_go(last);
+    answer
+}
+
+/// Takes the last item away: whether there is none.
+fn pops_nothing(items: &mut Items) -> bool {
+    let last = items.pop();
+    let answer = last.is_none();
+    let_go(last);
+    answer
 }
 
 #[test]
 fn items_are_taken_away_from_the_end(rt: HostRuntime) -> Result<(), Fail> {
-    let alloc = rt.alloc();
-    let mut items = Items::filled(alloc, Num::whole(1).ok_or("1")?, 3)?;
-    items.push(alloc, Value::Nobody)?;
-    assert_eq!(rt; items.len(), 4);
+    let mut items = Items::filled(rt.alloc(), Num::whole(1).ok_or("1")?, 3)?;
+    push_leaf(rt.alloc(), &mut items, Nobody)?;
+    assert!(rt; items.len() == 4);
     assert!(rt; items.get(4).is_none());
-    assert!(rt; matches!(items.pop(), Some(Value::Nobody)));
+    assert!(rt; pops_nobody(&mut items));
     items.truncate(2);
     items.truncate(5);
-    assert_eq!(rt; items.len(), 2);
+    assert!(rt; items.len() == 2);
     assert!(rt; has_number(&items, 1, 1_000_000));
     items.truncate(0);
     assert!(rt; items.is_empty());
-    assert!(rt; items.pop().is_none());
+    assert!(rt; pops_nothing(&mut items));
     Ok(())
 }
 
 #[test]
 fn numbers_of_agents_are_found(rt: HostRuntime) -> Result<(), Fail> {
-    let alloc = rt.alloc();
-    let numbers = Serials::of_vec(vec![in alloc; 1, 4, 9]?);
-    assert!(rt; numbers.contains(1) && numbers.contains(4) && numbers.contains(9));
-    assert!(rt; !numbers.contains(0) && !numbers.contains(5) && !numbers.contains(10));
-    assert!(rt; !Serials::empty(alloc).contains(0));
+    let numbers = Serials::of_vec([1, 4, 9].to_vec(rt.alloc())?);
+    for (number, found) in [
+        (1, true),
+        (4, true),
+        (9, true),
+        (0, false),
+        (5, false),
+        (10, false),
+    ] {
+        assert!(rt; numbers.contains(number) == found);
+    }
+    assert!(rt; !Serials::empty(rt.alloc()).contains(0));
     Ok(())
 }
 
-/// Whether the value is within the limits, alone and as the one item of a list.
-fn within(alloc: Global, value: Value) -> Result<(bool, bool), NoMemory> {
+/// Whether the sample's value is within the limits alone, and whether as the one item of a list.
+fn within(alloc: Global, sample: Sample) -> Result<(bool, bool), NoMemory> {
+    let value = made(alloc, sample)?;
     let alone = value.is_within_limits();
     let mut items = Items::empty(alloc);
     items.push(alloc, value)?;
@@ -386,13 +574,17 @@ fn within(alloc: Global, value: Value) -> Result<(bool, bool), NoMemory> {
 
 #[test]
 fn values_are_within_a_size_of_a_million_and_a_depth_of_200(rt: HostRuntime) -> Result<(), Fail> {
-    let alloc = rt.alloc();
-    assert_eq!(rt; within(alloc, letters(alloc, 999_998)?)?, (true, true));
-    assert_eq!(rt; within(alloc, letters(alloc, 999_999)?)?, (true, false));
-    assert_eq!(rt; within(alloc, letters(alloc, 1_000_000)?)?, (false, false));
-    assert_eq!(rt; within(alloc, nested(alloc, 198)?)?, (true, true));
-    assert_eq!(rt; within(alloc, nested(alloc, 199)?)?, (true, false));
-    assert_eq!(rt; within(alloc, nested(alloc, 200)?)?, (false, false));
+    for (sample, alone, inside) in [
+        (Letters(999_998), true, true),
+        (Letters(999_999), true, false),
+        (Letters(1_000_000), false, false),
+        (Deep(198), true, true),
+        (Deep(199), true, false),
+        (Deep(200), false, false),
+    ] {
+        let found = within(rt.alloc(), sample)?;
+        assert!(rt; found.0 == alone && found.1 == inside);
+    }
     Ok(())
 }
 
@@ -428,43 +620,65 @@ fn all_are_colors() -> bool {
     named.iter().all(|(name, tenths)| is_color(name, *tenths))
 }
 
+/// Whether the list of the primary colors has this text.
+fn primary_read(alloc: Global, wanted: &str) -> Result<bool, TextFail> {
+    let primary = Value::Items(primary_colors(alloc)?);
+    let answer = reads(alloc, &primary, false, wanted);
+    let_go(primary);
+    answer
+}
+
 #[test]
 fn colors_have_these_numbers(rt: HostRuntime) -> Result<(), Fail> {
-    let alloc = rt.alloc();
     assert!(rt; all_are_colors());
     assert!(rt; color_named(b"purple").is_none());
     assert!(rt; color_named(b"Red").is_none());
-    let primary = Value::Items(primary_colors(alloc)?);
     let wanted = "[5 15 25 35 45 55 65 75 85 95 105 115 125 135]";
-    assert!(rt; prints(alloc, &primary, false, wanted)?);
+    assert!(rt; primary_read(rt.alloc(), wanted)?);
     Ok(())
 }
 
+/// Whether the value has this size and depth.
+fn has_measures(value: &Value, size: u64, depth: u32) -> bool {
+    value.size() == size && value.depth() == depth
+}
+
 /// Whether a copy of the value has this size and depth.
-fn measures(alloc: Global, value: &Value, size: u64, depth: u32) -> Result<bool, NoMemory> {
+fn copy_measures(alloc: Global, value: &Value, size: u64, depth: u32) -> Result<bool, NoMemory> {
     let again = value.copy(alloc)?;
-    Ok(again.size() == size && again.depth() == depth)
+    let answer = has_measures(&again, size, depth);
+    let_go(again);
+    Ok(answer)
+}
+
+/// Whether a copy of the sample's value has this size and depth.
+fn measures(alloc: Global, sample: Sample, size: u64, depth: u32) -> Result<bool, NoMemory> {
+    let value = made(alloc, sample)?;
+    let answer = copy_measures(alloc, &value, size, depth);
+    let_go(value);
+    answer
 }
 
 #[test]
 fn values_have_these_sizes_and_depths(rt: HostRuntime) -> Result<(), Fail> {
-    let alloc = rt.alloc();
-    let inner = list(alloc, words(alloc, b"four")?, Value::Nobody)?;
-    let outer = list(alloc, inner, Value::Truth(true))?;
-    let some = Value::Set(AgentSet::SomeLinks(serials(alloc, 3, 4)?));
-    assert!(rt; measures(alloc, &number(7), 1, 1)?);
-    assert!(rt; measures(alloc, &Value::Items(Items::empty(alloc)), 1, 1)?);
-    assert!(rt; measures(alloc, &outer, 9, 3)?);
-    assert!(rt; measures(alloc, &some, 3, 1)?);
+    for (sample, size, depth) in [
+        (One(Number(7)), 1, 1),
+        (List(&[]), 1, 1),
+        (Nested(&[Words(b"four"), Nobody], Truth(true)), 9, 3),
+        (Set(SomeLinks(3, 4)), 3, 1),
+    ] {
+        assert!(rt; measures(rt.alloc(), sample, size, depth)?);
+    }
     Ok(())
 }
 
 #[test]
 fn a_replaced_item_is_handed_back(rt: HostRuntime) -> Result<(), Fail> {
-    let alloc = rt.alloc();
-    let mut items = Items::of_vec(vec![in alloc; Value::Truth(true), number(5)]?);
+    let mut items = Items::of_vec(vec![in rt.alloc(); Value::Truth(true), number(5)]?);
     let old = items.replace(1, Value::Nobody);
-    assert!(rt; matches!(old, Value::Number(_)));
+    let is_number = matches!(&old, Value::Number(_));
+    let_go(old);
+    assert!(rt; is_number);
     assert!(rt; matches!(items.as_slice(), [Value::Truth(true), Value::Nobody]));
     Ok(())
 }
@@ -484,11 +698,9 @@ fn nested(alloc: Global, times: u32) -> Result<Value, NoMemory> {
 #[test]
 fn lists_may_nest_a_thousand_times(rt: HostRuntime) -> Result<(), Fail> {
     let alloc = rt.alloc();
-    let deep = nested(alloc, 1_000)?;
-    let deeper = nested(alloc, 1_001)?;
-    assert!(rt; measures(alloc, &deep, 1_001, 1_001)?);
-    assert!(rt; text_len(alloc, &deep, false)? == 2_006);
-    assert!(rt; same(alloc, &deep, &deep.copy(alloc)?, &NoLife)?);
-    assert!(rt; !same(alloc, &deep, &deeper, &NoLife)?);
+    assert!(rt; measures(alloc, Deep(1_000), 1_001, 1_001)?);
+    assert!(rt; has_text_of(alloc, Deep(1_000), false, 2_006));
+    assert!(rt; copies(alloc, Deep(1_000))?);
+    assert!(rt; !are_same_alone(alloc, Deep(1_000), Deep(1_001))?);
     Ok(())
 }
