@@ -13,20 +13,38 @@ use std::process::Abort;
 use std::test::Fail;
 
 // Which kind of breed.
-#[derive(Clone, Copy, Debug)]
+#[derive(Clone, Copy)]
 enum Sort {
     Turtles,
     Undirected,
     Directed,
 }
 
+/// Lets go of a thing by one call: what ends inside of a function is walked there, once on each way out.
+fn let_go<T: Drop>(_thing: T) {}
+
+fn push_name(alloc: Global, list: &mut Names, name: &[u8]) -> Result<(), NoMemory> {
+    let name = Str::of(alloc, name)?;
+    list.push(alloc, name)
+}
+
 fn names(alloc: Global, texts: &[&str]) -> Result<Names, NoMemory> {
     let mut list = Names::empty(alloc);
     for text in texts {
-        let name = Str::of(alloc, text.as_bytes())?;
-        list.push(alloc, name)?;
+        push_name(alloc, &mut list, text.as_bytes())?;
     }
     Ok(list)
+}
+
+// A breed of these names.
+fn breed_of(sort: Sort, plural: Str, singular: Str, own: Names) -> Breed {
+    Breed {
+        plural,
+        singular,
+        link: !matches!(sort, Sort::Turtles),
+        directed: matches!(sort, Sort::Directed),
+        own,
+    }
 }
 
 fn breed(
@@ -36,41 +54,88 @@ fn breed(
     singular: &str,
     own: &[&str],
 ) -> Result<Breed, NoMemory> {
-    let breed = Breed {
-        plural: Str::of(alloc, plural.as_bytes())?,
-        singular: Str::of(alloc, singular.as_bytes())?,
-        link: !matches!(sort, Sort::Turtles),
-        directed: matches!(sort, Sort::Directed),
-        own: names(alloc, own)?,
-    };
-    Ok(breed)
+    let plural = Str::of(alloc, plural.as_bytes())?;
+    let singular = Str::of(alloc, singular.as_bytes())?;
+    let own = names(alloc, own)?;
+    Ok(breed_of(sort, plural, singular, own))
 }
 
-fn procedure(
+fn push_breed(
     alloc: Global,
+    breeds: &mut Breeds,
+    sort: Sort,
+    plural: &str,
+    singular: &str,
+    own: &[&str],
+) -> Result<(), NoMemory> {
+    let made = breed(alloc, sort, plural, singular, own)?;
+    breeds.push(alloc, made)
+}
+
+fn push_procedure(
+    alloc: Global,
+    procedures: &mut Procedures,
     name: &str,
     reporter: bool,
     inputs: &[&str],
-) -> Result<Procedure, NoMemory> {
+) -> Result<(), NoMemory> {
+    let inputs = names(alloc, inputs)?;
+    let name = Str::of(alloc, name.as_bytes())?;
     let procedure = Procedure {
-        name: Str::of(alloc, name.as_bytes())?,
+        name,
         reporter,
-        inputs: names(alloc, inputs)?,
+        inputs,
         first: 0,
         after: 0,
     };
-    Ok(procedure)
+    procedures.push(alloc, procedure)
 }
 
-fn nothing(alloc: Global) -> Declared {
+// The variables that all turtles, all patches and all links own.
+#[derive(Drop)]
+struct Own {
+    turtles: Names,
+    patches: Names,
+    links: Names,
+}
+
+fn none_own(alloc: Global) -> Own {
+    Own {
+        turtles: Names::empty(alloc),
+        patches: Names::empty(alloc),
+        links: Names::empty(alloc),
+    }
+}
+
+// What declares these variables and breeds, and nothing else.
+fn with_breeds(alloc: Global, globals: Names, own: Own, breeds: Breeds) -> Declared {
     Declared {
         widgets: Names::empty(alloc),
-        globals: Names::empty(alloc),
+        globals,
+        turtles_own: own.turtles,
+        patches_own: own.patches,
+        links_own: own.links,
+        breeds,
+        procedures: Procedures::empty(alloc),
+        index: NamedWords::new(Vec::new(alloc)),
+    }
+}
+
+// What declares these widgets, global variables and procedures, and nothing else.
+fn with_procedures(
+    alloc: Global,
+    widgets: Names,
+    globals: Names,
+    procedures: Procedures,
+) -> Declared {
+    Declared {
+        widgets,
+        globals,
         turtles_own: Names::empty(alloc),
         patches_own: Names::empty(alloc),
         links_own: Names::empty(alloc),
         breeds: Breeds::empty(alloc),
-        procedures: Procedures::empty(alloc),
+        procedures,
         index: NamedWords::new(Vec::new(alloc)),
     }
 }
@@ -111,13 +176,67 @@ fn assert_small(rt: &impl Abort, declared: &Declared)
     assert_few_procedures(rt, declared.procedures.as_slice());
 }
 
-fn indexed(rt: &impl Abort, alloc: Global, declared: &Declared) -> Result<NamedWords, NoMemory> {
+fn index_beside(
+    rt: &impl Abort,
+    alloc: Global,
+    declared: &Declared,
+) -> Result<NamedWords, NoMemory> {
     assert_small(rt, declared);
     index_of(alloc, declared)
 }
 
-fn word_of(rt: &impl Abort, index: &NamedWords, name: &str) -> Word {
-    index.find(name.as_bytes()).expect(rt, "a word").word
+fn indexed(rt: &impl Abort, alloc: Global, declared: Declared) -> Result<NamedWords, NoMemory> {
+    let index = index_beside(rt, alloc, &declared);
+    let_go(declared);
+    index
+}
+
+// The word of a name.
+fn word_of(index: &NamedWords, name: &str) -> Option<Word> {
+    match index.find(name.as_bytes()) {
+        Some(row) => Some(row.word),
+        None => None,
+    }
+}
+
+// Whether the name has a word, which is this.
+fn is_what(index: &NamedWords, name: &str, what: What) -> bool {
+    match word_of(index, name) {
+        Some(word) => word.what == what,
+        None => false,
+    }
+}
+
+// Whether the inputs of the name's word are these.
+fn has_inputs(index: &NamedWords, name: &str, inputs: &[Input]) -> bool {
+    match word_of(index, name) {
+        Some(word) => word.inputs == inputs,
+        None => false,
+    }
+}
+
+// Whether agents of just these kinds may run the name's word.
+fn is_run_by(index: &NamedWords, name: &str, runs: Kinds) -> bool {
+    match word_of(index, name) {
+        Some(word) => word.runs == runs,
+        None => false,
+    }
+}
+
+// Whether the name's word has this role and so many values.
+fn is_called(index: &NamedWords, name: &str, role: Role, values: u32) -> bool {
+    match word_of(index, name) {
+        Some(word) => word.role == role && word.values == values,
+        None => false,
+    }
+}
+
+// The index of a model with one breed.
+fn index_of_one(rt: &impl Abort, alloc: Global, sort: Sort) -> Result<NamedWords, NoMemory> {
+    let mut breeds = Breeds::empty(alloc);
+    push_breed(alloc, &mut breeds, sort, "kin", "one", &[])?;
+    let declared = with_breeds(alloc, Names::empty(alloc), none_own(alloc), breeds);
+    indexed(rt, alloc, declared)
 }
 
 // The breed makes these words and no others, each with the code and the inputs of its built-in word.
@@ -127,15 +246,11 @@ fn assert_made(
     sort: Sort,
     wanted: &[(&str, u16, &[Input])],
 ) -> Result<(), Fail> {
-    let mut declared = nothing(alloc);
-    let made = breed(alloc, sort, "kin", "one", &[])?;
-    declared.breeds.push(alloc, made)?;
-    let index = indexed(rt, alloc, &declared)?;
-    assert_eq!(rt; index.as_slice().len(), wanted.len());
+    let index = index_of_one(rt, alloc, sort)?;
+    assert!(rt; index.as_slice().len() == wanted.len());
     for (name, code, inputs) in wanted {
-        let word = word_of(rt, &index, name);
-        assert_eq!(rt; word.what, What::Made(1, *code), "at {name}");
-        assert_eq!(rt; word.inputs, *inputs, "at {name}");
+        assert!(rt; is_what(&index, name, What::Made(1, *code)), "at {name}");
+        assert!(rt; has_inputs(&index, name, inputs), "at {name}");
     }
     Ok(())
 }
@@ -214,30 +329,40 @@ fn a_directed_breed_of_links_makes_these_words(rt: HostRuntime) -> Result<(), Fa
     )
 }
 
-// A model in which owners share variables.
-fn sharing(alloc: Global) -> Result<Declared, NoMemory> {
-    let mut declared = nothing(alloc);
-    declared.turtles_own = names(alloc, &["energy"])?;
-    declared.patches_own = names(alloc, &["grass"])?;
-    declared.links_own = names(alloc, &["weight"])?;
-    let wolves = breed(alloc, Sort::Turtles, "wolves", "wolf", &["age", "weight"])?;
-    declared.breeds.push(alloc, wolves)?;
-    let ties = breed(
-        alloc,
-        Sort::Directed,
-        "ties",
-        "tie",
-        &["energy", "length-0"],
-    )?;
-    declared.breeds.push(alloc, ties)?;
-    Ok(declared)
+// What agents own in a model in which owners share variables.
+fn shared_own(alloc: Global) -> Result<Own, NoMemory> {
+    let turtles = names(alloc, &["energy"])?;
+    let patches = names(alloc, &["grass"])?;
+    let links = names(alloc, &["weight"])?;
+    Ok(Own {
+        turtles,
+        patches,
+        links,
+    })
+}
+
+// The breeds of a model in which owners share variables.
+fn sharing_breeds(alloc: Global) -> Result<Breeds, NoMemory> {
+    let mut breeds = Breeds::empty(alloc);
+    let wolves = &["age", "weight"];
+    push_breed(alloc, &mut breeds, Sort::Turtles, "wolves", "wolf", wolves)?;
+    let ties = &["energy", "length-0"];
+    push_breed(alloc, &mut breeds, Sort::Directed, "ties", "tie", ties)?;
+    Ok(breeds)
+}
+
+// The index of a model in which owners share variables.
+fn sharing(rt: &impl Abort, alloc: Global) -> Result<NamedWords, NoMemory> {
+    let own = shared_own(alloc)?;
+    let breeds = sharing_breeds(alloc)?;
+    let declared = with_breeds(alloc, Names::empty(alloc), own, breeds);
+    indexed(rt, alloc, declared)
 }
 
 #[test]
 fn a_shared_variable_has_one_row_for_all_its_owners(rt: HostRuntime) -> Result<(), Fail> {
-    let declared = sharing(rt.alloc())?;
-    let index = indexed(&rt, rt.alloc(), &declared)?;
-    assert_eq!(rt; index.as_slice().len(), 5 + 11 + 20);
+    let index = sharing(&rt, rt.alloc())?;
+    assert!(rt; index.as_slice().len() == 5 + 11 + 20);
     for (name, place, turtle, patch, link) in [
         ("energy", 0, true, false, true),
         ("grass", 1, true, true, false),
@@ -245,51 +370,57 @@ fn a_shared_variable_has_one_row_for_all_its_owners(rt: HostRuntime) -> Result<(
         ("age", 3, true, false, false),
         ("length-0", 4, false, false, true),
     ] {
-        let word = word_of(&rt, &index, name);
         let runs = Kinds {
             observer: false,
             turtle,
             patch,
             link,
         };
-        assert_eq!(rt; word.what, What::Own(place), "at {name}");
-        assert_eq!(rt; word.runs, runs, "at {name}");
+        assert!(rt; is_what(&index, name, What::Own(place)), "at {name}");
+        assert!(rt; is_run_by(&index, name, runs), "at {name}");
     }
-    assert_eq!(rt; word_of(&rt, &index, "tie").what, What::Made(2, 138));
+    assert!(rt; is_what(&index, "tie", What::Made(2, 138)));
     Ok(())
+}
+
+// The index of a model that declares a widget too.
+fn redeclared(rt: &impl Abort, alloc: Global) -> Result<NamedWords, NoMemory> {
+    let widgets = names(alloc, &["speed", "range"])?;
+    let globals = names(alloc, &["range", "total"])?;
+    let declared = with_procedures(alloc, widgets, globals, Procedures::empty(alloc));
+    indexed(rt, alloc, declared)
 }
 
 #[test]
 fn a_widget_that_is_declared_too_has_one_row(rt: HostRuntime) -> Result<(), Fail> {
-    let mut declared = nothing(rt.alloc());
-    declared.widgets = names(rt.alloc(), &["speed", "range"])?;
-    declared.globals = names(rt.alloc(), &["range", "total"])?;
-    let index = indexed(&rt, rt.alloc(), &declared)?;
-    assert_eq!(rt; index.as_slice().len(), 3);
+    let index = redeclared(&rt, rt.alloc())?;
+    assert!(rt; index.as_slice().len() == 3);
     for (name, place) in [("speed", 0), ("range", 1), ("total", 2)] {
-        let word = word_of(&rt, &index, name);
-        assert_eq!(rt; word.what, What::Global(place), "at {name}");
+        assert!(rt; is_what(&index, name, What::Global(place)), "at {name}");
     }
     Ok(())
 }
 
+// The index of a model with a command and a reporter.
+fn index_of_two(rt: &impl Abort, alloc: Global) -> Result<NamedWords, NoMemory> {
+    let mut procedures = Procedures::empty(alloc);
+    push_procedure(alloc, &mut procedures, "go", false, &[])?;
+    push_procedure(alloc, &mut procedures, "area", true, &["width", "height"])?;
+    let none = Names::empty(alloc);
+    let declared = with_procedures(alloc, none, Names::empty(alloc), procedures);
+    indexed(rt, alloc, declared)
+}
+
 #[test]
 fn a_procedure_has_as_many_values_as_inputs(rt: HostRuntime) -> Result<(), Fail> {
-    let mut declared = nothing(rt.alloc());
-    let go = procedure(rt.alloc(), "go", false, &[])?;
-    declared.procedures.push(rt.alloc(), go)?;
-    let area = procedure(rt.alloc(), "area", true, &["width", "height"])?;
-    declared.procedures.push(rt.alloc(), area)?;
-    let index = indexed(&rt, rt.alloc(), &declared)?;
+    let index = index_of_two(&rt, rt.alloc())?;
     for (name, place, role, values) in [
         ("go", 0, Role::Command, 0),
         ("area", 1, Role::Reporter, 2),
     ] {
-        let word = word_of(&rt, &index, name);
-        assert_eq!(rt; word.what, What::Procedure(place), "at {name}");
-        assert_eq!(rt; word.role, role, "at {name}");
-        assert_eq!(rt; word.values, values, "at {name}");
-        assert_eq!(rt; word.inputs.len(), 0, "at {name}");
+        assert!(rt; is_what(&index, name, What::Procedure(place)), "at {name}");
+        assert!(rt; is_called(&index, name, role, values), "at {name}");
+        assert!(rt; has_inputs(&index, name, &[]), "at {name}");
     }
     Ok(())
 }
@@ -300,38 +431,48 @@ fn numbered(alloc: Global, letter: u8, count: usize) -> Result<Names, NoMemory> 
     for number in 0..count {
         let digit = |power: usize| b'0' + (number / power % 10) as u8;
         let bytes = [letter, digit(1000), digit(100), digit(10), digit(1)];
-        let name = Str::of(alloc, bytes.as_slice())?;
-        list.push(alloc, name)?;
+        push_name(alloc, &mut list, bytes.as_slice())?;
     }
     Ok(list)
+}
+
+// A breed of turtles of this name.
+fn push_turtles(alloc: Global, breeds: &mut Breeds, plural: &Str) -> Result<(), NoMemory> {
+    let plural = plural.copy(alloc)?;
+    let singular = Str::of(alloc, b"one")?;
+    let made = breed_of(Sort::Turtles, plural, singular, Names::empty(alloc));
+    breeds.push(alloc, made)
+}
+
+fn breeds_of_turtles(alloc: Global, plurals: &Names) -> Result<Breeds, NoMemory> {
+    let mut breeds = Breeds::empty(alloc);
+    for plural in plurals.as_slice() {
+        push_turtles(alloc, &mut breeds, plural)?;
+    }
+    Ok(breeds)
+}
+
+// The index of a model with 5,000 global variables, 70 of turtles, and 1,000 breeds of turtles.
+fn many(rt: &impl Abort, alloc: Global) -> Result<NamedWords, NoMemory> {
+    let globals = numbered(alloc, b'g', 5000)?;
+    let plurals = numbered(alloc, b'p', 1000)?;
+    let breeds = breeds_of_turtles(alloc, &plurals)?;
+    let own = Own {
+        turtles: numbered(alloc, b'v', 70)?,
+        patches: Names::empty(alloc),
+        links: Names::empty(alloc),
+    };
+    let declared = with_breeds(alloc, globals, own, breeds);
+    indexed(rt, alloc, declared)
 }
 
 // 5,000 global variables and 1,000 breeds of turtles have a row for each of their words.
 #[test]
 fn many_words_have_rows(rt: HostRuntime) -> Result<(), Fail> {
-    let alloc = rt.alloc();
-    let mut declared = nothing(alloc);
-    declared.globals = numbered(alloc, b'g', 5000)?;
-    let plurals = numbered(alloc, b'p', 1000)?;
-    let own = numbered(alloc, b'v', 70)?;
-    for plural in plurals.as_slice() {
-        let made = Breed {
-            plural: plural.copy(alloc)?,
-            singular: Str::of(alloc, b"one")?,
-            link: false,
-            directed: false,
-            own: Names::empty(alloc),
-        };
-        declared.breeds.push(alloc, made)?;
-    }
-    declared.turtles_own = own;
-    let index = indexed(&rt, alloc, &declared)?;
-    assert_eq!(rt; index.as_slice().len(), 5000 + 70 + 1000 * 11);
-    assert_eq!(rt; word_of(&rt, &index, "g4999").what, What::Global(4999));
-    assert_eq!(rt; word_of(&rt, &index, "v0069").what, What::Own(69));
-    assert_eq!(rt;
-        word_of(&rt, &index, "p0999-here").what,
-        What::Made(1000, 305)
-    );
+    let index = many(&rt, rt.alloc())?;
+    assert!(rt; index.as_slice().len() == 5000 + 70 + 1000 * 11);
+    assert!(rt; is_what(&index, "g4999", What::Global(4999)));
+    assert!(rt; is_what(&index, "v0069", What::Own(69)));
+    assert!(rt; is_what(&index, "p0999-here", What::Made(1000, 305)));
     Ok(())
 }
