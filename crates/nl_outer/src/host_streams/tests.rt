@@ -1,5 +1,6 @@
 use super::{HostErr, HostOut};
-use crate::{Sink, WriteFail};
+use crate::Sink;
+use std::alloc::Global;
 use std::io;
 use std::io::{ErrorKind, Write};
 use std::test::Fail;
@@ -7,12 +8,12 @@ use std::test::Fail;
 #[test]
 fn the_standard_streams_of_the_host_take_all_bytes(rt: HostRuntime) {
     let mut out = HostOut::new(rt.stdout());
-    assert!(rt; out.put(b"to standard output\n") == Ok(()));
-    assert!(rt; out.put(b"") == Ok(()));
-    assert_eq!(rt; out.stream.faults, 0);
+    assert!(rt; out.put(b"to standard output\n").is_ok());
+    assert!(rt; out.put(b"").is_ok());
+    assert!(rt; out.stream.faults == 0);
     let mut err = HostErr::new(rt.stderr());
-    assert!(rt; err.put(b"to standard error\n") == Ok(()));
-    assert_eq!(rt; err.stream.faults, 0);
+    assert!(rt; err.put(b"to standard error\n").is_ok());
+    assert!(rt; err.stream.faults == 0);
 }
 
 // What a writer does that holds five bytes.
@@ -59,6 +60,28 @@ impl Write for Choppy {
     }
 }
 
+fn writer(alloc: Global, full: Full) -> Choppy {
+    Choppy {
+        held: Vec::new(alloc),
+        writes: 0,
+        flushes: 0,
+        full,
+    }
+}
+
+// Whether of two puts the second is a fault.
+fn fails_at_the_second(to: &mut Choppy) -> bool {
+    let mut out = HostOut::new(to);
+    let first = out.put(b"abcd").is_ok();
+    let second = out.put(b"efgh").is_err();
+    first && second && out.stream.faults == 1
+}
+
+// Whether the writer holds these bytes after two puts, of which the second is a fault.
+fn fails_with(to: &mut Choppy, held: &[u8], flushes: u8) -> bool {
+    fails_at_the_second(to) && to.held.as_slice() == held && to.flushes == flushes
+}
+
 #[test]
 fn a_writer_that_fails_or_takes_nothing_is_a_fault(rt: HostRuntime) {
     let cases: [(Full, &[u8], u8); 3] = [
@@ -67,19 +90,8 @@ fn a_writer_that_fails_or_takes_nothing_is_a_fault(rt: HostRuntime) {
         (Full::FailsToFlush, b"abcdefgh", 2),
     ];
     for (full, held, flushes) in cases {
-        let mut to = Choppy {
-            held: Vec::new(rt.alloc()),
-            writes: 0,
-            flushes: 0,
-            full,
-        };
-        let mut out = HostOut::new(&mut to);
-        assert!(rt; out.put(b"abcd") == Ok(()));
-        assert!(rt; out.put(b"efgh") == Err(WriteFail));
-        assert_eq!(rt; out.stream.faults, 1);
-        drop(out);
-        assert!(rt; to.held.as_slice() == held);
-        assert_eq!(rt; to.flushes, flushes);
+        let mut to = writer(rt.alloc(), full);
+        assert!(rt; fails_with(&mut to, held, flushes));
     }
 }
 
@@ -108,27 +120,37 @@ impl Write for Slow {
     }
 }
 
+// So many bytes, of numbers that count on.
+fn counted(alloc: Global, count: u32) -> Result<Vec<u8>, Fail> {
+    let mut piece = Vec::new(alloc);
+    for part in 0..count {
+        piece.extend_from_slice(&part.to_be_bytes())?;
+    }
+    Ok(piece)
+}
+
+// Whether the writer takes the piece, nothing, and one byte more.
+fn takes_all(to: &mut Slow, piece: &[u8]) -> bool {
+    let mut err = HostErr::new(to);
+    let first = err.put(piece).is_ok();
+    let second = err.put(b"").is_ok();
+    let third = err.put(b"x").is_ok();
+    first && second && third && err.stream.faults == 0
+}
+
 #[test]
 fn a_writer_of_one_byte_at_a_time_takes_all_and_is_flushed_after_each_put(
     rt: HostRuntime,
 ) -> Result<(), Fail> {
-    let mut piece = Vec::new(rt.alloc());
-    for part in 0..1_250u32 {
-        piece.extend_from_slice(&part.to_be_bytes())?;
-    }
+    let piece = counted(rt.alloc(), 1_250)?;
     let mut to = Slow {
         held: Vec::new(rt.alloc()),
         writes: 0,
         flushes: 0,
     };
-    let mut err = HostErr::new(&mut to);
-    assert!(rt; err.put(piece.as_slice()) == Ok(()));
-    assert!(rt; err.put(b"") == Ok(()));
-    assert!(rt; err.put(b"x") == Ok(()));
-    assert_eq!(rt; err.stream.faults, 0);
-    drop(err);
-    assert_eq!(rt; to.flushes, 3);
-    assert_eq!(rt; to.held.len(), 5_001);
+    assert!(rt; takes_all(&mut to, piece.as_slice()));
+    assert!(rt; to.flushes == 3);
+    assert!(rt; to.held.len() == 5_001);
     assert!(rt; to.held.as_slice().starts_with(piece.as_slice()));
     Ok(())
 }
