@@ -1,5 +1,5 @@
 -- The living members of sets of agents: filters of the world's lists, in ascending order.
-use Rattle.std.specs.Prelude.{ℕ, ◌==◌, Bool, map, filter}
+use Rattle.std.specs.Prelude.{ℕ, ◌+◌, ◌==◌, Bool, map, filter, length}
 use Rattle.std.specs.List.{list_any}
 use Rattle.nl_value.specs.Nouns.{Serials}
 use Rattle.nl_value.specs.declared.sets.AgentSet.{AgentSet}
@@ -48,3 +48,14 @@ members_of r (LinkBreed breed) = links_where (is_link_of_breed breed) r
 members_of r (SomeTurtles numbers) = turtles_where (λ t. is_listed numbers t.serial) r
 members_of r (SomePatches numbers) = filter (is_listed numbers) (all_patches r.shape)
 members_of r (SomeLinks numbers) = links_where (λ l. is_listed numbers l.serial) r
+
+-- how many records are read for them at most
+abbrev pub most_reads : Rest → AgentSet → ℕ
+most_reads r Turtles = length (all_turtles r) + 1
+most_reads r (Breed breed) = length (turtles_where (is_of_breed breed) r) + 1
+most_reads r Patches = 0
+most_reads r Links = length (all_links r) + 1
+most_reads r (LinkBreed breed) = length (all_links r) + 1
+most_reads r (SomeTurtles numbers) = 0
+most_reads r (SomePatches numbers) = 0
+most_reads r (SomeLinks numbers) = 0

@@ -1,11 +1,11 @@
 //! A store as values ask it.
-ghost use Rattle.std.specs.Prelude.{◌≡◌, ◌++◌, ◌≤◌, ◌<◌, ◌*ℤ◌, pos, codes, length, IfOk, IsTrue};
+ghost use Rattle.std.specs.Prelude.{◌≡◌, ◌++◌, ◌+◌, ◌≤◌, ◌<◌, ◌*ℤ◌, pos, codes, length, IfOk, IsTrue};
 ghost use Rattle.nl_fixed.specs.Numbers.{one};
 ghost use Rattle.nl_value.specs.Living.{link_key};
 ghost use Rattle.nl_grid.specs.Geometry.{patches_of, all_patches};
 ghost use Rattle.nl_agents.specs.Layouts.{breed_of};
 ghost use Rattle.nl_agents.specs.Changes.{turtle_of, link_of, TurtleLives, LinkLives};
-ghost use Rattle.nl_agents.specs.Members.{all_links, members_of, links_where, is_link_of_breed};
+ghost use Rattle.nl_agents.specs.Members.{all_links, members_of, most_reads, links_where, is_link_of_breed};
 ghost use Rattle.nl_agents.specs.Names.{living_of, set_fits, turtle_text, link_text, patch_text, set_text, members_word, singular_or, plural_or, who_of};
 ghost use Rattle.nl_agents.specs.inner.Views.{counts_text, link_is_of};
 
@@ -59,102 +59,8 @@ impl<'a, S: Store> View<'a, S> {
         requires fit { IsTrue (set_fits (S.world self.now.store.now).rest set.now) }
         ensures { IfOk result (λ members. members ≡ members_of (S.world self.now.store.now).rest set.now) }
     {
-        // What the order of the members rests on: the store stands for a world.
-        let _stands = self.store.shape();
         let mut steps = Steps::<L>::new(blank);
-        let mut into = Serials::empty(alloc);
-        match set {
-            AgentSet::Turtles => self.store.turtles(alloc, &mut into, &mut steps)?,
-            AgentSet::Breed(breed) => self.store.of_breed(alloc, *breed, &mut into, &mut steps)?,
-            AgentSet::Patches => return self.all_patches(alloc),
-            AgentSet::Links => self.store.links(alloc, &mut into, &mut steps)?,
-            AgentSet::LinkBreed(breed) => {
-                self.store.links(alloc, &mut into, &mut steps)?;
-                return self.links_of_breed(alloc, &into, *breed);
-            }
-            AgentSet::SomeTurtles(numbers) => return self.living_turtles(alloc, numbers),
-            AgentSet::SomePatches(numbers) => return self.listed_patches(alloc, numbers),
-            AgentSet::SomeLinks(numbers) => return self.living_links(alloc, numbers),
-        }
-        Ok(into)
-    }
-
-    fn all_patches(&self, alloc: Global) -> Result<Serials, NoMemory>
-        ensures { IfOk result (λ patches. patches ≡ all_patches (S.world self.now.store.now).rest.shape) }
-    {
-        let mut numbers = Vec::new(alloc);
-        let count = self.store.shape().patches();
-        for patch in 0..count {
-            numbers.push(u64::from(patch))?;
-        }
-        Ok(Serials::of_vec(numbers))
-    }
-
-    // The patches of a list, each of which is one of the world.
-    fn listed_patches(&self, alloc: Global, list: &Serials) -> Result<Serials, NoMemory>
-        requires { IsTrue (set_fits (S.world self.now.store.now).rest (AgentSet.SomePatches list.now)) }
-        ensures { IfOk result (λ members. members ≡ members_of (S.world self.now.store.now).rest (AgentSet.SomePatches list.now)) }
-    {
-        let _ascending = list.as_slice();
-        list.copy(alloc)
-    }
-
-    // The living turtles of a list.
-    fn living_turtles(&self, alloc: Global, list: &Serials) -> Result<Serials, NoMemory>
-        ensures { IfOk result (λ members. members ≡ members_of (S.world self.now.store.now).rest (AgentSet.SomeTurtles list.now)) }
-    {
-        // What the order of the members rests on: the store stands for a world.
-        let _stands = self.store.shape();
-        let mut living = Vec::new(alloc);
-        let numbers = list.as_slice();
-        for number in numbers {
-            if self.store.turtle_lives(*number) {
-                living.push(*number)?;
-            }
-        }
-        Ok(Serials::of_vec(living))
-    }
-
-    // The living links of a list.
-    fn living_links(&self, alloc: Global, list: &Serials) -> Result<Serials, NoMemory>
-        ensures { IfOk result (λ members. members ≡ members_of (S.world self.now.store.now).rest (AgentSet.SomeLinks list.now)) }
-    {
-        // What the order of the members rests on: the store stands for a world.
-        let _stands = self.store.shape();
-        let mut living = Vec::new(alloc);
-        let numbers = list.as_slice();
-        for number in numbers {
-            if self.store.link_lives(*number) {
-                living.push(*number)?;
-            }
-        }
-        Ok(Serials::of_vec(living))
-    }
-
-    // Those of all links that are of a breed.
-    fn links_of_breed(&self, alloc: Global, all: &Serials, breed: u32) -> Result<Serials, NoMemory>
-        requires { all.now ≡ all_links (S.world self.now.store.now).rest }
-        ensures { IfOk result (λ members. members ≡ links_where (is_link_of_breed breed) (S.world self.now.store.now).rest) }
-    {
-        // What the order of the links rests on: the store stands for a world.
-        let _stands = self.store.shape();
-        let mut bred = Vec::new(alloc);
-        let numbers = all.as_slice();
-        for number in numbers {
-            if self.is_link_of(*number, breed) {
-                bred.push(*number)?;
-            }
-        }
-        Ok(Serials::of_vec(bred))
-    }
-
-    // Whether the breed of a living link is this one.
-    fn is_link_of(&self, link: u64, breed: u32) -> bool
-        requires { LinkLives link (S.world self.now.store.now) }
-        ensures { result ≡ link_is_of breed (link_of link (S.world self.now.store.now).rest) }
-    {
-        let (own, _) = self.store.link_breed(link);
-        own == breed
+        members(alloc, set, self.store, &mut steps)
     }
 
     // What the order of links goes by: the ends, the breed and the serial.
@@ -308,6 +214,118 @@ impl<'a, S: Store> Life for View<'a, S> {
             _ => Str::of(alloc, &[]),
         }
     }
+}
+
+/// The living members of a set, ascending, and what the store reads for them. A set that lists its members reads nothing.
+pub fn members<S: Store, L: Ledger>(
+    alloc: Global,
+    set: &AgentSet,
+    store: &S,
+    steps: &mut Steps<L>,
+) -> Result<Serials, NoMemory>
+    requires { IsTrue (set_fits (S.world store.now).rest set.now) }
+    ensures list { IfOk result (λ members. members ≡ members_of (S.world store.now).rest set.now) }
+    ensures reads { steps.new ≤ steps.old + most_reads (S.world store.now).rest set.now }
+{
+    let mut into = Serials::empty(alloc);
+    match set {
+        AgentSet::Turtles => store.turtles(alloc, &mut into, steps)?,
+        AgentSet::Breed(breed) => store.of_breed(alloc, *breed, &mut into, steps)?,
+        AgentSet::Patches => return all_patches(alloc, store),
+        AgentSet::Links => store.links(alloc, &mut into, steps)?,
+        AgentSet::LinkBreed(breed) => {
+            store.links(alloc, &mut into, steps)?;
+            return links_of_breed(alloc, &into, *breed, store);
+        }
+        AgentSet::SomeTurtles(numbers) => return living_turtles(alloc, numbers, store),
+        AgentSet::SomePatches(numbers) => return listed_patches(alloc, numbers, store),
+        AgentSet::SomeLinks(numbers) => return living_links(alloc, numbers, store),
+    }
+    Ok(into)
+}
+
+fn all_patches<S: Store>(alloc: Global, store: &S) -> Result<Serials, NoMemory>
+    ensures { IfOk result (λ patches. patches ≡ all_patches (S.world store.now).rest.shape) }
+{
+    let mut numbers = Vec::new(alloc);
+    let count = store.shape().patches();
+    for patch in 0..count {
+        numbers.push(u64::from(patch))?;
+    }
+    Ok(Serials::of_vec(numbers))
+}
+
+// The patches of a list, each of which is one of the world.
+fn listed_patches<S: Store>(alloc: Global, list: &Serials, store: &S) -> Result<Serials, NoMemory>
+    requires { IsTrue (set_fits (S.world store.now).rest (AgentSet.SomePatches list.now)) }
+    ensures { IfOk result (λ members. members ≡ members_of (S.world store.now).rest (AgentSet.SomePatches list.now)) }
+{
+    let _store = store;
+    let _ascending = list.as_slice();
+    list.copy(alloc)
+}
+
+// The living turtles of a list.
+fn living_turtles<S: Store>(alloc: Global, list: &Serials, store: &S) -> Result<Serials, NoMemory>
+    ensures { IfOk result (λ members. members ≡ members_of (S.world store.now).rest (AgentSet.SomeTurtles list.now)) }
+{
+    // What the order of the members rests on: the store stands for a world.
+    let _stands = store.shape();
+    let mut living = Vec::new(alloc);
+    let numbers = list.as_slice();
+    for number in numbers {
+        if store.turtle_lives(*number) {
+            living.push(*number)?;
+        }
+    }
+    Ok(Serials::of_vec(living))
+}
+
+// The living links of a list.
+fn living_links<S: Store>(alloc: Global, list: &Serials, store: &S) -> Result<Serials, NoMemory>
+    ensures { IfOk result (λ members. members ≡ members_of (S.world store.now).rest (AgentSet.SomeLinks list.now)) }
+{
+    // What the order of the members rests on: the store stands for a world.
+    let _stands = store.shape();
+    let mut living = Vec::new(alloc);
+    let numbers = list.as_slice();
+    for number in numbers {
+        if store.link_lives(*number) {
+            living.push(*number)?;
+        }
+    }
+    Ok(Serials::of_vec(living))
+}
+
+// Those of all links that are of a breed.
+fn links_of_breed<S: Store>(
+    alloc: Global,
+    all: &Serials,
+    breed: u32,
+    store: &S,
+) -> Result<Serials, NoMemory>
+    requires { all.now ≡ all_links (S.world store.now).rest }
+    ensures { IfOk result (λ members. members ≡ links_where (is_link_of_breed breed) (S.world store.now).rest) }
+{
+    // What the order of the links rests on: the store stands for a world.
+    let _stands = store.shape();
+    let mut bred = Vec::new(alloc);
+    let numbers = all.as_slice();
+    for number in numbers {
+        if is_link_of(*number, breed, store) {
+            bred.push(*number)?;
+        }
+    }
+    Ok(Serials::of_vec(bred))
+}
+
+// Whether the breed of a living link is this one.
+fn is_link_of<S: Store>(link: u64, breed: u32, store: &S) -> bool
+    requires { LinkLives link (S.world store.now) }
+    ensures { result ≡ link_is_of breed (link_of link (S.world store.now).rest) }
+{
+    let (own, _) = store.link_breed(link);
+    own == breed
 }
 
 // A whole number that is as small as serials are.
