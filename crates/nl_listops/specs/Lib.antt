@@ -1,0 +1,10 @@
+pub mod Answers
+pub mod Arithmetic
+pub mod inner
+pub mod Inputs
+pub mod Kinds
+pub mod Laws
+pub mod Shades
+pub mod Statistics
+pub mod Truths
+pub mod Words

@@ -1,0 +1,21 @@
+//! The words of values: arithmetic, truths, comparisons, kinds, lists, texts, statistics, colors and draws, by the codes of their rows.
+#![tactic(auto)]
+
+pub mod answers;
+mod draws;
+mod inputs;
+mod kinds;
+pub mod laws;
+mod many;
+mod numbers;
+mod series;
+mod shades;
+mod statistics;
+#[cfg(test)]
+mod tests;
+mod truths;
+pub mod words;
+
+pub use answers::apply;
+pub use nl_series::ListFail;
+pub use words::{ValueWord, value_word};

@@ -1,0 +1,11 @@
+pub mod Ascents
+pub mod Characters
+pub mod Cuts
+pub mod Elsewhere
+pub mod Joins
+pub mod OccurrenceLemmas
+pub mod Onces
+pub mod Pieces
+pub mod Rows
+pub mod Turns
+pub mod Walks

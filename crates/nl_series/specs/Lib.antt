@@ -1,0 +1,10 @@
+pub mod Fails
+pub mod inner
+pub mod Outcomes
+pub mod Places
+pub mod Laws
+pub mod Lists
+pub mod Texts
+pub mod Searches
+pub mod Sorts
+pub mod Ranges

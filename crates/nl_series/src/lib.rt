@@ -1,0 +1,14 @@
+//! Lists and texts by their items and characters: parts, places, joins, searches, sorts and ranges.
+#![tactic(auto)]
+
+pub mod fail;
+pub mod laws;
+pub mod lists;
+pub mod occurrences;
+mod places;
+pub mod ranges;
+pub mod searches;
+pub mod sorts;
+pub mod texts;
+
+pub use fail::ListFail;
