@@ -1,0 +1,9 @@
+pub mod Appended
+pub mod BirthExamples
+pub mod Counting
+pub mod Looking
+pub mod Numbers
+pub mod Partners
+pub mod Setting
+pub mod Tied
+pub mod Tying

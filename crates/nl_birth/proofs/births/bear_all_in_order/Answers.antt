@@ -1,0 +1,79 @@
+use Rattle.std.proofs.Common.{suc, min, Err, ap, ◌∙◌, refl, arith}
+use Rattle.nl_birth.specs.Looks.{looks_in_order}
+use Rattle.nl_agents.specs.Changes.{AreTurtlesFull}
+use Rattle.nl_agents.specs.declared.refusals.BearFail.TheVariants as bear
+use Rattle.nl_birth.specs.Births.{origin, turtle_room, ordered_births, turtles_born}
+use Rattle.nl_birth.specs.Outcomes.{fail_of_bear}
+use Rattle.nl_birth.specs.declared.failing.BirthFail.TheVariants.{NoMemory}
+use Rattle.nl_birth.proofs.Counting.{none_so_far, one_more, may_push, cut_short, refused_then, layout_of, inside_of, ordered_at, ordered_next, no_room, more_room, exits, ok_not_full, born_alike, inside_alike}
+use Rattle.nl_birth.proofs.births.bear_all_in_order.Goals as goal
+
+pub bear_with-requires : goal.bear_with-requires
+bear_with-requires g c =
+    let w = g.S.Store.world c.args.store.now in
+    let now = g.S.Store.world c.loop-index.store in
+    let k = c.loop-index.index in
+    let more = ordered_at c.args.breed c.args.count w now k (turtle_room w) w.rest.turtles_given c.loop-index.made c.loop-index.invariant in
+    record {
+      breed = layout_of w now k c.args.breed more c.requires.breed;
+      at = inside_alike now c.origin.result origin c.origin.ensures (inside_of w now k origin more c.requires.at);
+    }
+
+pub loop-index-init : goal.loop-index-init
+unfolding ordered_births
+loop-index-init g c =
+    let w = g.S.Store.world c.args.store.now in
+    none_so_far (ordered_births c.args.breed c.args.count w) (turtle_room w) w.rest.turtles_given w c.empty-made.result refl c.empty-made.ensures
+
+pub returns-in_err-turtle : goal.returns-in_err-turtle
+returns-in_err-turtle g c =
+    let w = g.S.Store.world c.args.store.now in
+    let after = ordered_births c.args.breed c.args.count w in
+    let now = g.S.Store.world c.loop-index.store in
+    let next = g.S.Store.world c.bear_with.new.store in
+    let k = c.loop-index.index in
+    let fail = c.in_err-turtle.field-0.0 in
+    let e = c.in_err-turtle.ensures in
+    let more = ordered_at c.args.breed c.args.count w now k (turtle_room w) w.rest.turtles_given c.loop-index.made c.loop-index.invariant in
+    exits (turtles_born after w c.args.count) after (min c.args.count (turtle_room w)) next c.from_residual.result (fail_of_bear fail) c.from_residual.ensures.1
+    (refused_then after (turtle_room w) w.rest.turtles_given c.args.count k now next c.loop-index.made fail c.loop-index.invariant e.kept c.loop-index-test.true
+    (λ full. no_room w now k more (e.full.0 (ap Err full))))
+
+pub push-requires : goal.push-requires
+push-requires g c =
+    let w = g.S.Store.world c.args.store.now in
+    let now = g.S.Store.world c.loop-index.store in
+    let k = c.loop-index.index in
+    let more = ordered_at c.args.breed c.args.count w now k (turtle_room w) w.rest.turtles_given c.loop-index.made c.loop-index.invariant in
+    may_push (ordered_births c.args.breed c.args.count w) (turtle_room w) w.rest.turtles_given k now c.loop-index.made c.in_ok-turtle.turtle c.loop-index.invariant (c.in_ok-turtle.ensures.serial ∙ more.given)
+
+pub returns-in_err-push : goal.returns-in_err-push
+returns-in_err-push g c =
+    let w = g.S.Store.world c.args.store.now in
+    let after = ordered_births c.args.breed c.args.count w in
+    let now = g.S.Store.world c.loop-index.store in
+    let next = g.S.Store.world c.bear_with.new.store in
+    let k = c.loop-index.index in
+    let test = c.loop-index-test.true in
+    let e = c.in_ok-turtle.ensures in
+    let more = ordered_at c.args.breed c.args.count w now k (turtle_room w) w.rest.turtles_given c.loop-index.made c.loop-index.invariant in
+    let born = born_alike next now c.args.breed c.origin.result origin c.looks_in_order-looks.result (looks_in_order c.args.count k) e.born c.origin.ensures c.looks_in_order-looks.ensures in
+    let step = ordered_next c.args.breed c.args.count w now k (turtle_room w) w.rest.turtles_given c.loop-index.made next c.loop-index.invariant born in
+    let room = more_room w now k more (ok_not_full c.in_ok-turtle.turtle bear.Full (AreTurtlesFull now) e.full.1) in
+    exits (turtles_born after w c.args.count) after (min c.args.count (turtle_room w)) next c.from_residual-in_err-push.result NoMemory c.from_residual-in_err-push.ensures.1
+    (cut_short after (turtle_room w) c.args.count (suc k) next step (omega (arith, test)) room)
+
+pub loop-index-preserved : goal.loop-index-preserved
+loop-index-preserved g c =
+    let w = g.S.Store.world c.args.store.now in
+    let after = ordered_births c.args.breed c.args.count w in
+    let now = g.S.Store.world c.loop-index.store in
+    let next = g.S.Store.world c.bear_with.new.store in
+    let k = c.loop-index.index in
+    let test = c.loop-index-test.true in
+    let e = c.in_ok-turtle.ensures in
+    let more = ordered_at c.args.breed c.args.count w now k (turtle_room w) w.rest.turtles_given c.loop-index.made c.loop-index.invariant in
+    let born = born_alike next now c.args.breed c.origin.result origin c.looks_in_order-looks.result (looks_in_order c.args.count k) e.born c.origin.ensures c.looks_in_order-looks.ensures in
+    let step = ordered_next c.args.breed c.args.count w now k (turtle_room w) w.rest.turtles_given c.loop-index.made next c.loop-index.invariant born in
+    let room = more_room w now k more (ok_not_full c.in_ok-turtle.turtle bear.Full (AreTurtlesFull now) e.full.1) in
+    one_more after (turtle_room w) w.rest.turtles_given k now next c.loop-index.made c.push.new.self c.in_ok-turtle.turtle c.loop-index.invariant step (e.serial ∙ more.given) c.in_ok-push.ensures.ok room

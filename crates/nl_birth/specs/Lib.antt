@@ -1,0 +1,6 @@
+pub mod Births
+pub mod Laws
+pub mod Links
+pub mod Looks
+pub mod Outcomes
+pub mod inner

@@ -1,0 +1,45 @@
+-- What becomes of births and of the making of links.
+use Rattle.std.specs.Prelude.{◌≡◌, ℕ, ◌≤◌, Result, Ok, Err, nat_le, if◌then◌else◌}
+use Rattle.std.specs.List.{range_with_len}
+use Rattle.nl_value.specs.Nouns.{Serials}
+use Rattle.nl_agents.specs.declared.refusals.BearFail.{BearFail}
+use Rattle.nl_agents.specs.declared.refusals.BearFail.TheVariants as bear
+use Rattle.nl_agents.specs.declared.refusals.TieFail.{TieFail}
+use Rattle.nl_agents.specs.declared.refusals.TieFail.TheVariants as tie
+use Rattle.nl_birth.specs.declared.failing.BirthFail.{BirthFail}
+use Rattle.nl_birth.specs.declared.failing.BirthFail.TheVariants.{TooMany, LinkFault, NoMemory}
+
+-- All were made, with these serials; or as many as fit, and one more had to be made; or nothing was, since it may not be. What it
+-- leaves stands beside.
+pub data Outcome (X : Type 0) : Type 0 where
+  Made : Serials → X → Outcome X
+  Filled : X → Outcome X
+  Refused : X → Outcome X
+
+-- So many are to be made where there is room for so many, the next serial is `first`, and `after` says what each number of them
+-- leaves: their serials are the next ones, in order.
+abbrev pub outcome_of : {X : Type 0} → (ℕ → X) → (room first count : ℕ) → Outcome X
+outcome_of after room first count = if nat_le count room then Made (range_with_len first count) (after count) else Filled (after room)
+
+-- Memory was refused after some of them were made.
+pub record IsCutShort {X : Type 0} (after : ℕ → X) (most : ℕ) (now : X) : Type 0 where
+  pub made : ℕ
+  pub few : made ≤ most
+  pub leaves : now ≡ after made
+
+-- A call that came to this outcome, or that memory cut short after some of what `after` says, of `most` at the most.
+abbrev pub IsOutcome : {X : Type 0} → Outcome X → (ℕ → X) → ℕ → Result Serials BirthFail → X → Type 0
+IsOutcome outcome after most (Ok made) now = outcome ≡ Made made now
+IsOutcome outcome after most (Err TooMany) now = outcome ≡ Filled now
+IsOutcome outcome after most (Err LinkFault) now = outcome ≡ Refused now
+IsOutcome outcome after most (Err NoMemory) now = IsCutShort after most now
+
+-- ---- refusals of a store
+
+abbrev pub fail_of_bear : BearFail → BirthFail
+fail_of_bear bear.Full = TooMany
+fail_of_bear bear.NoMemory = NoMemory
+
+abbrev pub fail_of_tie : TieFail → BirthFail
+fail_of_tie tie.Full = TooMany
+fail_of_tie tie.NoMemory = NoMemory

@@ -1,0 +1,14 @@
+pub mod Best
+pub mod Causes
+pub mod Climbs
+pub mod Conserved
+pub mod Even
+pub mod Examples
+pub mod Fields
+pub mod Kept
+pub mod Living
+pub mod Returns
+pub mod Rings
+pub mod Shares
+pub mod Summits
+pub mod Totals

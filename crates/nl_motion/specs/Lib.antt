@@ -1,0 +1,4 @@
+pub mod Motion
+pub mod Climbing
+pub mod Diffusion
+pub mod Laws
