@@ -21,16 +21,16 @@ swapped x y ys = IsPermutation-append_left ys (x ∷ y ∷ []) (y ∷ x ∷ []) 
 insert_permutes : {X : Type 0} (lt : X → X → Bool) (x : X) (ys : List X) → IsPermutation (x ∷ ys) (inserted lt x ys)
 insert_permutes lt x [] = IsPermutation-refl (x ∷ [])
 insert_permutes lt x (y ∷ ys) = elim (lt y x) as (λ b. IsPermutation (x ∷ y ∷ ys) (if b then y ∷ inserted lt x ys else x ∷ y ∷ ys)) [
-      | true ↦ IsPermutation-trans (x ∷ y ∷ ys) (y ∷ x ∷ ys) (y ∷ inserted lt x ys) (swapped x y ys) (IsPermutation-append_right (y ∷ []) (x ∷ ys) (inserted lt x ys) (insert_permutes lt x ys))
-      | false ↦ IsPermutation-refl (x ∷ y ∷ ys)
-    ]
+  | true ↦ IsPermutation-trans (x ∷ y ∷ ys) (y ∷ x ∷ ys) (y ∷ inserted lt x ys) (swapped x y ys) (IsPermutation-append_right (y ∷ []) (x ∷ ys) (inserted lt x ys) (insert_permutes lt x ys))
+  | false ↦ IsPermutation-refl (x ∷ y ∷ ys)
+]
 
 sort_permutes : {X : Type 0} (lt : X → X → Bool) (xs : List X) → IsPermutation xs (sorted_by lt xs)
 sort_permutes lt [] = IsPermutation-refl []
 sort_permutes lt (x ∷ xs) =
     IsPermutation-trans (x ∷ xs) (x ∷ sorted_by lt xs) (inserted lt x (sorted_by lt xs))
-      (IsPermutation-append_right (x ∷ []) xs (sorted_by lt xs) (sort_permutes lt xs))
-      (insert_permutes lt x (sorted_by lt xs))
+    (IsPermutation-append_right (x ∷ []) xs (sorted_by lt xs) (sort_permutes lt xs))
+    (insert_permutes lt x (sorted_by lt xs))
 
 -- ---- no item comes before the one in front of it
 
@@ -48,6 +48,7 @@ ascend_put lt one_way y x (z ∷ zs) after up = by (lt z x) refl (λ behind. asc
   where
     parts : (not (lt z y) ≡ true) × (ascend lt (z ∷ zs) ≡ true)
     parts = both (not (lt z y)) (ascend lt (z ∷ zs)) up
+
     by : (b : Bool) → lt z x ≡ b → (lt x z ≡ false → ascend lt (z ∷ inserted lt x zs) ≡ true) → ascend lt (y ∷ (if lt z x then z ∷ inserted lt x zs else x ∷ z ∷ zs)) ≡ true
     by true is rest = ap (λ b. ascend lt (y ∷ (if b then z ∷ inserted lt x zs else x ∷ z ∷ zs))) is ∙ two (not (lt z y)) (ascend lt (z ∷ inserted lt x zs)) parts.0 (rest (one_way z x is))
     by false is rest =
@@ -92,9 +93,9 @@ kept_pass p (x ∷ xs) = by (p x) refl (kept_pass p xs)
 inserted_pass : {X : Type 0} (p : X → Bool) (lt : X → X → Bool) (x : X) (ys : List X) → p x ≡ true → list_all p ys ≡ true → list_all p (inserted lt x ys) ≡ true
 inserted_pass p lt x [] is all = two (p x) true is refl
 inserted_pass p lt x (y ∷ ys) is all = elim (lt y x) as (λ b. list_all p (if b then y ∷ inserted lt x ys else x ∷ y ∷ ys) ≡ true) [
-      | true ↦ (let parts = both (p y) (list_all p ys) all in two (p y) (list_all p (inserted lt x ys)) parts.0 (inserted_pass p lt x ys is parts.1))
-      | false ↦ two (p x) (list_all p (y ∷ ys)) is all
-    ]
+  | true ↦ (let parts = both (p y) (list_all p ys) all in two (p y) (list_all p (inserted lt x ys)) parts.0 (inserted_pass p lt x ys is parts.1))
+  | false ↦ two (p x) (list_all p (y ∷ ys)) is all
+]
 
 sorted_pass : {X : Type 0} (p : X → Bool) (lt : X → X → Bool) (xs : List X) → list_all p xs ≡ true → list_all p (sorted_by lt xs) ≡ true
 sorted_pass p lt [] all = refl
@@ -124,14 +125,17 @@ kind_again w k y ys all = by k refl
   where
     parts : (is_of w k y ≡ true) × (list_all (is_of w k) ys ≡ true)
     parts = both (is_of w k y) (list_all (is_of w k) ys) all
+
     of : order_kind w y ≡ k
     of = same_kind k (order_kind w y) parts.0
+
     agents : have_order Numbers k ≡ false → have_order Texts k ≡ false → is_agent_kind k ≡ true → sorted_kind w (y ∷ ys) ≡ k
     agents no_number no_text agent =
         ap (λ b. if b then Numbers else (if list_any (is_of w Texts) (y ∷ ys) then Texts else first_kind (filter_map (agent_kind w) (y ∷ ys)))) (other_kinds w k Numbers (y ∷ ys) no_number all)
         ∙ (ap (λ b. if b then Texts else first_kind (filter_map (agent_kind w) (y ∷ ys))) (other_kinds w k Texts (y ∷ ys) no_text all)
         ∙ (ap (λ j. first_kind (cons_option (if is_agent_kind j then Some j else None) (filter_map (agent_kind w) ys))) of
         ∙ ap (λ b. first_kind (cons_option (if b then Some k else None) (filter_map (agent_kind w) ys))) agent))
+
     by : (j : OrderKind) → k ≡ j → sorted_kind w (y ∷ ys) ≡ k
     by Numbers is =
         ap (λ b. if b then Numbers else (if list_any (is_of w Texts) (y ∷ ys) then Texts else first_kind (filter_map (agent_kind w) (y ∷ ys)))) (ap (λ j. have_order Numbers j || list_any (is_of w Numbers) ys) (of ∙ is))

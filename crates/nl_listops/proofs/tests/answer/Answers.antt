@@ -1,5 +1,5 @@
 -- Each input fits the world in which nothing lives.
-use Rattle.std.proofs.Common.{◌≡◌, Bool, true, List, [], ◌∷◌, map, refl, ap, ◌&&◌, ◌∙◌}
+use Rattle.std.proofs.Common.{◌≡◌, true, List, [], ◌∷◌, map, refl, ap, ◌&&◌, ◌∙◌}
 use Rattle.std.specs.List.{list_all}
 use Rattle.nl_value.specs.Living.{fits, no_life}
 use Rattle.nl_value.specs.Views.{plain}
