@@ -86,3 +86,8 @@ linked way breed caller targets w =
     if is_refused way breed caller targets w
     then Refused w
     else outcome_of (linkings way breed caller targets w) (link_room w) w.rest.links_given (length (wanted way breed caller targets w))
+
+-- how many of them are made at the most, also where memory is refused on the way: none where none may be made
+abbrev pub most_links : Way → BreedNumber → (caller : ℕ) → Serials → World → ℕ
+most_links way breed caller targets w =
+    if is_refused way breed caller targets w then 0 else min (length (wanted way breed caller targets w)) (link_room w)

@@ -9,7 +9,7 @@ ghost use Rattle.std.specs.Option.{option_and_then};
 ghost use Rattle.nl_agents.specs.Layouts.{is_link_breed};
 ghost use Rattle.nl_agents.specs.Changes.{link_of, TurtleLives, LinkLives};
 ghost use Rattle.nl_agents.specs.Members.{is_listed};
-ghost use Rattle.nl_birth.specs.Links.{is_joined, wanted, is_of_other_kind, first_ties, link_room, linkings, linked};
+ghost use Rattle.nl_birth.specs.Links.{is_joined, wanted, is_of_other_kind, first_ties, link_room, linkings, linked, most_links};
 ghost use Rattle.nl_birth.specs.Outcomes.{outcome_of, IsOutcome};
 ghost use Rattle.nl_birth.specs.inner.Partners.{other_end, partner};
 
@@ -178,8 +178,8 @@ pub fn link<S: Store>(
     requires caller { TurtleLives caller (S.world store.old) }
     requires targets { All (λ target. TurtleLives target (S.world store.old)) targets.now }
     ensures { let w = S.world store.old in
-        IsOutcome (linked way breed caller targets.now w) (linkings way breed caller targets.now w)
-        (min (length (wanted way breed caller targets.now w)) (link_room w)) result (S.world store.new) }
+        IsOutcome (linked way breed caller targets.now w) (linkings way breed caller targets.now w) (most_links way breed caller targets.now w)
+        result (S.world store.new) }
 {
     if targets.contains(caller) {
         return Err(BirthFail::LinkFault);

@@ -1,7 +1,7 @@
-use Rattle.std.proofs.Common.{length, min, sym, subst, ◌∙◌}
+use Rattle.std.proofs.Common.{sym, subst, ◌∙◌}
 use Rattle.std.specs.List.Sorted.{IsStrictlyIncreasing}
 use Rattle.nl_birth.specs.declared.failing.BirthFail.TheVariants.{NoMemory}
-use Rattle.nl_birth.specs.Links.{wanted, linked, linkings, link_room}
+use Rattle.nl_birth.specs.Links.{most_links, linked, linkings}
 use Rattle.nl_birth.proofs.Counting.{exits}
 use Rattle.nl_birth.proofs.Tying.{none_linked, passed_live, passed_apart, passed_free}
 use Rattle.nl_birth.proofs.linking.link.Goals as goal
@@ -10,7 +10,7 @@ pub returns-in_err-wanted : goal.returns-in_err-wanted
 returns-in_err-wanted g c =
     let w = g.S.Store.world c.args.store.now in
     let ts = c.args.targets.now in
-    let most = min (length (wanted c.args.way c.args.breed c.args.caller ts w)) (link_room w) in
+    let most = most_links c.args.way c.args.breed c.args.caller ts w in
     exits (linked c.args.way c.args.breed c.args.caller ts w) (linkings c.args.way c.args.breed c.args.caller ts w) most w c.from_residual.result NoMemory c.from_residual.ensures.1
     (none_linked c.args.way c.args.breed c.args.caller ts w most)
 
@@ -18,7 +18,7 @@ pub returns-in_err-other_kind_lives : goal.returns-in_err-other_kind_lives
 returns-in_err-other_kind_lives g c =
     let w = g.S.Store.world c.args.store.now in
     let ts = c.args.targets.now in
-    let most = min (length (wanted c.args.way c.args.breed c.args.caller ts w)) (link_room w) in
+    let most = most_links c.args.way c.args.breed c.args.caller ts w in
     exits (linked c.args.way c.args.breed c.args.caller ts w) (linkings c.args.way c.args.breed c.args.caller ts w) most w c.from_residual-in_err-other_kind_lives.result NoMemory c.from_residual-in_err-other_kind_lives.ensures.1
     (none_linked c.args.way c.args.breed c.args.caller ts w most)
 
