@@ -1,14 +1,23 @@
 //! The whole program, and each stage of it, over files and sinks in memory.
 
+mod asking;
 mod bodies;
 mod calls;
 mod command;
 mod context;
+mod crowds;
 mod exchanges;
 mod fire;
+mod keeping;
 mod large;
 mod lone;
 mod models;
 mod places;
+mod playing;
+mod stores;
 mod texts;
+mod ties;
 mod trees;
+mod trial_model;
+mod trials;
+mod views;

@@ -1,0 +1,243 @@
+//! Stores under trial: calls and questions as plain data, and the conditions of the calls.
+//!
+//! Numbers and coordinates are in tenths.
+ghost use Rattle.std.specs.Prelude.{◌≡◌, false, IfSome, IsTrue};
+ghost use Rattle.std.specs.List.{list_any};
+ghost use Rattle.nl_grid.specs.Geometry.{IsPointOf};
+ghost use Rattle.nl_agents.specs.Changes.{TurtleLives, OwnerLives, joins, link_of};
+ghost use Rattle.nl_agents.specs.Members.{all_links};
+ghost use Rattle.nlspace.specs.Trials.{joined};
+
+use nl_agents::{Layout, Owner, Steps, Store};
+use nl_fixed::Num;
+use nl_grid::{Point, Shape};
+use nl_tree::Program;
+use nl_value::Serials;
+use std::alloc::Global;
+use std::marker::Brand;
+use std::process::Abort;
+use std::sync::ledger::{Blank, Ledger};
+
+/// A point, each coordinate in tenths.
+pub(crate) type Place = (i64, i64);
+
+/// A call of a store.
+#[derive(Clone, Copy, Debug)]
+pub(crate) enum Step {
+    /// A turtle of a breed is born at a place, of a parent or of none, and has the serial.
+    Bear(u32, Place, Option<u64>, u64),
+    /// None of the breed is born there, since the store is full.
+    Full(u32, Place),
+    Kill(u64),
+    Shift(u64, Place),
+    Rebreed(u64, u32),
+    /// A link of a breed, with a direction or without, joins two turtles, and has the serial.
+    Tie(u32, bool, u64, u64, u64),
+    Cut(u64),
+    /// A variable becomes a number, and the old one is handed back.
+    Set(Owner, &'static str, i64, Wanted),
+    /// The owner has no such variable, and the number is handed back.
+    SetNothing(Owner, &'static str, i64),
+    ClearTurtles,
+    ClearLinks,
+    ClearPatches,
+    ClearGlobals,
+    /// A copy is put aside.
+    Copy,
+    /// What is aside and what is at hand change places.
+    Swap,
+}
+
+/// What a store is asked, with the answer.
+#[derive(Clone, Copy, Debug)]
+pub(crate) enum Look {
+    Turtles(&'static [u64]),
+    OfBreed(u32, &'static [u64]),
+    /// The turtles on the patch of a place.
+    On(Place, &'static [u64]),
+    Links(&'static [u64]),
+    LinksOf(u64, &'static [u64]),
+    /// The breed and the place of a turtle.
+    Turtle(u64, u32, Place),
+    /// The breed of a link, whether it has a direction, and its ends.
+    Link(u64, u32, bool, u64, u64),
+    DeadTurtle(u64),
+    DeadLink(u64),
+    Base(u64),
+    Holds(Owner, &'static str, Wanted),
+}
+
+/// What a variable holds.
+#[derive(Clone, Copy, Debug)]
+pub(crate) enum Wanted {
+    Number(i64),
+    Truth(bool),
+    Words(&'static str),
+    /// The owner doesn't own it.
+    Nothing,
+}
+
+/// The number of so many tenths.
+pub(crate) fn tenths(count: i64) -> Option<Num> {
+    Num::new(count.checked_mul(100_000)?)
+}
+
+/// Two stores with the layout that they were made with, and the program of that. What is said of a store is said of the first.
+#[derive(Drop)]
+pub(crate) struct Tried<S: Store> {
+    pub(crate) store: S,
+    pub(crate) aside: S,
+    pub(crate) layout: Layout,
+    program: Program,
+    ghost known: { layout ≡ (S.world store).rest.layout },
+    ghost known_aside: { layout ≡ (S.world aside).rest.layout },
+}
+
+impl<S: Store> Tried<S> {
+    /// Stores of five by five patches around the origin that go on in x behind their sides. None at want of memory.
+    pub(crate) fn new(alloc: Global, program: Program) -> Option<Tried<S>> {
+        let layout = Layout::of(alloc, &program).ok()?;
+        let shape = Shape::new(-2, 2, -2, 2, true, false)?;
+        let store = S::new(alloc, &layout, shape).ok()?;
+        let aside = S::new(alloc, &layout, shape).ok()?;
+        Some(Tried {
+            store,
+            aside,
+            layout,
+            program,
+        })
+    }
+
+    // The slot of a variable.
+    pub(crate) fn slot(&self, name: &str) -> Option<u32> {
+        let what = self.program.what(name.as_bytes())?;
+        self.layout.slot(what)
+    }
+
+    pub(crate) fn point(&self, place: Place) -> Option<Point>
+        ensures { IfSome result (λ at. IsPointOf (S.world self.now.store).rest.shape at) }
+    {
+        let x = tenths(place.0)?;
+        let y = tenths(place.1)?;
+        self.store.shape().wrap(x, y)
+    }
+
+    pub(crate) fn parent_lives(&self, parent: Option<u64>) -> bool
+        ensures { IsTrue result → IfSome parent (λ serial. TurtleLives serial (S.world self.now.store)) }
+    {
+        match parent {
+            Some(serial) => self.store.turtle_lives(serial),
+            None => true,
+        }
+    }
+
+    pub(crate) fn owner_lives(&self, owner: Owner) -> bool
+        ensures { IsTrue result → OwnerLives owner (S.world self.now.store) }
+    {
+        match owner {
+            Owner::Observer => true,
+            Owner::Turtle(turtle) => self.store.turtle_lives(turtle),
+            Owner::Patch(patch) => patch < self.store.shape().patches(),
+            Owner::Link(link) => self.store.link_lives(link),
+        }
+    }
+
+    // The serials of all links.
+    fn all_links<L: Ledger>(&self, alloc: Global, blank: Blank) -> Option<Serials>
+        requires name { blank.name ≡ L.name }
+        requires parts { blank.parts ≡ L.parts }
+        requires one { blank.parts ≡ 1 }
+        ensures { IfSome result (λ links. links ≡ all_links (S.world self.now.store).rest) }
+    {
+        let mut steps = Steps::<L>::new(blank);
+        let mut into = Serials::empty(alloc);
+        match self.store.links(alloc, &mut into, &mut steps) {
+            Ok(()) => Some(into),
+            Err(_) => None,
+        }
+    }
+
+    // Whether a link lives, is of the breed, and joins the two the same way.
+    fn joins(&self, link: u64, breed: u32, directed: bool, end1: u64, end2: u64) -> bool
+        ensures { result ≡ joined breed directed end1 end2 (link_of link (S.world self.now.store).rest) }
+    {
+        if !self.store.link_lives(link) {
+            return false;
+        }
+        let (own, way) = self.store.link_breed(link);
+        let (first, second) = self.store.ends(link);
+        let turned = !directed && first == end2 && second == end1;
+        own == breed
+            && (if way { directed } else { !directed })
+            && ((first == end1 && second == end2) || turned)
+    }
+
+    // Whether a link of the breed joins the two the same way already; also where memory is wanted.
+    pub(crate) fn is_tied(
+        &self,
+        alloc: Global,
+        breed: u32,
+        directed: bool,
+        end1: u64,
+        end2: u64,
+    ) -> bool
+        ensures { result ≡ false → list_any (joins breed directed end1 end2) (S.world self.now.store).rest.links ≡ false }
+    {
+        let Some(links) = self.all_links::<Brand>(alloc, Blank::new(1)) else {
+            return true;
+        };
+        // What the links that are found rest on: the store stands for a world.
+        let _stands = self.store.shape();
+        let numbers = links.as_slice();
+        for number in numbers {
+            if self.joins(*number, breed, directed, end1, end2) {
+                return true;
+            }
+        }
+        false
+    }
+}
+
+// Makes the calls, one after the other.
+fn play<S: Store>(rt: &impl Abort, alloc: Global, tried: &mut Tried<S>, steps: &[Step]) {
+    for step in steps {
+        assert!(rt; tried.play(alloc, *step), "{step:?}");
+    }
+}
+
+// Asks the store all of this.
+fn ask<S: Store>(rt: &impl Abort, alloc: Global, tried: &Tried<S>, looks: &[Look]) {
+    for look in looks {
+        assert!(rt; tried.answers(alloc, *look), "{look:?}");
+    }
+}
+
+/// Calls, and what the store answers after them.
+pub(crate) type Scene = (&'static [Step], &'static [Look]);
+
+/// Plays the scenes on the store.
+pub(crate) fn proceed<S: Store>(
+    rt: &impl Abort,
+    alloc: Global,
+    tried: &mut Tried<S>,
+    scenes: &[Scene],
+) {
+    for (steps, looks) in scenes {
+        play(rt, alloc, tried, steps);
+        ask(rt, alloc, tried, looks);
+    }
+}
+
+/// A new store on which the scenes are played.
+pub(crate) fn played<S: Store>(
+    rt: &impl Abort,
+    alloc: Global,
+    program: Program,
+    scenes: &[Scene],
+) -> Tried<S> {
+    let Some(mut tried) = Tried::<S>::new(alloc, program) else {
+        panic!(rt);
+    };
+    proceed(rt, alloc, &mut tried, scenes);
+    tried
+}

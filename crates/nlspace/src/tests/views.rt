@@ -1,0 +1,270 @@
+//! Agents and sets of stores as values: their text, equality and order. Each table runs over every store that there is.
+ghost use Rattle.std.specs.Prelude.{◌≡◌, ◌<◌, ◌∷◌, [], IfSome, IsTrue};
+ghost use Rattle.nl_value.specs.Living.{fits};
+ghost use Rattle.nl_value.specs.Views.{plain};
+ghost use Rattle.nl_agents.specs.Names.{living_of, set_fits};
+
+use crate::tests::trial_model::{FOXES, OWLS, ROPES, WIRES, program};
+use crate::tests::trials::{Look, Scene, Step, Tried, played};
+use nl_agents::{Store, View};
+use nl_plain::Plain;
+use nl_value::equality::same;
+use nl_value::order::before;
+use nl_value::texts::text;
+use nl_value::{AgentSet, Serials, Value};
+use std::alloc::Global;
+use std::process::Abort;
+
+// An agent or a set.
+#[derive(Clone, Copy, Debug)]
+enum Named {
+    Nobody,
+    Turtle(u64),
+    Patch(u32),
+    Link(u64),
+    Turtles,
+    Patches,
+    Links,
+    Breed(u32),
+    LinkBreed(u32),
+    /// Two by their serials or numbers, the lower one first.
+    SomeTurtles(u64, u64),
+    SomePatches(u64, u64),
+    SomeLinks(u64, u64),
+}
+
+fn pair(alloc: Global, first: u64, second: u64) -> Option<Serials>
+    requires { first < second }
+    ensures { IfSome result (λ pair. pair ≡ first ∷ second ∷ []) }
+{
+    let mut numbers = Serials::empty(alloc);
+    numbers.push(alloc, first).ok()?;
+    numbers.push(alloc, second).ok()?;
+    Some(numbers)
+}
+
+impl<S: Store> Tried<S> {
+    fn listed_set(&self, alloc: Global, named: Named) -> Option<AgentSet>
+        ensures { IfSome result (λ set. IsTrue (set_fits (S.world self.now.store).rest set)) }
+    {
+        match named {
+            Named::SomeTurtles(first, second) if first < second => {
+                Some(AgentSet::SomeTurtles(pair(alloc, first, second)?))
+            }
+            Named::SomeLinks(first, second) if first < second => {
+                Some(AgentSet::SomeLinks(pair(alloc, first, second)?))
+            }
+            Named::SomePatches(first, second) if first < second => {
+                let patches = u64::from(self.store.shape().patches());
+                if second >= patches {
+                    return None;
+                }
+                Some(AgentSet::SomePatches(pair(alloc, first, second)?))
+            }
+            _ => None,
+        }
+    }
+
+    fn set_of(&self, alloc: Global, named: Named) -> Option<AgentSet>
+        ensures { IfSome result (λ set. IsTrue (set_fits (S.world self.now.store).rest set)) }
+    {
+        match named {
+            Named::Turtles => Some(AgentSet::Turtles),
+            Named::Patches => Some(AgentSet::Patches),
+            Named::Links => Some(AgentSet::Links),
+            Named::Breed(breed) if self.layout.is_turtle_breed(breed) => {
+                Some(AgentSet::Breed(breed))
+            }
+            Named::LinkBreed(breed) if self.layout.is_link_breed(breed) => {
+                Some(AgentSet::LinkBreed(breed))
+            }
+            listed => self.listed_set(alloc, listed),
+        }
+    }
+
+    // None where it doesn't fit the store, and at want of memory.
+    fn value_of(&self, alloc: Global, named: Named) -> Option<Value>
+        ensures { IfSome result (λ value. IsTrue (fits (living_of (S.world self.now.store).rest) (plain value))) }
+    {
+        match named {
+            Named::Nobody => Some(Value::Nobody),
+            Named::Turtle(turtle) => Some(Value::Turtle(turtle)),
+            Named::Link(link) => Some(Value::Link(link)),
+            Named::Patch(patch) => {
+                if patch < self.store.shape().patches() {
+                    Some(Value::Patch(patch))
+                } else {
+                    None
+                }
+            }
+            set => Some(Value::Set(self.set_of(alloc, set)?)),
+        }
+    }
+
+    fn prints(&self, alloc: Global, named: Named, wanted: &str) -> bool {
+        let Some(value) = self.value_of(alloc, named) else {
+            return false;
+        };
+        match text(alloc, &value, false, &View::new(&self.store, &self.layout)) {
+            Ok(text) => text.as_bytes() == wanted.as_bytes(),
+            Err(_) => false,
+        }
+    }
+
+    // Whether two values are the same. None where one doesn't fit, and at want of memory.
+    fn compared(&self, alloc: Global, first: Named, second: Named) -> Option<bool> {
+        let first = self.value_of(alloc, first)?;
+        let second = self.value_of(alloc, second)?;
+        match same(
+            alloc,
+            &first,
+            &second,
+            &View::new(&self.store, &self.layout),
+        ) {
+            Ok(same) => Some(same),
+            Err(_) => None,
+        }
+    }
+
+    fn ordered(&self, alloc: Global, first: Named, second: Named) -> Option<bool> {
+        let first = self.value_of(alloc, first)?;
+        let second = self.value_of(alloc, second)?;
+        before(&first, &second, &View::new(&self.store, &self.layout))
+    }
+}
+
+// Who numbers begin anew behind a clear: turtle 2 is called 0. The owl is dead, and with it its rope.
+const WORLD: &[Scene] = &[(
+    &[
+        Step::Bear(0, (0, 0), None, 0),
+        Step::Bear(0, (0, 0), None, 1),
+        Step::ClearTurtles,
+        Step::Bear(0, (0, 0), None, 2),
+        Step::Bear(FOXES, (0, 0), None, 3),
+        Step::Bear(OWLS, (0, 0), None, 4),
+        Step::Bear(0, (0, 0), None, 5),
+        Step::Tie(0, false, 2, 3, 0),
+        Step::Tie(WIRES, true, 2, 3, 1),
+        Step::Tie(ROPES, false, 3, 4, 2),
+        Step::Tie(0, false, 2, 5, 3),
+        Step::Tie(WIRES, true, 3, 2, 4),
+        Step::Tie(ROPES, false, 2, 3, 5),
+        Step::Tie(ROPES, false, 2, 5, 6),
+        Step::Tie(WIRES, true, 2, 5, 7),
+        Step::Kill(4),
+    ],
+    &[
+        Look::Turtles(&[2, 3, 5]),
+        Look::Links(&[0, 1, 3, 4, 5, 6, 7]),
+    ],
+)];
+
+// The store of the scene.
+fn started<S: Store>(rt: &impl Abort, alloc: Global) -> Tried<S> {
+    let Some(model) = program(alloc) else {
+        panic!(rt);
+    };
+    played(rt, alloc, model, WORLD)
+}
+
+const TEXTS: &[(Named, &str)] = &[
+    (Named::Turtle(5), "(turtle 3)"),
+    (Named::Turtle(3), "(fox 1)"),
+    (Named::Turtle(4), "nobody"),
+    (Named::Turtle(0), "nobody"),
+    (Named::Patch(23), "(patch 1 -2)"),
+    (Named::Patch(0), "(patch -2 2)"),
+    (Named::Link(0), "(link 0 1)"),
+    (Named::Link(1), "(wire 0 1)"),
+    (Named::Link(4), "(wire 1 0)"),
+    (Named::Link(6), "(rope 0 3)"),
+    (Named::Link(2), "nobody"),
+    (Named::Turtles, "(agentset, 3 turtles)"),
+    (Named::Breed(FOXES), "(agentset, 1 foxes)"),
+    (Named::Breed(OWLS), "(agentset, 0 owls)"),
+    (Named::SomeTurtles(3, 4), "(agentset, 1 turtles)"),
+    (Named::Patches, "(agentset, 25 patches)"),
+    (Named::SomePatches(0, 23), "(agentset, 2 patches)"),
+    (Named::Links, "(agentset, 7 links)"),
+    (Named::LinkBreed(WIRES), "(agentset, 3 wires)"),
+    (Named::SomeLinks(1, 2), "(agentset, 1 links)"),
+];
+
+fn assert_texts<S: Store>(rt: &impl Abort, alloc: Global) {
+    let tried = started::<S>(rt, alloc);
+    for (named, wanted) in TEXTS {
+        assert!(rt; tried.prints(alloc, *named, wanted), "{named:?}");
+    }
+}
+
+#[test]
+fn agents_and_sets_of_a_store_have_these_texts(rt: HostRuntime) {
+    assert_texts::<Plain>(&rt, rt.alloc());
+}
+
+// Dead agents are nobody; sets are the same where they are of one kind and have the same living members.
+const SAME: &[(Named, Named, bool)] = &[
+    (Named::Turtle(3), Named::Turtle(3), true),
+    (Named::Turtle(3), Named::Turtle(2), false),
+    (Named::Turtle(4), Named::Nobody, true),
+    (Named::Turtle(4), Named::Turtle(0), true),
+    (Named::Link(2), Named::Nobody, true),
+    (Named::Link(2), Named::Turtle(4), true),
+    (Named::Link(3), Named::Turtle(3), false),
+    (Named::Link(0), Named::Link(1), false),
+    (Named::Patch(3), Named::Patch(3), true),
+    (Named::Breed(FOXES), Named::SomeTurtles(3, 4), true),
+    (Named::Turtles, Named::SomeTurtles(2, 3), false),
+    (Named::Breed(OWLS), Named::SomeTurtles(0, 1), true),
+    (Named::Breed(OWLS), Named::SomeLinks(2, 9), false),
+    (Named::LinkBreed(ROPES), Named::SomeLinks(5, 6), true),
+    (Named::LinkBreed(WIRES), Named::SomeLinks(1, 4), false),
+    (Named::SomePatches(0, 1), Named::SomePatches(0, 2), false),
+];
+
+fn assert_same<S: Store>(rt: &impl Abort, alloc: Global) {
+    let tried = started::<S>(rt, alloc);
+    for (first, second, wanted) in SAME {
+        assert!(rt;
+            tried.compared(alloc, *first, *second) == Some(*wanted),
+            "{first:?} and {second:?}"
+        );
+    }
+}
+
+#[test]
+fn agents_and_sets_of_a_store_are_compared(rt: HostRuntime) {
+    assert_same::<Plain>(&rt, rt.alloc());
+}
+
+// Links go by their ends, then by breed, then by serial.
+const ORDERED: &[(Named, Named, Option<bool>)] = &[
+    (Named::Turtle(2), Named::Turtle(3), Some(true)),
+    (Named::Turtle(5), Named::Turtle(3), Some(false)),
+    (Named::Turtle(3), Named::Turtle(3), Some(false)),
+    (Named::Patch(4), Named::Patch(23), Some(true)),
+    (Named::Link(0), Named::Link(1), Some(true)),
+    (Named::Link(5), Named::Link(3), Some(true)),
+    (Named::Link(5), Named::Link(4), Some(true)),
+    (Named::Link(4), Named::Link(7), Some(false)),
+    (Named::Link(7), Named::Link(6), Some(true)),
+    (Named::Turtle(2), Named::Patch(3), None),
+    (Named::Turtle(4), Named::Turtle(5), None),
+    (Named::Link(0), Named::Link(2), None),
+    (Named::Turtles, Named::Turtles, None),
+];
+
+fn assert_ordered<S: Store>(rt: &impl Abort, alloc: Global) {
+    let tried = started::<S>(rt, alloc);
+    for (first, second, wanted) in ORDERED {
+        assert!(rt;
+            tried.ordered(alloc, *first, *second) == *wanted,
+            "{first:?} and {second:?}"
+        );
+    }
+}
+
+#[test]
+fn agents_of_a_store_have_an_order(rt: HostRuntime) {
+    assert_ordered::<Plain>(&rt, rt.alloc());
+}
