@@ -1,5 +1,5 @@
 //! Faults of small models, whose trees are built by hand, and chains of many procedures.
-ghost use Rattle.std.specs.Prelude.{◌≡◌, [], ◌∷◌, ◌<◌, IfOk, IfSome};
+ghost use Rattle.std.specs.Prelude.{◌≡◌, [], ◌∷◌, ◌++◌, ◌<◌, length, IfOk, OnOk, IfSome};
 ghost use Rattle.std.specs.List.Sorted.{IsPermutation};
 ghost use Rattle.nl_tree.specs.Names.{IsDeclared};
 ghost use Rattle.nl_tree.specs.Views.{plain};
@@ -14,11 +14,14 @@ use crate::reach::settle;
 use crate::refusal::CheckRefusal;
 use nl_fixed::{Names, NoMemory, Span, Str};
 use nl_tree::{
-    Breeds, CheckKind, Declared, Form, Label, NamedWord, NamedWords, Procedure, Procedures, Tree,
-    Trees, What, Word,
+    Breeds, CheckKind, Declared, Form, Label, NamedWord, NamedWords, Procedure, Procedures,
+    Program, Tree, Trees, What, Word,
 };
 use nl_words::{Kinds, Role};
 use std::alloc::Global;
+
+// Lets go of a thing by one call: a tree that ends inside of a function is walked there, variant by variant.
+fn let_go<T: Drop>(_thing: T) {}
 
 fn procedure(alloc: Global, name: &[u8], reporter: bool) -> Result<Procedure, NoMemory>
     ensures { IfOk result (λ p. p ≡ procedure_named name.now reporter) }
@@ -61,15 +64,27 @@ fn procedure_row(
     Ok(NamedWord { name, word })
 }
 
+fn push_procedure(
+    alloc: Global,
+    list: &mut Procedures,
+    name: &[u8],
+    reporter: bool,
+) -> Result<(), NoMemory>
+    ensures { OnOk result (list.new ≡ list.old ++ procedure_named name.now reporter ∷ []) }
+{
+    let procedure = procedure(alloc, name, reporter)?;
+    list.push(alloc, procedure)
+}
+
 // The procedures `a`, `b` and `c`, and the reporter `r`.
 fn procedures(alloc: Global) -> Result<Procedures, NoMemory>
     ensures { IfOk result (λ list. list ≡ sample_procedures) }
 {
     let mut list = Procedures::empty(alloc);
-    list.push(alloc, procedure(alloc, b"a", false)?)?;
-    list.push(alloc, procedure(alloc, b"b", false)?)?;
-    list.push(alloc, procedure(alloc, b"c", false)?)?;
-    list.push(alloc, procedure(alloc, b"r", true)?)?;
+    push_procedure(alloc, &mut list, b"a", false)?;
+    push_procedure(alloc, &mut list, b"b", false)?;
+    push_procedure(alloc, &mut list, b"c", false)?;
+    push_procedure(alloc, &mut list, b"r", true)?;
     Ok(list)
 }
 
@@ -114,15 +129,33 @@ fn empty(alloc: Global) -> Tree
     }
 }
 
-// The bodies of `a`, `b`, `c` and `r`.
-fn bodies(alloc: Global, a: Tree, b: Tree, c: Tree, r: Tree) -> Result<Trees, NoMemory>
-    ensures { IfOk result (λ list. list ≡ plain a ∷ plain b ∷ plain c ∷ plain r ∷ []) }
+fn push_empty(alloc: Global, list: &mut Trees) -> Result<(), NoMemory>
+    ensures { OnOk result (list.new ≡ list.old ++ empty_body ∷ []) }
+{
+    list.push(alloc, empty(alloc))
+}
+
+// Bodies of `a`, `b`, `c` and `r` without words.
+fn empties(alloc: Global) -> Result<Trees, NoMemory>
+    ensures { IfOk result (λ list. list ≡ empty_body ∷ empty_body ∷ empty_body ∷ empty_body ∷ []) }
+{
+    let mut list = Trees::empty(alloc);
+    push_empty(alloc, &mut list)?;
+    push_empty(alloc, &mut list)?;
+    push_empty(alloc, &mut list)?;
+    push_empty(alloc, &mut list)?;
+    Ok(list)
+}
+
+// The body of `a` with others behind it that have no words.
+fn bodies_from(alloc: Global, a: Tree) -> Result<Trees, NoMemory>
+    ensures { IfOk result (λ list. length list ≡ 4) }
 {
     let mut list = Trees::empty(alloc);
     list.push(alloc, a)?;
-    list.push(alloc, b)?;
-    list.push(alloc, c)?;
-    list.push(alloc, r)?;
+    push_empty(alloc, &mut list)?;
+    push_empty(alloc, &mut list)?;
+    push_empty(alloc, &mut list)?;
     Ok(list)
 }
 
@@ -150,43 +183,71 @@ fn one(alloc: Global, first: Tree) -> Result<Trees, NoMemory> {
 }
 
 // The first fault of the model with these bodies: its kind, the number of its body, and where it stands.
-fn fault(alloc: Global, a: Tree, b: Tree, c: Tree, r: Tree) -> Option<(CheckKind, usize, u32)> {
-    match judged(alloc, a, b, c, r) {
+fn fault(alloc: Global, bodies: Trees) -> Option<(CheckKind, usize, u32)>
+    requires { length bodies ≡ 4 }
+{
+    match judged(alloc, bodies) {
         Err(CheckRefusal::Fault { kind, body, span }) => Some((kind, body, span.start)),
         _ => None,
     }
 }
 
-fn judged(alloc: Global, a: Tree, b: Tree, c: Tree, r: Tree) -> Result<(), CheckRefusal> {
+fn judged(alloc: Global, bodies: Trees) -> Result<(), CheckRefusal>
+    requires { length bodies ≡ 4 }
+{
     let model = model(alloc)?;
-    let bodies = bodies(alloc, a, b, c, r)?;
-    let kinds = kinds_of(alloc, &model, &bodies)?;
-    check_bodies(alloc, &model, &bodies, kinds.as_slice())
+    let answer = judged_in(alloc, &model, &bodies);
+    let_go(model);
+    answer
+}
+
+fn judged_in(alloc: Global, model: &Declared, bodies: &Trees) -> Result<(), CheckRefusal>
+    requires names { IsDeclared model.now }
+    requires many { length bodies.now ≡ length model.now.procedures }
+{
+    let kinds = kinds_of(alloc, model, bodies)?;
+    check_bodies(alloc, model, bodies, kinds.as_slice())
+}
+
+// The program of empty bodies.
+fn empty_program(alloc: Global) -> Result<Program, CheckRefusal> {
+    let model = model(alloc)?;
+    let bodies = empties(alloc)?;
+    check(alloc, model, bodies)
+}
+
+// Whether the program has a procedure `b` and the slots of globals.
+fn has_words(program: &Program) -> bool {
+    matches!(program.what(b"b"), Some(What::Procedure(1)))
+        && program.global(b"behaviorspace-experiment-name") == Some(1)
+}
+
+// Whether an empty lone text is right.
+fn empty_text_is_right(alloc: Global, program: &Program) -> bool {
+    let lone = empty(alloc);
+    let answer = check_text(alloc, program, &lone, Form::Commands).is_ok();
+    let_go(lone);
+    answer
 }
 
 // A model of empty bodies is right, and so is an empty lone text.
 #[test]
 fn empty_model_is_right(rt: HostRuntime) {
-    let alloc = rt.alloc();
-    let Ok(model) = model(alloc) else {
+    let Ok(program) = empty_program(rt.alloc()) else {
         panic!(rt);
     };
-    let Ok(bodies) = bodies(
-        alloc,
-        empty(alloc),
-        empty(alloc),
-        empty(alloc),
-        empty(alloc),
-    ) else {
-        panic!(rt);
-    };
-    let Ok(program) = check(alloc, model, bodies) else {
-        panic!(rt);
-    };
-    assert!(rt; matches!(program.what(b"b"), Some(What::Procedure(1))));
-    assert!(rt; program.global(b"behaviorspace-experiment-name") == Some(1));
-    let lone = empty(alloc);
-    assert!(rt; check_text(alloc, &program, &lone, Form::Commands).is_ok());
+    assert!(rt; has_words(&program));
+    assert!(rt; empty_text_is_right(rt.alloc(), &program));
+    let_go(program);
+}
+
+// The body of `a` that is one word before a leaf, with empty ones behind it.
+fn pair_bodies(alloc: Global, word: &[u8], part: &[u8]) -> Result<Trees, NoMemory>
+    ensures { IfOk result (λ list. length list ≡ 4) }
+{
+    let parts = one(alloc, leaf(alloc, part, 14)?)?;
+    let pair = named(alloc, word, 10, parts)?;
+    bodies_from(alloc, pair)
 }
 
 // The first fault of a model whose procedure `a` has such a node, of one word before a leaf, is that word's.
@@ -195,8 +256,8 @@ fn pair_fault(
     word: &[u8],
     part: &[u8],
 ) -> Result<Option<(CheckKind, usize, u32)>, NoMemory> {
-    let pair = named(alloc, word, 10, one(alloc, leaf(alloc, part, 14)?)?)?;
-    Ok(fault(alloc, pair, empty(alloc), empty(alloc), empty(alloc)))
+    let bodies = pair_bodies(alloc, word, part)?;
+    Ok(fault(alloc, bodies))
 }
 
 // Each kind of fault is told as itself, at its word.
@@ -216,24 +277,40 @@ fn each_fault_is_told_at_its_word(rt: HostRuntime) {
     }
 }
 
+fn push_leaf(alloc: Global, parts: &mut Trees, name: &[u8], start: u32) -> Result<(), NoMemory> {
+    let leaf = leaf(alloc, name, start)?;
+    parts.push(alloc, leaf)
+}
+
 // So many statements `home`, and behind them one `report`.
 fn statements(alloc: Global, count: u32) -> Result<Tree, NoMemory> {
     let mut parts = Trees::empty(alloc);
     for start in 0..count {
-        parts.push(alloc, leaf(alloc, b"home", start)?)?;
+        push_leaf(alloc, &mut parts, b"home", start)?;
     }
-    parts.push(alloc, leaf(alloc, b"report", count)?)?;
+    push_leaf(alloc, &mut parts, b"report", count)?;
     Ok(node(Label::Commands, 0, parts))
+}
+
+// Bodies of which that of `b` has so many statements, and the others no words.
+fn long_bodies(alloc: Global, count: u32) -> Result<Trees, NoMemory>
+    ensures { IfOk result (λ list. length list ≡ 4) }
+{
+    let mut list = Trees::empty(alloc);
+    push_empty(alloc, &mut list)?;
+    let long = statements(alloc, count)?;
+    list.push(alloc, long)?;
+    push_empty(alloc, &mut list)?;
+    push_empty(alloc, &mut list)?;
+    Ok(list)
 }
 
 #[test]
 fn fault_behind_thousands_of_statements_is_found(rt: HostRuntime) {
-    let alloc = rt.alloc();
-    let Ok(long) = statements(alloc, 5000) else {
+    let Ok(bodies) = long_bodies(rt.alloc(), 5000) else {
         panic!(rt);
     };
-    let found = fault(alloc, empty(alloc), long, empty(alloc), empty(alloc));
-    assert!(rt; found == Some((CheckKind::NoReport, 2, 5000)));
+    assert!(rt; fault(rt.alloc(), bodies) == Some((CheckKind::NoReport, 2, 5000)));
 }
 
 // The next procedure in a chain or a ring of so many.

@@ -18,8 +18,21 @@ fn point(shape: &Shape, x: i64, y: i64) -> Result<Point, &'static str>
     shape.wrap(x, y).ok_or("outside")
 }
 
+/// Whether the answer is there and is yes. A test asks so, and has one way out the less for each row.
+fn holds(answer: Result<bool, &'static str>) -> bool {
+    matches!(answer, Ok(true))
+}
+
+/// Whether the bounds make a shape of so many patches, or none.
+fn has_patches(x: (i32, i32), y: (i32, i32), patches: Option<u32>) -> bool {
+    match Shape::new(x.0, x.1, y.0, y.1, true, false) {
+        Some(shape) => patches == Some(shape.patches()),
+        None => patches.is_none(),
+    }
+}
+
 #[test]
-fn shapes_keep_to_the_limits(rt: HostRuntime) -> Result<(), Fail> {
+fn shapes_keep_to_the_limits(rt: HostRuntime) {
     let rows = [
         (0, 0, 0, 0, Some(1)),
         (-500, 500, 0, 0, Some(1_001)),
@@ -35,25 +48,50 @@ fn shapes_keep_to_the_limits(rt: HostRuntime) -> Result<(), Fail> {
         (i32::MIN, i32::MAX, 0, 0, None),
     ];
     for (min_x, max_x, min_y, max_y, patches) in rows {
-        let shape = Shape::new(min_x, max_x, min_y, max_y, true, false);
-        assert_eq!(rt; shape.map(|shape| shape.patches()), patches);
+        assert!(rt; has_patches((min_x, max_x), (min_y, max_y), patches));
     }
-    Ok(())
+}
+
+/// Whether the shape tells these bounds.
+fn has_bounds(shape: &Shape, x: (i32, i32), y: (i32, i32)) -> bool {
+    shape.min_x() == x.0 && shape.max_x() == x.1 && shape.min_y() == y.0 && shape.max_y() == y.1
+}
+
+/// Whether the shape tells this size.
+fn has_size(shape: &Shape, width: u32, height: u32, patches: u32) -> bool {
+    shape.width() == width && shape.height() == height && shape.patches() == patches
 }
 
 #[test]
 fn a_shape_tells_its_bounds(rt: HostRuntime) -> Result<(), Fail> {
     let shape = Shape::new(-1, 3, -4, 2, false, true).ok_or("refused")?;
-    assert_eq!(rt;
-        (shape.min_x(), shape.max_x(), shape.min_y(), shape.max_y()),
-        (-1, 3, -4, 2)
-    );
-    assert_eq!(rt;
-        (shape.width(), shape.height(), shape.patches()),
-        (5, 7, 35)
-    );
-    assert_eq!(rt; (shape.wraps_x(), shape.wraps_y()), (false, true));
+    assert!(rt; has_bounds(&shape, (-1, 3), (-4, 2)));
+    assert!(rt; has_size(&shape, 5, 7, 35));
+    assert!(rt; !shape.wraps_x() && shape.wraps_y());
     Ok(())
+}
+
+/// Whether the center of the patch lies on it.
+fn has_center(shape: &Shape, patch: u32) -> bool {
+    patch < shape.patches() && shape.patch_of(shape.center(patch)) == patch
+}
+
+/// Whether the point stands at these coordinates.
+fn stands_at(at: Point, to: (i64, i64)) -> bool {
+    at.x.millionths() == to.0 && at.y.millionths() == to.1
+}
+
+/// Whether the point at the coordinates wraps to these, and lies on this patch.
+fn wraps_to(
+    shape: &Shape,
+    from: (i64, i64),
+    to: (i64, i64),
+    patch: u32,
+) -> Result<bool, &'static str> {
+    let at = point(shape, from.0, from.1)?;
+    let wrapped = stands_at(at, to);
+    let lies = shape.patch_of(at) == patch;
+    Ok(wrapped && lies && has_center(shape, patch))
 }
 
 #[test]
@@ -88,17 +126,10 @@ fn points_wrap_and_lie_on_patches(rt: HostRuntime) -> Result<(), Fail> {
         ),
     ];
     for (x, y, wrapped_x, wrapped_y, patch) in rows {
-        let at = point(&torus, x, y)?;
-        assert_eq!(rt;
-            (at.x.millionths(), at.y.millionths()),
-            (wrapped_x, wrapped_y)
-        );
-        assert_eq!(rt; torus.patch_of(at), patch);
-        let center = torus.center(of_world(&rt, &torus, patch));
-        assert_eq!(rt; torus.patch_of(center), patch);
+        assert!(rt; holds(wraps_to(&torus, (x, y), (wrapped_x, wrapped_y), patch)));
     }
-    assert_eq!(rt; torus.patch_at(-2, 2), Some(0));
-    assert_eq!(rt; torus.patch_at(3, -3), Some(0));
+    assert!(rt; torus.patch_at(-2, 2) == Some(0));
+    assert!(rt; torus.patch_at(3, -3) == Some(0));
     Ok(())
 }
 
@@ -108,6 +139,15 @@ fn of_world(rt: &impl Abort, shape: &Shape, patch: u32) -> u32
 {
     assert!(rt; patch < shape.patches());
     patch
+}
+
+/// Whether a point with this coordinate, and 0 as the other one, is inside or outside of a shape with walls, as this says.
+fn is_inside(shape: &Shape, coordinate: i64, inside: bool) -> Result<bool, &'static str> {
+    let number = Num::new(coordinate).ok_or("out of range")?;
+    let zero = Num::new(0).ok_or("out of range")?;
+    let by_x = shape.wrap(number, zero).is_some() == inside;
+    let by_y = shape.wrap(zero, number).is_some() == inside;
+    Ok(by_x && by_y && shape.is_inside(Point { x: number, y: zero }) == inside)
 }
 
 #[test]
@@ -121,14 +161,10 @@ fn nothing_is_outside_of_a_box_but_beyond_its_ends(rt: HostRuntime) -> Result<()
         (9_000_000_000_000_000_000, false),
     ];
     for (coordinate, inside) in rows {
-        let number = Num::new(coordinate).ok_or("out of range")?;
-        let zero = Num::new(0).ok_or("out of range")?;
-        assert_eq!(rt; walls.wrap(number, zero).is_some(), inside);
-        assert_eq!(rt; walls.wrap(zero, number).is_some(), inside);
-        assert_eq!(rt; walls.is_inside(Point { x: number, y: zero }), inside);
+        assert!(rt; holds(is_inside(&walls, coordinate, inside)));
     }
-    assert_eq!(rt; walls.patch_at(3, 0), None);
-    assert_eq!(rt; walls.patch_at(2, -2), Some(24));
+    assert!(rt; walls.patch_at(3, 0).is_none());
+    assert!(rt; walls.patch_at(2, -2) == Some(24));
     Ok(())
 }
 
@@ -139,6 +175,36 @@ fn found(point: Result<Option<Point>, NumFault>) -> Result<Option<(i64, i64)>, N
         Ok(None) => Ok(None),
         Err(fault) => Err(fault),
     }
+}
+
+/// What a row wants to be found.
+type Wanted = Result<Option<(i64, i64)>, NumFault>;
+
+/// Whether the point beside is this one.
+fn is_beside(
+    shape: Shape,
+    from: (i64, i64),
+    by: (i64, i64),
+    wanted: Wanted,
+) -> Result<bool, &'static str> {
+    let at = point(&shape, from.0, from.1)?;
+    let dx = Num::new(by.0).ok_or("out of range")?;
+    let dy = Num::new(by.1).ok_or("out of range")?;
+    Ok(found(shape.beside(at, dx, dy)) == wanted)
+}
+
+/// Whether the point ahead, by a heading in degrees, is this one.
+fn is_ahead(
+    shape: Shape,
+    from: (i64, i64),
+    heading: i64,
+    distance: i64,
+    wanted: Wanted,
+) -> Result<bool, &'static str> {
+    let at = point(&shape, from.0, from.1)?;
+    let heading = Num::whole(heading).ok_or("out of range")?;
+    let distance = Num::new(distance).ok_or("out of range")?;
+    Ok(found(shape.ahead(at, heading, distance)) == wanted)
 }
 
 #[test]
@@ -172,10 +238,7 @@ fn a_point_beside_is_wrapped_or_outside_or_out_of_range(rt: HostRuntime) -> Resu
         ),
     ];
     for (shape, from, by, expected) in rows {
-        let at = point(&shape, from.0, from.1)?;
-        let dx = Num::new(by.0).ok_or("out of range")?;
-        let dy = Num::new(by.1).ok_or("out of range")?;
-        assert_eq!(rt; found(shape.beside(at, dx, dy)), expected);
+        assert!(rt; holds(is_beside(shape, from, by, expected)));
     }
     Ok(())
 }
@@ -201,34 +264,54 @@ fn a_point_ahead_goes_by_the_heading(rt: HostRuntime) -> Result<(), Fail> {
         (torus, (0, 1_000_000), 0, most, Err(NumFault::Overflow)),
     ];
     for (shape, from, heading, distance, expected) in rows {
-        let at = point(&shape, from.0, from.1)?;
-        let heading = Num::whole(heading).ok_or("out of range")?;
-        let distance = Num::new(distance).ok_or("out of range")?;
-        assert_eq!(rt; found(shape.ahead(at, heading, distance)), expected);
+        assert!(rt; holds(is_ahead(shape, from, heading, distance, expected)));
     }
     Ok(())
 }
 
-/// The offset and the distance of two points are these.
-fn measures(
-    rt: &impl Abort,
-    shape: &Shape,
-    from: Point,
-    to: Point,
-    offset: (i64, i64),
-    distance: i64,
-)
+/// Whether the offset of two points is this.
+fn has_offset(shape: &Shape, from: Point, to: Point, offset: (i64, i64)) -> bool
     requires from { IsPointOf shape.now from }
     requires to { IsPointOf shape.now to }
 {
-    let (start, end) = (from, to);
-    let (start_again, end_again) = (from, to);
     let (x, y) = shape.offset(from, to);
-    assert_eq!(rt; x.millionths(), offset.0);
-    assert_eq!(rt; y.millionths(), offset.1);
-    let there = shape.distance(start, end).millionths();
-    let back = shape.distance(end_again, start_again).millionths();
-    assert_eq!(rt; (there, back), (distance, distance));
+    x.millionths() == offset.0 && y.millionths() == offset.1
+}
+
+/// Whether the way from the one point to the other has this length.
+fn is_away(shape: &Shape, from: Point, to: Point, distance: i64) -> bool
+    requires from { IsPointOf shape.now from }
+    requires to { IsPointOf shape.now to }
+{
+    shape.distance(from, to).millionths() == distance
+}
+
+/// Whether the other point lies in this direction, in degrees, or is the same.
+fn lies_at(shape: &Shape, from: Point, to: Point, heading: Option<i64>) -> bool
+    requires from { IsPointOf shape.now from }
+    requires to { IsPointOf shape.now to }
+{
+    match shape.towards(from, to) {
+        Ok(found) => heading == Some(found.millionths() / 1_000_000),
+        Err(SamePoint) => heading.is_none(),
+    }
+}
+
+/// Whether the offset, the distance there and back, and the heading of two points are these.
+fn measures(
+    shape: Shape,
+    from: (i64, i64),
+    to: (i64, i64),
+    offset: (i64, i64),
+    distance: i64,
+    heading: Option<i64>,
+) -> Result<bool, &'static str> {
+    let start = point(&shape, from.0, from.1)?;
+    let end = point(&shape, to.0, to.1)?;
+    let by = has_offset(&shape, start, end, offset);
+    let there = is_away(&shape, start, end, distance);
+    let back = is_away(&shape, end, start, distance);
+    Ok(by && there && back && lies_at(&shape, start, end, heading))
 }
 
 #[test]
@@ -304,15 +387,25 @@ fn offsets_take_the_shorter_way(rt: HostRuntime) -> Result<(), Fail> {
         ),
     ];
     for (shape, from, to, offset, distance, heading) in rows {
-        let start = point(&shape, from.0, from.1)?;
-        let end = point(&shape, to.0, to.1)?;
-        let (start_again, end_again) = (start, end);
-        measures(&rt, &shape, start, end, offset, distance);
-        let found = shape.towards(start_again, end_again);
-        let degrees = found.map(|heading| heading.millionths() / 1_000_000);
-        assert_eq!(rt; degrees, heading.ok_or(SamePoint));
+        assert!(rt; holds(measures(shape, from, to, offset, distance, heading)));
     }
     Ok(())
+}
+
+/// Whether the patch has these neighbors and so many.
+fn has_neighbors(shape: &Shape, patch: u32, all: [u32; 8], count: usize) -> bool
+    requires { patch < patches_of shape.now }
+{
+    let mut found = [9; 8];
+    shape.neighbors(patch, &mut found) == count && found == all
+}
+
+/// Whether the patch has these straight neighbors and so many.
+fn has_straight(shape: &Shape, patch: u32, straight: [u32; 4], count: usize) -> bool
+    requires { patch < patches_of shape.now }
+{
+    let mut found = [9; 4];
+    shape.neighbors4(patch, &mut found) == count && found == straight
 }
 
 #[test]
@@ -335,12 +428,8 @@ fn neighbors_are_each_named_once(rt: HostRuntime) -> Result<(), Fail> {
     ];
     for (shape, patch, all, count, straight, straight_count) in rows {
         let patch = of_world(&rt, &shape, patch);
-        let mut found = [9; 8];
-        assert_eq!(rt; shape.neighbors(patch, &mut found), count);
-        assert_eq!(rt; found, all);
-        let mut found = [9; 4];
-        assert_eq!(rt; shape.neighbors4(patch, &mut found), straight_count);
-        assert_eq!(rt; found, straight);
+        assert!(rt; has_neighbors(&shape, patch, all, count));
+        assert!(rt; has_straight(&shape, patch, straight, straight_count));
     }
     Ok(())
 }
@@ -349,42 +438,60 @@ fn neighbors_are_each_named_once(rt: HostRuntime) -> Result<(), Fail> {
 fn walks_over(rt: &impl Abort, shape: &Shape, box_of: &PatchBox, patches: &[u32]) {
     let mut next = box_of.first();
     for patch in patches {
-        assert_eq!(rt; next, Some(*patch));
+        assert!(rt; next == Some(*patch));
         next = box_of.next(*patch);
     }
-    assert_eq!(rt; next, None);
+    assert!(rt; next.is_none());
+    holds_just(rt, shape, box_of, patches);
+}
+
+/// Asks for each patch whether the box has it, which must be so just for these.
+fn holds_just(rt: &impl Abort, shape: &Shape, box_of: &PatchBox, patches: &[u32]) {
     for patch in 0..shape.patches() {
-        assert_eq!(rt; box_of.contains(patch), patches.contains(&patch));
+        assert!(rt; box_of.contains(patch) == patches.contains(&patch));
     }
     assert!(rt; !box_of.contains(u32::MAX));
-    assert_eq!(rt; box_of.next(u32::MAX), None);
+    assert!(rt; box_of.next(u32::MAX).is_none());
+}
+
+/// The box of a radius, in millionths, around a point.
+fn box_around(shape: &Shape, x: i64, y: i64, radius: i64) -> Result<PatchBox, &'static str> {
+    let at = point(shape, x, y)?;
+    let radius = Num::new(radius).ok_or("out of range")?;
+    Ok(shape.box_of(at, radius))
 }
 
 #[test]
-fn boxes_are_walked_in_order(rt: HostRuntime) -> Result<(), Fail> {
-    let walls = Shape::new(-2, 2, -2, 2, false, false).ok_or("refused")?;
+fn boxes_that_wrap_are_walked_in_order(rt: HostRuntime) -> Result<(), Fail> {
     let torus = Shape::new(-2, 2, -2, 2, true, true).ok_or("refused")?;
-    let corner = point(&torus, -2_000_000, 2_000_000)?;
-    let near = torus.box_of(corner, Num::new(0).ok_or("out of range")?);
+    let near = box_around(&torus, -2_000_000, 2_000_000, 0)?;
     walks_over(&rt, &torus, &near, &[0, 1, 4, 5, 6, 9, 20, 21, 24]);
-    let own = torus.box_of(corner, Num::new(-1_000_000).ok_or("out of range")?);
+    let own = box_around(&torus, -2_000_000, 2_000_000, -1_000_000)?;
     walks_over(&rt, &torus, &own, &[0]);
-    let none = torus.box_of(corner, Num::new(-5_000_000).ok_or("out of range")?);
+    let none = box_around(&torus, -2_000_000, 2_000_000, -5_000_000)?;
     walks_over(&rt, &torus, &none, &[]);
-    let middle = point(&walls, 0, 0)?;
-    let around = walls.box_of(middle, Num::new(0).ok_or("out of range")?);
+    Ok(())
+}
+
+#[test]
+fn boxes_within_walls_are_walked_in_order(rt: HostRuntime) -> Result<(), Fail> {
+    let walls = Shape::new(-2, 2, -2, 2, false, false).ok_or("refused")?;
+    let around = box_around(&walls, 0, 0, 0)?;
     walks_over(&rt, &walls, &around, &[6, 7, 8, 11, 12, 13, 16, 17, 18]);
-    let edge = point(&walls, -2_000_000, 0)?;
-    let rounded_up = walls.box_of(edge, Num::new(1).ok_or("out of range")?);
+    let rounded_up = box_around(&walls, -2_000_000, 0, 1)?;
     walks_over(
         &rt,
         &walls,
         &rounded_up,
         &[0, 1, 2, 5, 6, 7, 10, 11, 12, 15, 16, 17, 20, 21, 22],
     );
-    let far = Num::new(9_000_000_000_000_000_000).ok_or("out of range")?;
+    Ok(())
+}
+
+#[test]
+fn a_box_of_a_far_radius_has_all_patches(rt: HostRuntime) -> Result<(), Fail> {
     let all = Shape::new(0, 1, 0, 1, false, true).ok_or("refused")?;
-    let whole = all.box_of(point(&all, 1_000_000, 0)?, far);
+    let whole = box_around(&all, 1_000_000, 0, 9_000_000_000_000_000_000)?;
     walks_over(&rt, &all, &whole, &[0, 1, 2, 3]);
     Ok(())
 }

@@ -1,11 +1,14 @@
 //! Texts with their tokens and faults, by rows that were worked out apart from the program.
 
+ghost use Rattle.std.specs.Prelude.{IsTrue};
+ghost use Rattle.nl_scan.specs.Texts.{LiesIn};
+
 use crate::{
-    Lexeme, ScanKind, ScanRefusal, Source, bytes_of, code_part, line_column, scan, text_of, word_of,
+    Lexeme, ScanKind, ScanRefusal, Source, Token, Tokens, bytes_of, code_part, line_column, scan,
+    text_of, word_of,
 };
-use nl_fixed::Str;
+use nl_fixed::{NoMemory, Str};
 use std::alloc::Global;
-use std::process::Abort;
 use std::test::Fail;
 
 // A token with its value left out: `w` for a word, `n` for a number, `t` for a text, and brackets for themselves.
@@ -21,30 +24,62 @@ fn sign(lexeme: Lexeme) -> u8 {
     }
 }
 
-// The text has these tokens, each with its first byte and its length.
-fn assert_tokens(
-    rt: &impl Abort,
-    alloc: Global,
-    text: &[u8],
-    wanted: &[(u8, u32, u32)],
-) -> Result<(), Fail> {
-    let tokens = scan(alloc, text).expect(rt, "no fault");
-    assert_eq!(rt; tokens.as_slice().len(), wanted.len());
-    for (token, (lexeme, start, len)) in tokens.as_slice().iter().zip(wanted) {
-        assert_eq!(rt; sign(token.lexeme), *lexeme);
-        assert_eq!(rt; (token.span.start, token.span.len), (*start, *len));
-    }
-    Ok(())
+// Lets go of a thing by one call: what ends inside of a function is walked there, once on each way out.
+fn let_go<T: Drop>(_thing: T) {}
+
+// A token with its value left out, its first byte and its length.
+type Row = (u8, u32, u32);
+
+fn is_row(token: &Token, row: &Row) -> bool {
+    sign(token.lexeme) == row.0 && token.span.start == row.1 && token.span.len == row.2
 }
 
-// The text has this fault.
-fn assert_fault(rt: &impl Abort, alloc: Global, text: &[u8], kind: ScanKind, place: u32) {
-    let wanted = ScanRefusal::Fault { kind, place };
-    assert!(rt; scan(alloc, text).err() == Some(wanted));
+fn are_rows(tokens: &[Token], rows: &[Row]) -> bool {
+    if tokens.len() != rows.len() {
+        return false;
+    }
+    for (token, row) in tokens.iter().zip(rows) {
+        if !is_row(token, row) {
+            return false;
+        }
+    }
+    true
+}
+
+// Whether a text was cut into these tokens.
+fn is_cut(scanned: &Result<Tokens, ScanRefusal>, wanted: &[Row]) -> bool {
+    match scanned {
+        Ok(tokens) => are_rows(tokens.as_slice(), wanted),
+        Err(_) => false,
+    }
+}
+
+// Whether a text was refused for this.
+fn is_refused(scanned: &Result<Tokens, ScanRefusal>, wanted: ScanRefusal) -> bool {
+    match scanned {
+        Ok(_) => false,
+        Err(refusal) => *refusal == wanted,
+    }
+}
+
+// Whether the text has these tokens.
+fn has_tokens(alloc: Global, text: &[u8], wanted: &[Row]) -> bool {
+    let scanned = scan(alloc, text);
+    let answer = is_cut(&scanned, wanted);
+    let_go(scanned);
+    answer
+}
+
+// Whether the text has this fault.
+fn has_fault(alloc: Global, text: &[u8], kind: ScanKind, place: u32) -> bool {
+    let scanned = scan(alloc, text);
+    let answer = is_refused(&scanned, ScanRefusal::Fault { kind, place });
+    let_go(scanned);
+    answer
 }
 
 #[test]
-fn texts_are_cut_into_these_tokens(rt: HostRuntime) -> Result<(), Fail> {
+fn texts_are_cut_into_these_tokens(rt: HostRuntime) {
     let rows: [(&str, &[(u8, u32, u32)]); 12] = [
         ("", &[]),
         (" \t\r\n", &[]),
@@ -69,33 +104,43 @@ fn texts_are_cut_into_these_tokens(rt: HostRuntime) -> Result<(), Fail> {
         ("\"é\\n\\t\\\\\\\"\"", &[(b't', 0, 12)]),
     ];
     for (text, wanted) in rows {
-        assert_tokens(&rt, rt.alloc(), text.as_bytes(), wanted)?;
+        assert!(rt; has_tokens(rt.alloc(), text.as_bytes(), wanted), "{text}");
     }
-    Ok(())
+}
+
+// Whether the only token is a number of so many millionths.
+fn is_number(tokens: &[Token], millionths: i64) -> bool {
+    match tokens {
+        [token] => match token.lexeme {
+            Lexeme::Number(number) => number.millionths() == millionths,
+            _ => false,
+        },
+        _ => false,
+    }
+}
+
+// Whether the text is a number of so many millionths.
+fn writes(alloc: Global, text: &[u8], millionths: i64) -> bool {
+    match scan(alloc, text) {
+        Ok(tokens) => is_number(tokens.as_slice(), millionths),
+        Err(_) => false,
+    }
 }
 
 #[test]
-fn numbers_have_these_counts(rt: HostRuntime) -> Result<(), Fail> {
+fn numbers_have_these_counts(rt: HostRuntime) {
     for (text, wanted) in [
         ("1e3", 1_000_000_000),
         ("-.5", -500_000),
         ("5.", 5_000_000),
         ("0.0000005", 1),
     ] {
-        let tokens = scan(rt.alloc(), text.as_bytes()).expect(&rt, "no fault");
-        match tokens.as_slice() {
-            [token] => match token.lexeme {
-                Lexeme::Number(number) => assert_eq!(rt; number.millionths(), wanted),
-                _ => assert!(rt; false, "{text}"),
-            },
-            _ => assert!(rt; false, "{text}"),
-        }
+        assert!(rt; writes(rt.alloc(), text.as_bytes(), wanted), "{text}");
     }
-    Ok(())
 }
 
 #[test]
-fn the_first_fault_is_told(rt: HostRuntime) -> Result<(), Fail> {
+fn the_first_fault_is_told(rt: HostRuntime) {
     let rows: [(&[u8], ScanKind, u32); 17] = [
         (b"\"a\\qb\"", ScanKind::BadEscape, 2),
         (b"x \"a\\q\" ,", ScanKind::BadEscape, 4),
@@ -116,9 +161,28 @@ fn the_first_fault_is_told(rt: HostRuntime) -> Result<(), Fail> {
         (b"; \x80", ScanKind::NotText, 2),
     ];
     for (text, kind, place) in rows {
-        assert_fault(&rt, rt.alloc(), text, kind, place);
+        assert!(rt; has_fault(rt.alloc(), text, kind, place), "{place}");
     }
-    Ok(())
+}
+
+// Whether the bytes are told behind these, and where a text ends behind both.
+fn are_told_behind(alloc: Global, before: &str, bytes: &[u8]) -> Result<bool, NoMemory> {
+    let mut text = before.as_bytes().to_vec(alloc)?;
+    text.extend_from_slice(bytes)?;
+    let place = before.len() as u32;
+    let at_the_end = has_fault(alloc, text.as_slice(), ScanKind::NotText, place);
+    text.extend_from_slice(b"\"\n")?;
+    Ok(at_the_end && has_fault(alloc, text.as_slice(), ScanKind::NotText, place))
+}
+
+// Whether the bytes are told behind a word, in a text, in a comment and behind a letter of two bytes.
+fn are_told_anywhere(alloc: Global, bytes: &[u8]) -> Result<bool, NoMemory> {
+    for before in ["a ", "\"", "; ", "é"] {
+        if !are_told_behind(alloc, before, bytes)? {
+            return Ok(false);
+        }
+    }
+    Ok(true)
 }
 
 #[test]
@@ -133,14 +197,7 @@ fn bytes_that_are_no_text_are_told_anywhere(rt: HostRuntime) -> Result<(), Fail>
         b"\xf4\x90\x80\x80",
     ];
     for bytes in faulty {
-        for before in ["a ", "\"", "; ", "é"] {
-            let mut text = before.as_bytes().to_vec(rt.alloc())?;
-            text.extend_from_slice(bytes)?;
-            let place = before.len() as u32;
-            assert_fault(&rt, rt.alloc(), text.as_slice(), ScanKind::NotText, place);
-            text.extend_from_slice(b"\"\n")?;
-            assert_fault(&rt, rt.alloc(), text.as_slice(), ScanKind::NotText, place);
-        }
+        assert!(rt; are_told_anywhere(rt.alloc(), bytes)?);
     }
     Ok(())
 }
@@ -148,20 +205,14 @@ fn bytes_that_are_no_text_are_told_anywhere(rt: HostRuntime) -> Result<(), Fail>
 #[test]
 fn a_text_may_have_as_many_bytes_as_the_limit(rt: HostRuntime) -> Result<(), Fail> {
     let mut text = vec![in rt.alloc(); b' '; 4_194_304]?;
-    assert_tokens(&rt, rt.alloc(), text.as_slice(), &[])?;
+    assert!(rt; has_tokens(rt.alloc(), text.as_slice(), &[]));
     text.push(b'\xff')?;
-    assert_fault(
-        &rt,
-        rt.alloc(),
-        text.as_slice(),
-        ScanKind::TooLong,
-        4_194_304,
-    );
+    assert!(rt; has_fault(rt.alloc(), text.as_slice(), ScanKind::TooLong, 4_194_304));
     Ok(())
 }
 
 // What the first token says, if it is a text.
-fn first_content(alloc: Global, text: &[u8]) -> Result<Option<Str>, Fail> {
+fn first_content(alloc: Global, text: &[u8]) -> Result<Option<Str>, NoMemory> {
     let Ok(tokens) = scan(alloc, text) else {
         return Ok(None);
     };
@@ -174,8 +225,24 @@ fn first_content(alloc: Global, text: &[u8]) -> Result<Option<Str>, Fail> {
     }
 }
 
+// Whether this is what a text says.
+fn is_said(content: &Result<Option<Str>, NoMemory>, wanted: &[u8]) -> bool {
+    match content {
+        Ok(Some(said)) => said.as_bytes() == wanted,
+        _ => false,
+    }
+}
+
+// Whether the first token is a text that says this.
+fn says(alloc: Global, text: &[u8], wanted: &[u8]) -> bool {
+    let content = first_content(alloc, text);
+    let answer = is_said(&content, wanted);
+    let_go(content);
+    answer
+}
+
 #[test]
-fn texts_say_what_stands_between_their_quotes(rt: HostRuntime) -> Result<(), Fail> {
+fn texts_say_what_stands_between_their_quotes(rt: HostRuntime) {
     for (text, wanted) in [
         ("\"\"", ""),
         ("\"a b\" x", "a b"),
@@ -183,14 +250,15 @@ fn texts_say_what_stands_between_their_quotes(rt: HostRuntime) -> Result<(), Fai
         ("\"\\\\n\"", "\\n"),
         ("\"a\tb;\"", "a\tb;"),
     ] {
-        let said = first_content(rt.alloc(), text.as_bytes())?.expect(&rt, "a text");
-        assert!(rt; said.as_bytes() == wanted.as_bytes(), "{wanted}");
+        assert!(rt;
+            says(rt.alloc(), text.as_bytes(), wanted.as_bytes()),
+            "{wanted}"
+        );
     }
-    Ok(())
 }
 
 #[test]
-fn the_code_ends_before_the_first_section_line(rt: HostRuntime) -> Result<(), Fail> {
+fn the_code_ends_before_the_first_section_line(rt: HostRuntime) {
     for (file, code) in [
         ("", ""),
         ("a", "a"),
@@ -207,11 +275,10 @@ fn the_code_ends_before_the_first_section_line(rt: HostRuntime) -> Result<(), Fa
     ] {
         assert!(rt; code_part(file.as_bytes()) == code.as_bytes(), "{file}");
     }
-    Ok(())
 }
 
 #[test]
-fn places_have_these_lines_and_columns(rt: HostRuntime) -> Result<(), Fail> {
+fn places_have_these_lines_and_columns(rt: HostRuntime) {
     for (text, place, wanted) in [
         ("", 0, (1, 1)),
         ("ab\ncd", 0, (1, 1)),
@@ -222,9 +289,14 @@ fn places_have_these_lines_and_columns(rt: HostRuntime) -> Result<(), Fail> {
         ("é\r\n", 3, (1, 4)),
         ("é\r\n", 4, (2, 1)),
     ] {
-        assert_eq!(rt; line_column(text.as_bytes(), place), wanted);
+        assert!(rt; line_column(text.as_bytes(), place) == wanted, "{place}");
     }
-    Ok(())
+}
+
+// Whether this is the word of the kind.
+fn is_shown(alloc: Global, kind: ScanKind, word: &str) -> Result<bool, Fail> {
+    let shown = format!(in alloc; "{kind}")?;
+    Ok(shown.as_str() == word)
 }
 
 #[test]
@@ -237,50 +309,75 @@ fn kinds_have_these_words(rt: HostRuntime) -> Result<(), Fail> {
         (ScanKind::BadEscape, "BadEscape"),
         (ScanKind::BadNumber, "BadNumber"),
     ] {
-        let shown = format!(in rt.alloc(); "{kind}")?;
-        assert!(rt; shown.as_str() == word, "{word}");
+        assert!(rt; is_shown(rt.alloc(), kind, word)?, "{word}");
     }
     Ok(())
+}
+
+// Whether the token lies in the text.
+fn lies_in(text: &[u8], token: &Token) -> bool
+    ensures { IsTrue result → LiesIn text.now token.now.span }
+{
+    let start = token.span.start as usize;
+    start <= text.len() && token.span.len as usize <= text.len() - start
+}
+
+// Whether the token has these bytes and this word.
+fn is_word(
+    alloc: Global,
+    text: &[u8],
+    token: &Token,
+    bytes: &[u8],
+    word: &[u8],
+) -> Result<bool, NoMemory> {
+    if !lies_in(text, token) || bytes_of(text, token) != bytes {
+        return Ok(false);
+    }
+    let found = word_of(alloc, text, token)?;
+    Ok(found.as_bytes() == word)
+}
+
+// Whether the second of three tokens has these bytes and this word.
+fn is_second_word(alloc: Global, text: &[u8], bytes: &[u8], word: &[u8]) -> Result<bool, NoMemory> {
+    let Ok(tokens) = scan(alloc, text) else {
+        return Ok(false);
+    };
+    match tokens.as_slice() {
+        [_, token, _] => is_word(alloc, text, token, bytes, word),
+        _ => Ok(false),
+    }
 }
 
 #[test]
 fn a_word_is_its_bytes_in_lower_case(rt: HostRuntime) -> Result<(), Fail> {
     let text = b" x Set-SHAPE! y";
-    let tokens = scan(rt.alloc(), text).expect(&rt, "no fault");
-    match tokens.as_slice() {
-        [_, token, _] => {
-            let within = token.span.start <= 20
-                && token.span.len <= 20
-                && token.span.start as usize + token.span.len as usize <= text.len();
-            assert!(rt; within);
-            assert!(rt; bytes_of(text, token) == b"Set-SHAPE!".as_slice());
-            let word = word_of(rt.alloc(), text, token)?;
-            assert!(rt; word.as_bytes() == b"set-shape!".as_slice());
-        }
-        _ => assert!(rt; false),
-    }
+    assert!(rt; is_second_word(rt.alloc(), text, b"Set-SHAPE!", b"set-shape!")?);
     Ok(())
+}
+
+// Whether there are four tokens of the text, which begin at these places.
+fn begins_at(source: &Source, text: &[u8], places: &[(usize, u32)]) -> bool {
+    let starts = places
+        .iter()
+        .all(|(index, place)| source.start_of(*index) == *place);
+    starts && source.tokens().len() == 4 && source.text() == text
 }
 
 #[test]
-fn tokens_begin_at_these_places_and_the_text_ends_behind_them(rt: HostRuntime) -> Result<(), Fail> {
+fn tokens_begin_at_these_places_and_the_text_ends_behind_them(rt: HostRuntime) {
     let text = b" ab [ \"c\" ] ".as_slice();
+    let places = [(0, 1), (1, 4), (2, 6), (3, 10), (4, 12), (99, 12)];
     match scan(rt.alloc(), text) {
         Ok(tokens) => {
             let source = Source::new(text, tokens.as_slice());
-            assert_eq!(rt; source.tokens().len(), 4);
-            assert!(rt; source.text() == text);
-            for (index, place) in [(0, 1), (1, 4), (2, 6), (3, 10), (4, 12), (99, 12)] {
-                assert_eq!(rt; source.start_of(index), place);
-            }
+            assert!(rt; begins_at(&source, text, places.as_slice()));
         }
         Err(_) => assert!(rt; false, "tokens"),
     }
-    Ok(())
 }
 
 // Words of one letter, with a space behind each.
-fn words(alloc: Global, count: usize) -> Result<Vec<u8>, Fail> {
+fn words(alloc: Global, count: usize) -> Result<Vec<u8>, NoMemory> {
     let mut text = Vec::new(alloc);
     'words: for _ in 0..count {
         text.extend_from_slice(b"a ")?;
@@ -288,16 +385,32 @@ fn words(alloc: Global, count: usize) -> Result<Vec<u8>, Fail> {
     Ok(text)
 }
 
+// Whether there are so many tokens, of which the last is this.
+fn ends_with(scanned: &Result<Tokens, ScanRefusal>, count: usize, row: &Row) -> bool {
+    match scanned {
+        Ok(tokens) => match tokens.as_slice() {
+            [.., token] => tokens.as_slice().len() == count && is_row(token, row),
+            [] => false,
+        },
+        Err(_) => false,
+    }
+}
+
 #[test]
 fn a_text_may_have_very_many_tokens(rt: HostRuntime) -> Result<(), Fail> {
     let text = words(rt.alloc(), 100_000)?;
-    let tokens = scan(rt.alloc(), text.as_slice()).expect(&rt, "no fault");
-    assert_eq!(rt; tokens.as_slice().len(), 100_000);
-    match tokens.as_slice() {
-        [.., token] => assert_eq!(rt; (token.span.start, token.span.len), (199_998, 1)),
-        [] => assert!(rt; false, "tokens"),
-    }
+    let scanned = scan(rt.alloc(), text.as_slice());
+    let answer = ends_with(&scanned, 100_000, &(b'w', 199_998, 1));
+    let_go(scanned);
+    assert!(rt; answer);
     Ok(())
+}
+
+// Whether the fault of these bytes is told behind very many tokens.
+fn is_told_late(alloc: Global, bytes: &[u8], kind: ScanKind, place: u32) -> Result<bool, NoMemory> {
+    let mut text = words(alloc, 100_000)?;
+    text.extend_from_slice(bytes)?;
+    Ok(has_fault(alloc, text.as_slice(), kind, place))
 }
 
 #[test]
@@ -310,23 +423,26 @@ fn a_fault_behind_very_many_tokens_is_told_as_itself(rt: HostRuntime) -> Result<
         (b"\xff", ScanKind::NotText, 200_000),
     ];
     for (bytes, kind, place) in faulty {
-        let mut text = words(rt.alloc(), 100_000)?;
-        text.extend_from_slice(bytes)?;
-        assert_fault(&rt, rt.alloc(), text.as_slice(), kind, place);
+        assert!(rt; is_told_late(rt.alloc(), bytes, kind, place)?);
     }
     Ok(())
 }
 
+// The bytes so many times, within quotes where this is asked for.
+fn repeated(alloc: Global, piece: &str, quoted: bool) -> Result<Vec<u8>, NoMemory> {
+    let quote = if quoted { "\"" } else { "" };
+    let mut text = quote.as_bytes().to_vec(alloc)?;
+    'pieces: for _ in 0..20_000 {
+        text.extend_from_slice(piece.as_bytes())?;
+    }
+    text.extend_from_slice(quote.as_bytes())?;
+    Ok(text)
+}
+
 #[test]
 fn a_text_may_say_very_much(rt: HostRuntime) -> Result<(), Fail> {
-    let mut text = vec![in rt.alloc(); b'"']?;
-    let mut wanted = Vec::new(rt.alloc());
-    'parts: for _ in 0..20_000 {
-        text.extend_from_slice("aé\\n\\\"\\\\".as_bytes())?;
-        wanted.extend_from_slice("aé\n\"\\".as_bytes())?;
-    }
-    text.push(b'"')?;
-    let said = first_content(rt.alloc(), text.as_slice())?.expect(&rt, "a text");
-    assert!(rt; said.as_bytes() == wanted.as_slice());
+    let text = repeated(rt.alloc(), "aé\\n\\\"\\\\", true)?;
+    let wanted = repeated(rt.alloc(), "aé\n\"\\", false)?;
+    assert!(rt; says(rt.alloc(), text.as_slice(), wanted.as_slice()));
     Ok(())
 }

@@ -60,6 +60,16 @@ enum Sample {
 /// Lets go of a thing by one call: a value that ends inside of a function is walked there variant by variant.
 fn let_go<T: Drop>(_thing: T) {}
 
+/// Whether the answer is there and is yes. A test asks so, and has one way out the less for each row.
+fn holds<E: Drop>(answer: Result<bool, E>) -> bool {
+    matches!(&answer, Ok(true))
+}
+
+/// Whether the answer is there and is no.
+fn fails<E: Drop>(answer: Result<bool, E>) -> bool {
+    matches!(&answer, Ok(false))
+}
+
 /// The number of so many millionths, which are in range.
 fn number(millionths: i64) -> Value {
     match Num::new(millionths) {
@@ -169,7 +179,7 @@ fn all_print(alloc: Global, rows: &[Printed]) -> Result<bool, TextFail> {
 }
 
 #[test]
-fn values_without_agents_have_these_texts(rt: HostRuntime) -> Result<(), Fail> {
+fn values_without_agents_have_these_texts(rt: HostRuntime) {
     let rows = [
         (One(Number(1_500_000)), true, "1.5"),
         (One(Truth(true)), true, "true"),
@@ -185,12 +195,11 @@ fn values_without_agents_have_these_texts(rt: HostRuntime) -> Result<(), Fail> {
             "[[\"say \\\"no\\\"\\n\\tto \\\\\" -2.5] nobody]",
         ),
     ];
-    assert!(rt; all_print(rt.alloc(), rows.as_slice())?);
-    Ok(())
+    assert!(rt; holds(all_print(rt.alloc(), rows.as_slice())));
 }
 
 #[test]
-fn agents_and_sets_have_these_texts(rt: HostRuntime) -> Result<(), Fail> {
+fn agents_and_sets_have_these_texts(rt: HostRuntime) {
     let rows = [
         (One(Turtle(1)), false, "(turtle 1)"),
         (One(Turtle(2)), true, "(fox 2)"),
@@ -201,18 +210,27 @@ fn agents_and_sets_have_these_texts(rt: HostRuntime) -> Result<(), Fail> {
         (Set(Breed(1)), false, "(agentset, 1 foxes)"),
         (Set(SomeTurtles(1, 7)), false, "(agentset, 2 turtles)"),
     ];
-    assert!(rt; all_print(rt.alloc(), rows.as_slice())?);
-    Ok(())
+    assert!(rt; holds(all_print(rt.alloc(), rows.as_slice())));
+}
+
+/// Whether the text of the value is this one where there is no world.
+fn reads_alone(alloc: Global, value: &Value, quoted: bool, wanted: &str) -> Result<bool, TextFail> {
+    let printed = text(alloc, value, quoted, &NoLife)?;
+    Ok(printed.as_bytes() == wanted.as_bytes())
+}
+
+/// Whether the text of the leaf's value is this one where there is no world.
+fn prints_alone(alloc: Global, leaf: Leaf, quoted: bool, wanted: &str) -> Result<bool, TextFail> {
+    let value = leaf_of(alloc, leaf)?;
+    let answer = reads_alone(alloc, &value, quoted, wanted);
+    let_go(value);
+    answer
 }
 
 #[test]
-fn agents_of_no_world_have_no_text_of_their_own(rt: HostRuntime) -> Result<(), Fail> {
-    let alloc = rt.alloc();
-    let literal = text(alloc, &Value::Turtle(1), false, &NoLife)?;
-    assert!(rt; literal.as_bytes() == "nobody".as_bytes());
-    let nameless = text(alloc, &Value::Patch(0), true, &NoLife)?;
-    assert!(rt; nameless.as_bytes().is_empty());
-    Ok(())
+fn agents_of_no_world_have_no_text_of_their_own(rt: HostRuntime) {
+    assert!(rt; holds(prints_alone(rt.alloc(), Turtle(1), false, "nobody")));
+    assert!(rt; holds(prints_alone(rt.alloc(), Patch(0), true, "")));
 }
 
 /// A text of so many letters.
@@ -290,7 +308,7 @@ fn is_same_as_its_kind(alloc: Global, row: &Kind, rows: &[Kind]) -> Result<bool,
 
 // Of the agents some are dead, and some sets list dead members.
 #[test]
-fn values_are_the_same_as_these(rt: HostRuntime) -> Result<(), Fail> {
+fn values_are_the_same_as_these(rt: HostRuntime) {
     let rows = [
         (1, One(Number(1_000_000))),
         (2, One(Number(2_000_000))),
@@ -315,12 +333,11 @@ fn values_are_the_same_as_these(rt: HostRuntime) -> Result<(), Fail> {
     ];
     for row in rows.iter() {
         assert!(rt;
-            is_same_as_its_kind(rt.alloc(), row, rows.as_slice())?,
+            holds(is_same_as_its_kind(rt.alloc(), row, rows.as_slice())),
             "{}",
             row.0
         );
     }
-    Ok(())
 }
 
 /// Whether the value and that of the sample are the same where there is no world.
@@ -340,11 +357,10 @@ fn are_same_alone(alloc: Global, sample: Sample, other: Sample) -> Result<bool, 
 }
 
 #[test]
-fn sets_of_no_world_are_the_same_if_of_one_kind(rt: HostRuntime) -> Result<(), Fail> {
+fn sets_of_no_world_are_the_same_if_of_one_kind(rt: HostRuntime) {
     let alloc = rt.alloc();
-    assert!(rt; are_same_alone(alloc, Set(SomeTurtles(1, 2)), Set(Breed(4)))?);
-    assert!(rt; !are_same_alone(alloc, Set(SomeTurtles(1, 2)), Set(Patches))?);
-    Ok(())
+    assert!(rt; holds(are_same_alone(alloc, Set(SomeTurtles(1, 2)), Set(Breed(4)))));
+    assert!(rt; fails(are_same_alone(alloc, Set(SomeTurtles(1, 2)), Set(Patches))));
 }
 
 /// A sample, the kind of those with which it has an order, and where it comes among all rows: values of one place are equal.
@@ -394,7 +410,7 @@ fn compares_with_all(alloc: Global, row: &Row, rows: &[Row]) -> Result<bool, NoM
 // Texts compare by their bytes, so that capital letters come before small ones. Of living agents turtles and patches come by number,
 // links by their ends, then their breeds and then their serials.
 #[test]
-fn values_of_all_kinds_come_in_this_order(rt: HostRuntime) -> Result<(), Fail> {
+fn values_of_all_kinds_come_in_this_order(rt: HostRuntime) {
     let rows = [
         (One(Number(-1_500_000)), OrderKind::Numbers, 0),
         (One(Number(0)), OrderKind::Numbers, 1),
@@ -423,12 +439,11 @@ fn values_of_all_kinds_come_in_this_order(rt: HostRuntime) -> Result<(), Fail> {
     ];
     for row in rows.iter() {
         assert!(rt;
-            compares_with_all(rt.alloc(), row, rows.as_slice())?,
+            holds(compares_with_all(rt.alloc(), row, rows.as_slice())),
             "{}",
             row.2
         );
     }
-    Ok(())
 }
 
 /// Values of several kinds, of which some are equal to the order of sorts.
@@ -447,14 +462,18 @@ fn sorted(alloc: Global, mut items: Items) -> Result<Value, NoMemory> {
     Ok(Value::Items(items))
 }
 
-#[test]
-fn a_sort_keeps_equal_values_in_place(rt: HostRuntime) -> Result<(), Fail> {
-    let alloc = rt.alloc();
+/// Whether a sort of values of several kinds has this text.
+fn mixed_sort_reads(alloc: Global, wanted: &str) -> Result<bool, TextFail> {
     let list = sorted(alloc, mixed(alloc)?)?;
-    let answer = reads(alloc, &list, true, "[1 2 (fox 2) nobody true nobody]");
+    let answer = reads(alloc, &list, true, wanted);
     let_go(list);
-    assert!(rt; answer?);
-    Ok(())
+    answer
+}
+
+#[test]
+fn a_sort_keeps_equal_values_in_place(rt: HostRuntime) {
+    let wanted = "[1 2 (fox 2) nobody true nobody]";
+    assert!(rt; holds(mixed_sort_reads(rt.alloc(), wanted)));
 }
 
 /// Numbers from 100,000 down to 1.
@@ -484,9 +503,8 @@ fn falling_are_sorted(alloc: Global) -> Result<bool, NoMemory> {
 }
 
 #[test]
-fn a_hundred_thousand_numbers_are_sorted(rt: HostRuntime) -> Result<(), Fail> {
-    assert!(rt; falling_are_sorted(rt.alloc())?);
-    Ok(())
+fn a_hundred_thousand_numbers_are_sorted(rt: HostRuntime) {
+    assert!(rt; holds(falling_are_sorted(rt.alloc())));
 }
 
 /// Whether a copy of the value is the same value.
@@ -506,11 +524,10 @@ fn copies(alloc: Global, sample: Sample) -> Result<bool, NoMemory> {
 }
 
 #[test]
-fn a_hundred_thousand_numbers_are_copied_and_printed(rt: HostRuntime) -> Result<(), Fail> {
+fn a_hundred_thousand_numbers_are_copied_and_printed(rt: HostRuntime) {
     let alloc = rt.alloc();
-    assert!(rt; copies(alloc, Falling)?);
+    assert!(rt; holds(copies(alloc, Falling)));
     assert!(rt; has_text_of(alloc, Falling, false, 588_896));
-    Ok(())
 }
 
 /// Takes the last item away: whether it is nobody.
@@ -529,21 +546,41 @@ fn pops_nothing(items: &mut Items) -> bool {
     answer
 }
 
-#[test]
-fn items_are_taken_away_from_the_end(rt: HostRuntime) -> Result<(), Fail> {
-    let mut items = Items::filled(rt.alloc(), Num::whole(1).ok_or("1")?, 3)?;
-    push_leaf(rt.alloc(), &mut items, Nobody)?;
-    assert!(rt; items.len() == 4);
-    assert!(rt; items.get(4).is_none());
-    assert!(rt; pops_nobody(&mut items));
+/// The number three times, and nobody.
+fn four(alloc: Global, number: Num) -> Result<Items, NoMemory> {
+    let mut items = Items::filled(alloc, number, 3)?;
+    push_leaf(alloc, &mut items, Nobody)?;
+    Ok(items)
+}
+
+/// Whether of four items two are left where all behind the second are taken away, and none more behind the fifth.
+fn are_cut_to_two(items: &mut Items) -> bool {
     items.truncate(2);
     items.truncate(5);
-    assert!(rt; items.len() == 2);
-    assert!(rt; has_number(&items, 1, 1_000_000));
+    items.len() == 2 && has_number(items, 1, 1_000_000)
+}
+
+/// Whether no item is left where all are taken away.
+fn are_cut_to_none(items: &mut Items) -> bool {
     items.truncate(0);
-    assert!(rt; items.is_empty());
-    assert!(rt; pops_nothing(&mut items));
-    Ok(())
+    items.is_empty() && pops_nothing(items)
+}
+
+/// Whether four items are there and are taken away from the end.
+fn are_taken_away(alloc: Global, number: Num) -> Result<bool, NoMemory> {
+    let mut items = four(alloc, number)?;
+    let are_four = items.len() == 4 && items.get(4).is_none();
+    let taken = pops_nobody(&mut items) && are_cut_to_two(&mut items);
+    let emptied = are_cut_to_none(&mut items);
+    Ok(are_four && taken && emptied)
+}
+
+#[test]
+fn items_are_taken_away_from_the_end(rt: HostRuntime) {
+    match Num::whole(1) {
+        Some(one) => assert!(rt; holds(are_taken_away(rt.alloc(), one))),
+        None => panic!(rt),
+    }
 }
 
 #[test]
@@ -563,17 +600,23 @@ fn numbers_of_agents_are_found(rt: HostRuntime) -> Result<(), Fail> {
     Ok(())
 }
 
-/// Whether the sample's value is within the limits alone, and whether as the one item of a list.
-fn within(alloc: Global, sample: Sample) -> Result<(bool, bool), NoMemory> {
-    let value = made(alloc, sample)?;
-    let alone = value.is_within_limits();
+/// Whether the value is within the limits as the one item of a list.
+fn is_within_a_list(alloc: Global, value: Value) -> Result<bool, NoMemory> {
     let mut items = Items::empty(alloc);
     items.push(alloc, value)?;
-    Ok((alone, items.are_within_limits()))
+    Ok(items.are_within_limits())
+}
+
+/// Whether the answers are these: is the sample's value within the limits alone, and is it as the one item of a list?
+fn is_within(alloc: Global, sample: Sample, alone: bool, inside: bool) -> Result<bool, NoMemory> {
+    let value = made(alloc, sample)?;
+    let is_alone = value.is_within_limits();
+    let is_inside = is_within_a_list(alloc, value)?;
+    Ok(is_alone == alone && is_inside == inside)
 }
 
 #[test]
-fn values_are_within_a_size_of_a_million_and_a_depth_of_200(rt: HostRuntime) -> Result<(), Fail> {
+fn values_are_within_a_size_of_a_million_and_a_depth_of_200(rt: HostRuntime) {
     for (sample, alone, inside) in [
         (Letters(999_998), true, true),
         (Letters(999_999), true, false),
@@ -582,10 +625,8 @@ fn values_are_within_a_size_of_a_million_and_a_depth_of_200(rt: HostRuntime) -> 
         (Deep(199), true, false),
         (Deep(200), false, false),
     ] {
-        let found = within(rt.alloc(), sample)?;
-        assert!(rt; found.0 == alone && found.1 == inside);
+        assert!(rt; holds(is_within(rt.alloc(), sample, alone, inside)));
     }
-    Ok(())
 }
 
 /// Whether the name is that of a color of so many tenths.
@@ -629,13 +670,12 @@ fn primary_read(alloc: Global, wanted: &str) -> Result<bool, TextFail> {
 }
 
 #[test]
-fn colors_have_these_numbers(rt: HostRuntime) -> Result<(), Fail> {
+fn colors_have_these_numbers(rt: HostRuntime) {
     assert!(rt; all_are_colors());
     assert!(rt; color_named(b"purple").is_none());
     assert!(rt; color_named(b"Red").is_none());
     let wanted = "[5 15 25 35 45 55 65 75 85 95 105 115 125 135]";
-    assert!(rt; primary_read(rt.alloc(), wanted)?);
-    Ok(())
+    assert!(rt; holds(primary_read(rt.alloc(), wanted)));
 }
 
 /// Whether the value has this size and depth.
@@ -660,27 +700,47 @@ fn measures(alloc: Global, sample: Sample, size: u64, depth: u32) -> Result<bool
 }
 
 #[test]
-fn values_have_these_sizes_and_depths(rt: HostRuntime) -> Result<(), Fail> {
+fn values_have_these_sizes_and_depths(rt: HostRuntime) {
     for (sample, size, depth) in [
         (One(Number(7)), 1, 1),
         (List(&[]), 1, 1),
         (Nested(&[Words(b"four"), Nobody], Truth(true)), 9, 3),
         (Set(SomeLinks(3, 4)), 3, 1),
     ] {
-        assert!(rt; measures(rt.alloc(), sample, size, depth)?);
+        assert!(rt; holds(measures(rt.alloc(), sample, size, depth)));
     }
-    Ok(())
+}
+
+/// Replaces the second item by nobody: whether a number is handed back.
+fn replaces_a_number(items: &mut Items) -> bool {
+    if items.len() < 2 {
+        return false;
+    }
+    let old = items.replace(1, Value::Nobody);
+    let answer = matches!(&old, Value::Number(_));
+    let_go(old);
+    answer
+}
+
+/// True and the number 5.
+fn truth_and_number(alloc: Global) -> Result<Items, NoMemory> {
+    let mut items = Items::empty(alloc);
+    push_leaf(alloc, &mut items, Truth(true))?;
+    push_leaf(alloc, &mut items, Number(5))?;
+    Ok(items)
+}
+
+/// Whether the number behind true is replaced by nobody.
+fn is_replaced(alloc: Global) -> Result<bool, NoMemory> {
+    let mut items = truth_and_number(alloc)?;
+    let is_handed_back = replaces_a_number(&mut items);
+    let is_left = matches!(items.as_slice(), [Value::Truth(true), Value::Nobody]);
+    Ok(is_handed_back && is_left)
 }
 
 #[test]
-fn a_replaced_item_is_handed_back(rt: HostRuntime) -> Result<(), Fail> {
-    let mut items = Items::of_vec(vec![in rt.alloc(); Value::Truth(true), number(5)]?);
-    let old = items.replace(1, Value::Nobody);
-    let is_number = matches!(&old, Value::Number(_));
-    let_go(old);
-    assert!(rt; is_number);
-    assert!(rt; matches!(items.as_slice(), [Value::Truth(true), Value::Nobody]));
-    Ok(())
+fn a_replaced_item_is_handed_back(rt: HostRuntime) {
+    assert!(rt; holds(is_replaced(rt.alloc())));
 }
 
 /// Nobody inside of so many lists.
@@ -696,11 +756,10 @@ fn nested(alloc: Global, times: u32) -> Result<Value, NoMemory> {
 
 // Values of the language nest 200 times at most; one that is built by hand may nest deeper.
 #[test]
-fn lists_may_nest_a_thousand_times(rt: HostRuntime) -> Result<(), Fail> {
+fn lists_may_nest_a_thousand_times(rt: HostRuntime) {
     let alloc = rt.alloc();
-    assert!(rt; measures(alloc, Deep(1_000), 1_001, 1_001)?);
+    assert!(rt; holds(measures(alloc, Deep(1_000), 1_001, 1_001)));
     assert!(rt; has_text_of(alloc, Deep(1_000), false, 2_006));
-    assert!(rt; copies(alloc, Deep(1_000))?);
-    assert!(rt; !are_same_alone(alloc, Deep(1_000), Deep(1_001))?);
-    Ok(())
+    assert!(rt; holds(copies(alloc, Deep(1_000))));
+    assert!(rt; fails(are_same_alone(alloc, Deep(1_000), Deep(1_001))));
 }

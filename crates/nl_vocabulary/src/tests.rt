@@ -207,26 +207,26 @@ fn is_what(index: &NamedWords, name: &str, what: What) -> bool {
     }
 }
 
-// Whether the inputs of the name's word are these.
-fn has_inputs(index: &NamedWords, name: &str, inputs: &[Input]) -> bool {
+// Whether the name's word is that of the first breed with this code, and has these inputs.
+fn is_made(index: &NamedWords, name: &str, code: u16, inputs: &[Input]) -> bool {
     match word_of(index, name) {
-        Some(word) => word.inputs == inputs,
+        Some(word) => word.what == What::Made(1, code) && word.inputs == inputs,
         None => false,
     }
 }
 
-// Whether agents of just these kinds may run the name's word.
-fn is_run_by(index: &NamedWords, name: &str, runs: Kinds) -> bool {
+// Whether the name's word is a variable at this place, which agents of just these kinds may run.
+fn is_owned(index: &NamedWords, name: &str, place: u32, runs: Kinds) -> bool {
     match word_of(index, name) {
-        Some(word) => word.runs == runs,
+        Some(word) => word.what == What::Own(place) && word.runs == runs,
         None => false,
     }
 }
 
-// Whether the name's word has this role and so many values.
+// Whether the name's word has this role, so many values and no further inputs.
 fn is_called(index: &NamedWords, name: &str, role: Role, values: u32) -> bool {
     match word_of(index, name) {
-        Some(word) => word.role == role && word.values == values,
+        Some(word) => word.role == role && word.values == values && word.inputs.len() == 0,
         None => false,
     }
 }
@@ -249,8 +249,7 @@ fn assert_made(
     let index = index_of_one(rt, alloc, sort)?;
     assert!(rt; index.as_slice().len() == wanted.len());
     for (name, code, inputs) in wanted {
-        assert!(rt; is_what(&index, name, What::Made(1, *code)), "at {name}");
-        assert!(rt; has_inputs(&index, name, inputs), "at {name}");
+        assert!(rt; is_made(&index, name, *code, inputs), "at {name}");
     }
     Ok(())
 }
@@ -360,8 +359,10 @@ fn sharing(rt: &impl Abort, alloc: Global) -> Result<NamedWords, NoMemory> {
 }
 
 #[test]
-fn a_shared_variable_has_one_row_for_all_its_owners(rt: HostRuntime) -> Result<(), Fail> {
-    let index = sharing(&rt, rt.alloc())?;
+fn a_shared_variable_has_one_row_for_all_its_owners(rt: HostRuntime) {
+    let Ok(index) = sharing(&rt, rt.alloc()) else {
+        panic!(rt);
+    };
     assert!(rt; index.as_slice().len() == 5 + 11 + 20);
     for (name, place, turtle, patch, link) in [
         ("energy", 0, true, false, true),
@@ -376,11 +377,9 @@ fn a_shared_variable_has_one_row_for_all_its_owners(rt: HostRuntime) -> Result<(
             patch,
             link,
         };
-        assert!(rt; is_what(&index, name, What::Own(place)), "at {name}");
-        assert!(rt; is_run_by(&index, name, runs), "at {name}");
+        assert!(rt; is_owned(&index, name, place, runs), "at {name}");
     }
     assert!(rt; is_what(&index, "tie", What::Made(2, 138)));
-    Ok(())
 }
 
 // The index of a model that declares a widget too.
@@ -392,13 +391,14 @@ fn redeclared(rt: &impl Abort, alloc: Global) -> Result<NamedWords, NoMemory> {
 }
 
 #[test]
-fn a_widget_that_is_declared_too_has_one_row(rt: HostRuntime) -> Result<(), Fail> {
-    let index = redeclared(&rt, rt.alloc())?;
+fn a_widget_that_is_declared_too_has_one_row(rt: HostRuntime) {
+    let Ok(index) = redeclared(&rt, rt.alloc()) else {
+        panic!(rt);
+    };
     assert!(rt; index.as_slice().len() == 3);
     for (name, place) in [("speed", 0), ("range", 1), ("total", 2)] {
         assert!(rt; is_what(&index, name, What::Global(place)), "at {name}");
     }
-    Ok(())
 }
 
 // The index of a model with a command and a reporter.
@@ -412,17 +412,17 @@ fn index_of_two(rt: &impl Abort, alloc: Global) -> Result<NamedWords, NoMemory> 
 }
 
 #[test]
-fn a_procedure_has_as_many_values_as_inputs(rt: HostRuntime) -> Result<(), Fail> {
-    let index = index_of_two(&rt, rt.alloc())?;
+fn a_procedure_has_as_many_values_as_inputs(rt: HostRuntime) {
+    let Ok(index) = index_of_two(&rt, rt.alloc()) else {
+        panic!(rt);
+    };
     for (name, place, role, values) in [
         ("go", 0, Role::Command, 0),
         ("area", 1, Role::Reporter, 2),
     ] {
-        assert!(rt; is_what(&index, name, What::Procedure(place)), "at {name}");
-        assert!(rt; is_called(&index, name, role, values), "at {name}");
-        assert!(rt; has_inputs(&index, name, &[]), "at {name}");
+        let is_there = is_what(&index, name, What::Procedure(place));
+        assert!(rt; is_there && is_called(&index, name, role, values), "at {name}");
     }
-    Ok(())
 }
 
 // So many names that begin with a letter, each with a number of four digits.
@@ -468,11 +468,12 @@ fn many(rt: &impl Abort, alloc: Global) -> Result<NamedWords, NoMemory> {
 
 // 5,000 global variables and 1,000 breeds of turtles have a row for each of their words.
 #[test]
-fn many_words_have_rows(rt: HostRuntime) -> Result<(), Fail> {
-    let index = many(&rt, rt.alloc())?;
+fn many_words_have_rows(rt: HostRuntime) {
+    let Ok(index) = many(&rt, rt.alloc()) else {
+        panic!(rt);
+    };
     assert!(rt; index.as_slice().len() == 5000 + 70 + 1000 * 11);
     assert!(rt; is_what(&index, "g4999", What::Global(4999)));
     assert!(rt; is_what(&index, "v0069", What::Own(69)));
     assert!(rt; is_what(&index, "p0999-here", What::Made(1000, 305)));
-    Ok(())
 }
