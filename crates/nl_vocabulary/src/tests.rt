@@ -421,7 +421,10 @@ fn a_procedure_has_as_many_values_as_inputs(rt: HostRuntime) {
         ("area", 1, Role::Reporter, 2),
     ] {
         let is_there = is_what(&index, name, What::Procedure(place));
-        assert!(rt; is_there && is_called(&index, name, role, values), "at {name}");
+        assert!(rt;
+            is_there && is_called(&index, name, role, values),
+            "at {name}"
+        );
     }
 }
 
