@@ -169,7 +169,9 @@ fn the_first_fault_is_told(rt: HostRuntime) {
 fn are_told_behind(alloc: Global, before: &str, bytes: &[u8]) -> Result<bool, NoMemory> {
     let mut text = before.as_bytes().to_vec(alloc)?;
     text.extend_from_slice(bytes)?;
-    let place = before.len() as u32;
+    let Ok(place) = u32::try_from(before.len()) else {
+        return Ok(false);
+    };
     let at_the_end = has_fault(alloc, text.as_slice(), ScanKind::NotText, place);
     text.extend_from_slice(b"\"\n")?;
     Ok(at_the_end && has_fault(alloc, text.as_slice(), ScanKind::NotText, place))

@@ -5,4 +5,4 @@ use Rattle.nl_check.proofs.SampleModel.{empty_fits}
 use Rattle.nl_check.proofs.tests.empty_text_is_right.Goals as goal
 
 pub check_text-requires : goal.check_text-requires
-check_text-requires c = empty_fits [] (terms c.args.program.now.declared) (plain c.empty.result) c.empty.ensures
+check_text-requires c = empty_fits [] (terms c.args.program.now.declared) (plain c.empty-lone.result) c.empty-lone.ensures
