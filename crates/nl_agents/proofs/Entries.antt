@@ -6,9 +6,10 @@ use Rattle.std.proofs.lemmas.Bool.{cond-true, cond-false, ne_eqb, eq-eqb, or_par
 use Rattle.std.proofs.lemmas.Option.{same_Some, none-some, get_or_from_slice_get, slice_get_within}
 use Rattle.std.proofs.lemmas.List.Elements.{All-head, All-tail}
 use Rattle.nl_value.specs.Plain.{Plain}
-use Rattle.nl_agents.specs.Nouns.{Slot, Slots, Vars}
+use Rattle.nl_layout.specs.Nouns.{Slot, Slots}
+use Rattle.nl_agents.specs.Nouns.{Vars}
 use Rattle.nl_agents.specs.Changes.{value_in, value_set, set_entry, changed_at}
-use Rattle.nl_agents.specs.Layouts.{has_slot}
+use Rattle.nl_layout.specs.Layouts.{has_slot}
 use Rattle.nl_agents.proofs.Keyed.{ascend_tail, ascend_head}
 
 -- a slot is below each later one

@@ -1,6 +1,4 @@
-pub mod Ascending
 pub mod Calling
-pub mod Collected
 pub mod Entries
 pub mod Finding
 pub mod FirstValues
@@ -10,12 +8,9 @@ pub mod Leaving
 pub mod Linking
 pub mod LivingMembers
 pub mod Naming
-pub mod OwnedRows
-pub mod Placing
 pub mod Replaced
 pub mod Serials
 pub mod Setting
-pub mod SlotNames
 pub mod Splices
 pub mod Staying
 pub mod Ties

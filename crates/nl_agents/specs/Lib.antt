@@ -1,12 +1,9 @@
-pub mod BuiltIn
 pub mod Calls
 pub mod Changes
 pub mod Laws
-pub mod Layouts
 pub mod Members
 pub mod Names
 pub mod Nouns
-pub mod SlotLaws
 pub mod Standing
 pub mod World
 pub mod inner

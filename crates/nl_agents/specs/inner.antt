@@ -1,3 +1,2 @@
 -- What only proofs need: steps of private functions. A change here changes no meaning of a world.
-pub mod Numbering
 pub mod Views

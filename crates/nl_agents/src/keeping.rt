@@ -4,21 +4,25 @@ ghost use Rattle.nl_value.specs.Views.{plain};
 ghost use Rattle.nl_agents.specs.World.{first_turtle_vars, first_link_vars, first_patch_vars};
 ghost use Rattle.nl_agents.specs.Changes.{bred_vars, bred_entry};
 
-use crate::built_in::{first_of_link, first_of_patch, first_of_turtle};
-use crate::layout::Layout;
 use crate::variables::Variables;
 use nl_fixed::{NoMemory, Num};
+use nl_layout::Layout;
+use nl_layout::built_in::{first_of_link, first_of_patch, first_of_turtle};
 use nl_value::Value;
 use std::alloc::Global;
 
-impl Layout {
+impl Variables {
     /// The first values of a turtle of a breed.
-    pub fn first_turtle(&self, alloc: Global, breed: u32) -> Result<Variables, NoMemory>
-        ensures { IfOk result (λ vars. vars ≡ first_turtle_vars self.now breed) }
+    pub fn first_of_turtle(
+        alloc: Global,
+        layout: &Layout,
+        breed: u32,
+    ) -> Result<Variables, NoMemory>
+        ensures { IfOk result (λ vars. vars ≡ first_turtle_vars layout.now breed) }
     {
         let mut vars = Variables::empty(alloc);
-        for slot in self.some_turtle.as_slice() {
-            let entry = if self.turtle_owns(breed, *slot) {
+        for slot in layout.some_turtle.as_slice() {
+            let entry = if layout.turtle_owns(breed, *slot) {
                 Some(first_of_turtle(alloc, *slot)?)
             } else {
                 None
@@ -29,12 +33,12 @@ impl Layout {
     }
 
     /// The first values of a link of a breed.
-    pub fn first_link(&self, alloc: Global, breed: u32) -> Result<Variables, NoMemory>
-        ensures { IfOk result (λ vars. vars ≡ first_link_vars self.now breed) }
+    pub fn first_of_link(alloc: Global, layout: &Layout, breed: u32) -> Result<Variables, NoMemory>
+        ensures { IfOk result (λ vars. vars ≡ first_link_vars layout.now breed) }
     {
         let mut vars = Variables::empty(alloc);
-        for slot in self.some_link.as_slice() {
-            let entry = if self.link_owns(breed, *slot) {
+        for slot in layout.some_link.as_slice() {
+            let entry = if layout.link_owns(breed, *slot) {
                 Some(first_of_link(alloc, *slot)?)
             } else {
                 None
@@ -45,53 +49,48 @@ impl Layout {
     }
 
     /// The first values of a patch.
-    pub fn first_patch(&self, alloc: Global) -> Result<Variables, NoMemory>
-        ensures { IfOk result (λ vars. vars ≡ first_patch_vars self.now) }
+    pub fn first_of_patch(alloc: Global, layout: &Layout) -> Result<Variables, NoMemory>
+        ensures { IfOk result (λ vars. vars ≡ first_patch_vars layout.now) }
     {
         let mut vars = Variables::empty(alloc);
-        for slot in self.every_patch.as_slice() {
+        for slot in layout.every_patch.as_slice() {
             vars.push(alloc, Some(first_of_patch(alloc, *slot)))?;
         }
         Ok(vars)
     }
 
     /// Gives a patch its first values again, without memory.
-    pub fn reset_patch(&self, alloc: Global, vars: &mut Variables)
-        requires { length vars.old ≡ length self.now.every_patch }
-        ensures { vars.new ≡ first_patch_vars self.now }
+    pub fn reset_patch(&mut self, alloc: Global, layout: &Layout)
+        requires { length self.old ≡ length layout.now.every_patch }
+        ensures { self.new ≡ first_patch_vars layout.now }
     {
-        let slots = self.every_patch.as_slice();
+        let slots = layout.every_patch.as_slice();
         for at in 0..slots.len() {
-            let _ = vars.replace(at, Some(first_of_patch(alloc, slots[at])));
+            let _ = self.replace(at, Some(first_of_patch(alloc, slots[at])));
         }
     }
 
     /// What a turtle keeps that comes to be of a breed, without memory: what it owned and owns keeps its value, what it owns now is 0,
     /// and the rest is gone.
-    pub fn rebreed(&self, breed: u32, vars: &mut Variables)
-        requires { length vars.old ≡ length self.now.some_turtle }
-        ensures { vars.new ≡ bred_vars self.now breed vars.old }
+    pub fn rebreed(&mut self, layout: &Layout, breed: u32)
+        requires { length self.old ≡ length layout.now.some_turtle }
+        ensures { self.new ≡ bred_vars layout.now breed self.old }
     {
-        let slots = self.some_turtle.as_slice();
+        let slots = layout.some_turtle.as_slice();
         for at in 0..slots.len() {
-            let owned = self.turtle_owns(breed, slots[at]);
-            let old = vars.replace(at, None);
-            let _ = vars.replace(at, bred(owned, old));
+            let owned = layout.turtle_owns(breed, slots[at]);
+            let old = self.replace(at, None);
+            let _ = self.replace(at, bred(owned, old));
         }
     }
 
     /// What a turtle of a breed keeps that is hatched from one with these variables.
-    pub fn hatched(
-        &self,
-        alloc: Global,
-        breed: u32,
-        parent: &Variables,
-    ) -> Result<Variables, NoMemory>
-        requires { length parent.now ≡ length self.now.some_turtle }
-        ensures { IfOk result (λ vars. vars ≡ bred_vars self.now breed parent.now) }
+    pub fn hatched(&self, alloc: Global, layout: &Layout, breed: u32) -> Result<Variables, NoMemory>
+        requires { length self.now ≡ length layout.now.some_turtle }
+        ensures { IfOk result (λ vars. vars ≡ bred_vars layout.now breed self.now) }
     {
-        let mut vars = parent.copy(alloc)?;
-        self.rebreed(breed, &mut vars);
+        let mut vars = self.copy(alloc)?;
+        vars.rebreed(layout, breed);
         Ok(vars)
     }
 }

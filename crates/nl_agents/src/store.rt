@@ -4,19 +4,19 @@ ghost use Rattle.std.specs.Option.{option_copied};
 ghost use Rattle.std.specs.List.{list_any};
 ghost use Rattle.nl_value.specs.Views.{plain};
 ghost use Rattle.nl_grid.specs.Geometry.{IsPointOf, patches_of};
-ghost use Rattle.nl_agents.specs.BuiltIn.{heading_slot};
-ghost use Rattle.nl_agents.specs.Layouts.{is_turtle_breed, is_link_breed};
+ghost use Rattle.nl_layout.specs.BuiltIn.{heading_slot};
+ghost use Rattle.nl_layout.specs.Layouts.{is_turtle_breed, is_link_breed};
 ghost use Rattle.nl_agents.specs.World.{World, first_world};
-ghost use Rattle.nl_agents.specs.Changes.{turtle_of, link_of, turtle_lives, link_lives, TurtleLives, LinkLives, OwnerLives, value_of, moved, rebred, born, AreTurtlesFull, killed, cut, joins, tied, AreLinksFull, revalued, turtles_cleared, links_cleared, patches_cleared, globals_cleared, has_end};
-ghost use Rattle.nl_agents.specs.Members.{all_turtles, all_links, turtles_where, links_where, is_of_breed, is_on};
+ghost use Rattle.nl_agents.specs.Changes.{turtle_of, link_of, turtle_lives, link_lives, TurtleLives, LinkLives, OwnerLives, value_of, moved, rebred, born, AreTurtlesFull, killed, cut, joins, tied, AreLinksFull, revalued, turtles_cleared, links_cleared, patches_cleared, globals_cleared};
+ghost use Rattle.nl_agents.specs.Members.{all_turtles, all_links, turtles_of_breed, turtles_on, links_with_end, is_unbreeded};
 ghost use Rattle.nl_agents.specs.Standing.{IsWorld, MayHold, fits_rest};
 
 use crate::agents::Owner;
-use crate::layout::Layout;
 use crate::refusals::{BearFail, TieFail};
 use crate::steps::Steps;
 use nl_fixed::NoMemory;
 use nl_grid::{Point, Shape};
+use nl_layout::Layout;
 use nl_value::{Serials, Value};
 use std::alloc::Global;
 use std::sync::ledger::Ledger;
@@ -60,11 +60,15 @@ pub trait Store: Sized + Drop {
 
     /// How many turtles of a breed live.
     fn breed_count(&self, breed: u32) -> usize
-        ensures { result ≡ length (turtles_where (is_of_breed breed) (world self.now).rest) };
+        ensures { result ≡ length (turtles_of_breed breed (world self.now).rest) };
 
     /// How many links live.
     fn link_count(&self) -> usize
         ensures { result ≡ length (world self.now).rest.links };
+
+    /// How many links of no breed live that have a direction, or that have none.
+    fn unbreeded_count(&self, directed: bool) -> usize
+        ensures { result ≡ length (filter (is_unbreeded directed) (world self.now).rest.links) };
 
     /// A turtle is born at a point, and its serial is given. Without a parent its variables have their first values, with the color and
     /// the heading 0; with one they are copies of the parent's, by the rule on a change of breed.
@@ -188,8 +192,8 @@ pub trait Store: Sized + Drop {
         steps: &mut Steps<L>,
     ) -> Result<(), NoMemory>
         requires { IsTrue (is_turtle_breed (world self.now).rest.layout breed) }
-        ensures list { OnOk result (into.new ≡ turtles_where (is_of_breed breed) (world self.now).rest) }
-        ensures reads { steps.new ≤ steps.old + length (turtles_where (is_of_breed breed) (world self.now).rest) + 1 };
+        ensures list { OnOk result (into.new ≡ turtles_of_breed breed (world self.now).rest) }
+        ensures reads { steps.new ≤ steps.old + length (turtles_of_breed breed (world self.now).rest) + 1 };
 
     /// Fills the list with the serials of the living turtles that stand on a patch, ascending.
     fn members_on<L: Ledger>(
@@ -200,8 +204,8 @@ pub trait Store: Sized + Drop {
         steps: &mut Steps<L>,
     ) -> Result<(), NoMemory>
         requires { patch < patches_of (world self.now).rest.shape }
-        ensures list { OnOk result (into.new ≡ turtles_where (is_on (world self.now).rest patch) (world self.now).rest) }
-        ensures reads { steps.new ≤ steps.old + length (turtles_where (is_on (world self.now).rest patch) (world self.now).rest) + 1 };
+        ensures list { OnOk result (into.new ≡ turtles_on patch (world self.now).rest) }
+        ensures reads { steps.new ≤ steps.old + length (turtles_on patch (world self.now).rest) + 1 };
 
     /// Fills the list with the serials of the links that live, ascending.
     fn links<L: Ledger>(
@@ -222,8 +226,8 @@ pub trait Store: Sized + Drop {
         steps: &mut Steps<L>,
     ) -> Result<(), NoMemory>
         requires { TurtleLives turtle (world self.now) }
-        ensures list { OnOk result (into.new ≡ links_where (has_end turtle) (world self.now).rest) }
-        ensures reads { steps.new ≤ steps.old + length (links_where (has_end turtle) (world self.now).rest) + 1 };
+        ensures list { OnOk result (into.new ≡ links_with_end turtle (world self.now).rest) }
+        ensures reads { steps.new ≤ steps.old + length (links_with_end turtle (world self.now).rest) + 1 };
 
     /// All turtles and links die, and the next turtle is called 0.
     fn clear_turtles(&mut self)

@@ -4,8 +4,8 @@ ghost use Rattle.std.specs.Option.{option_copied};
 ghost use Rattle.nl_value.specs.Views.{plain};
 ghost use Rattle.nl_agents.specs.Changes.{value_in, value_set, set_entry};
 
-use crate::slots::Slots;
 use nl_fixed::NoMemory;
+use nl_layout::Slots;
 use nl_value::Value;
 use std::alloc::Global;
 use std::marker::Model;
@@ -80,8 +80,10 @@ impl Variables {
     /// Puts the value at a place where one is owned, and hands back the old one; else the new one.
     fn set_entry(&mut self, at: usize, value: Value) -> Result<Value, Value>
         ensures old { IfOk result (λ old. slice_index_or self.old at None ≡ Some (plain old)) }
-        ensures back { IfErr result (λ back. (plain back ≡ plain value) × (slice_index_or self.old at None ≡ None)) }
-        ensures new { self.new ≡ slice_set self.old at (set_entry (plain value) (slice_index_or self.old at None)) }
+        ensures back { IfErr result (λ back. plain back ≡ plain value) }
+        ensures not_owned { OnErr result (slice_index_or self.old at None ≡ None) }
+        ensures new { self.new
+            ≡ slice_set self.old at (set_entry (plain value) (slice_index_or self.old at None)) }
         ensures kept { OnErr result (self.new ≡ self.old) }
     {
         if at >= self.len() {
@@ -106,7 +108,8 @@ impl Variables {
     #[tactic(auto, using(crate::proofs::Entries::value_at, crate::proofs::Entries::value_nowhere, crate::proofs::Entries::set_at, crate::proofs::Entries::set_nowhere))]
     pub fn set(&mut self, slots: &Slots, slot: u32, value: Value) -> Result<Value, Value>
         ensures old { IfOk result (λ old. value_in slots.now self.old slot ≡ Some (plain old)) }
-        ensures back { IfErr result (λ back. (plain back ≡ plain value) × (value_in slots.now self.old slot ≡ None)) }
+        ensures back { IfErr result (λ back. plain back ≡ plain value) }
+        ensures not_owned { OnErr result (value_in slots.now self.old slot ≡ None) }
         ensures new { self.new ≡ value_set slots.now self.old slot (plain value) }
         ensures kept { OnErr result (self.new ≡ self.old) }
     {
@@ -132,7 +135,8 @@ impl Variables {
 /// Puts the value in the place of an owned one, which is handed back.
 fn put(entry: &mut Option<Value>, value: Value) -> Result<Value, Value>
     ensures old { IfOk result (λ old. option_map plain entry.old ≡ Some (plain old)) }
-    ensures back { IfErr result (λ back. (plain back ≡ plain value) × (option_map plain entry.old ≡ None)) }
+    ensures back { IfErr result (λ back. plain back ≡ plain value) }
+    ensures not_owned { OnErr result (option_map plain entry.old ≡ None) }
     ensures new { option_map plain entry.new ≡ set_entry (plain value) (option_map plain entry.old) }
     ensures kept { OnErr result (entry.new ≡ entry.old) }
 {

@@ -2,17 +2,18 @@
 ghost use Rattle.std.specs.Prelude.{◌≡◌, ◌++◌, ◌+◌, ◌≤◌, ◌<◌, ◌*ℤ◌, pos, codes, length, IfOk, IsTrue};
 ghost use Rattle.nl_fixed.specs.Numbers.{one};
 ghost use Rattle.nl_value.specs.Living.{link_key};
+ghost use Rattle.nl_value.specs.Plain.{PlainTurtle, PlainLink};
 ghost use Rattle.nl_grid.specs.Geometry.{patches_of, all_patches};
-ghost use Rattle.nl_agents.specs.Layouts.{breed_of};
-ghost use Rattle.nl_agents.specs.Changes.{turtle_of, link_of, TurtleLives, LinkLives};
+ghost use Rattle.nl_layout.specs.Layouts.{breed_of};
+ghost use Rattle.nl_agents.specs.Changes.{link_of, TurtleLives, LinkLives};
 ghost use Rattle.nl_agents.specs.Members.{all_links, members_of, most_reads, links_where, is_link_of_breed};
-ghost use Rattle.nl_agents.specs.Names.{living_of, set_fits, turtle_text, link_text, patch_text, set_text, members_word, singular_or, plural_or, who_of};
+ghost use Rattle.nl_agents.specs.Names.{living_of, set_fits, name_of, patch_text, set_text, members_word, singular_or, plural_or, who_of};
 ghost use Rattle.nl_agents.specs.inner.Views.{counts_text, link_is_of};
 
-use crate::layout::Layout;
 use crate::steps::Steps;
 use crate::store::Store;
 use nl_fixed::{NoMemory, Num, Str};
+use nl_layout::Layout;
 use nl_value::{AgentSet, Life, Serials, Value};
 use std::alloc::Global;
 use std::marker::Brand;
@@ -76,7 +77,8 @@ impl<'a, S: Store> View<'a, S> {
     // How many living members a set has. No list is made where the store can count.
     fn count(&self, alloc: Global, set: &AgentSet) -> Result<usize, NoMemory>
         requires { IsTrue (set_fits (S.world self.now.store.now).rest set.now) }
-        ensures { IfOk result (λ count. count ≡ length (members_of (S.world self.now.store.now).rest set.now)) }
+        ensures { IfOk result (λ count. count
+            ≡ length (members_of (S.world self.now.store.now).rest set.now)) }
     {
         match set {
             AgentSet::Turtles => Ok(self.store.turtle_count()),
@@ -98,7 +100,8 @@ impl<'a, S: Store> View<'a, S> {
     }
 
     fn turtle_name(&self, alloc: Global, turtle: u64) -> Result<Str, NoMemory>
-        ensures { IfOk result (λ name. name ≡ turtle_text (S.world self.now.store.now).rest (turtle_of turtle (S.world self.now.store.now).rest)) }
+        ensures { IfOk result (λ name. name
+            ≡ name_of (S.world self.now.store.now).rest (PlainTurtle turtle)) }
     {
         if !self.store.turtle_lives(turtle) {
             return Str::of(alloc, b"nobody");
@@ -110,7 +113,8 @@ impl<'a, S: Store> View<'a, S> {
     }
 
     fn link_name(&self, alloc: Global, link: u64) -> Result<Str, NoMemory>
-        ensures { IfOk result (λ name. name ≡ link_text (S.world self.now.store.now).rest (link_of link (S.world self.now.store.now).rest)) }
+        ensures { IfOk result (λ name. name
+            ≡ name_of (S.world self.now.store.now).rest (PlainLink link)) }
     {
         if !self.store.link_lives(link) {
             return Str::of(alloc, b"nobody");
@@ -160,7 +164,8 @@ impl<'a, S: Store> View<'a, S> {
 
     // The singular of a breed, or this word where it is none.
     fn singular<'b>(&'b self, breed: u32, word: &'b [u8]) -> &'b [u8]
-        ensures { result.now ≡ singular_or word.now (breed_of (S.world self.now.store.now).rest.layout breed) }
+        ensures { result.now
+            ≡ singular_or word.now (breed_of (S.world self.now.store.now).rest.layout breed) }
     {
         match self.layout.breed(breed) {
             Some(kept) => kept.singular.as_bytes(),
@@ -258,7 +263,8 @@ fn all_patches<S: Store>(alloc: Global, store: &S) -> Result<Serials, NoMemory>
 // The patches of a list, each of which is one of the world.
 fn listed_patches<S: Store>(alloc: Global, list: &Serials, store: &S) -> Result<Serials, NoMemory>
     requires { IsTrue (set_fits (S.world store.now).rest (AgentSet.SomePatches list.now)) }
-    ensures { IfOk result (λ members. members ≡ members_of (S.world store.now).rest (AgentSet.SomePatches list.now)) }
+    ensures { IfOk result (λ members. members
+        ≡ members_of (S.world store.now).rest (AgentSet.SomePatches list.now)) }
 {
     let _store = store;
     let _ascending = list.as_slice();
@@ -267,7 +273,8 @@ fn listed_patches<S: Store>(alloc: Global, list: &Serials, store: &S) -> Result<
 
 // The living turtles of a list.
 fn living_turtles<S: Store>(alloc: Global, list: &Serials, store: &S) -> Result<Serials, NoMemory>
-    ensures { IfOk result (λ members. members ≡ members_of (S.world store.now).rest (AgentSet.SomeTurtles list.now)) }
+    ensures { IfOk result (λ members. members
+        ≡ members_of (S.world store.now).rest (AgentSet.SomeTurtles list.now)) }
 {
     // What the order of the members rests on: the store stands for a world.
     let _stands = store.shape();
@@ -283,7 +290,8 @@ fn living_turtles<S: Store>(alloc: Global, list: &Serials, store: &S) -> Result<
 
 // The living links of a list.
 fn living_links<S: Store>(alloc: Global, list: &Serials, store: &S) -> Result<Serials, NoMemory>
-    ensures { IfOk result (λ members. members ≡ members_of (S.world store.now).rest (AgentSet.SomeLinks list.now)) }
+    ensures { IfOk result (λ members. members
+        ≡ members_of (S.world store.now).rest (AgentSet.SomeLinks list.now)) }
 {
     // What the order of the members rests on: the store stands for a world.
     let _stands = store.shape();
@@ -305,7 +313,8 @@ fn links_of_breed<S: Store>(
     store: &S,
 ) -> Result<Serials, NoMemory>
     requires { all.now ≡ all_links (S.world store.now).rest }
-    ensures { IfOk result (λ members. members ≡ links_where (is_link_of_breed breed) (S.world store.now).rest) }
+    ensures { IfOk result (λ members. members
+        ≡ links_where (is_link_of_breed breed) (S.world store.now).rest) }
 {
     // What the order of the links rests on: the store stands for a world.
     let _stands = store.shape();

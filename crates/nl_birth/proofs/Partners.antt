@@ -11,7 +11,7 @@ use Rattle.std.proofs.lemmas.List.{take_more, take_all, get_or_default}
 use Rattle.std.proofs.lemmas.List.Elements.{All-head, All-tail, All-map, All-filter, All-weaker}
 use Rattle.std.proofs.lemmas.List.Folds.{Any-from_list_any, list_any-from_Any, list_any_more}
 use Rattle.std.proofs.lemmas.List.Kept.{Contains-from_dedup, Contains-dedup_nat}
-use Rattle.nl_agents.specs.Nouns.{BreedNumber}
+use Rattle.nl_layout.specs.Nouns.{BreedNumber}
 use Rattle.nl_agents.specs.World.{Rest, World}
 use Rattle.nl_agents.specs.Changes.{link_of, LinkLives, joins, has_end}
 use Rattle.nl_agents.specs.Members.{links_where, all_links, is_listed}

@@ -5,7 +5,7 @@ use Rattle.std.specs.Ordering.{nat_cmp}
 use Rattle.std.specs.List.Sorted.{IsStrictlyIncreasing, IsSearchInRange, IsBinarySearchResult}
 use Rattle.std.proofs.Common.{arith, ap, ◌∙◌, sym, get_or, subst}
 use Rattle.std.proofs.lemmas.Bool.{eq-eqb, eqb-true}
-use Rattle.std.proofs.lemmas.Option.{get_or_from_slice_get}
+use Rattle.std.proofs.lemmas.Option.{get_or_from_slice_get, slice_get_within}
 use Rattle.nl_agents.proofs.Keyed.{searched_by_key, changed_at, removed_at}
 use Rattle.nl_agents.specs.Nouns.{Vars}
 use Rattle.nl_agents.specs.Changes.{changed_at as patch_changed}
@@ -25,6 +25,11 @@ module _ {X : Type 0} (key : X → ℕ) where
   found_seen : (xs seen : List X) (k : ℕ) (o : Option ℕ) (at : ℕ) → seen ≡ xs → MatchOption o (find (λ y. key y == k) seen ≡ None) (StandsAt (λ y. key y == k) seen) → o ≡ Some at → StandsAt (λ y. key y == k) xs at
   found_seen xs seen k o at same h e =
       found_at_place xs k o at (subst (λ ys. MatchOption o (find (λ y. key y == k) ys ≡ None) (StandsAt (λ y. key y == k) ys)) same h) e
+
+  -- what was found stands in the list
+  pub found_inside : (xs seen : List X) (k : ℕ) (o : Option ℕ) (at : ℕ) → seen ≡ xs
+      → MatchOption o (find (λ y. key y == k) seen ≡ None) (StandsAt (λ y. key y == k) seen) → o ≡ Some at → at < length xs
+  found_inside xs seen k o at same h e = let s = found_seen xs seen k o at same h e in slice_get_within xs at s.item s.stands
 
   -- a change of the item that was found is a change by the key
   pub changed_found : (change : X → X) (xs seen : List X) (k : ℕ) (o : Option ℕ) (at : ℕ) (x : X) → IsStrictlyIncreasing (map key xs) → seen ≡ xs

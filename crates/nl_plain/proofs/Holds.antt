@@ -8,18 +8,20 @@ use Rattle.nl_value.specs.Plain.{Plain}
 use Rattle.nl_value.specs.Views.{plain}
 use Rattle.nl_value.specs.declared.values.Value.{Value}
 use Rattle.nl_grid.specs.Geometry.{Plane}
-use Rattle.nl_agents.specs.Nouns.{Slot, Vars}
-use Rattle.nl_agents.specs.BuiltIn.{zero_value}
-use Rattle.nl_agents.specs.declared.layout.Layout.{Layout}
-use Rattle.nl_agents.specs.Layouts.{turtle_owns}
+use Rattle.nl_layout.specs.Nouns.{Slot}
+use Rattle.nl_agents.specs.Nouns.{Vars}
+use Rattle.nl_layout.specs.BuiltIn.{zero_value}
+use Rattle.nl_layout.specs.declared.layout.Layout.{Layout}
+use Rattle.nl_layout.specs.Layouts.{turtle_owns}
 use Rattle.nl_agents.specs.World.{World, first_world, first_patches}
-use Rattle.nl_agents.specs.Changes.{is_turtle, is_link, parent_of, AreTurtlesFull, AreLinksFull, value_of, global_set}
+use Rattle.nl_agents.specs.Changes.{is_turtle, is_link, parent_of, AreTurtlesFull, AreLinksFull, value_of, global_set, revalued}
 use Rattle.nl_agents.specs.Standing.{IsWorld, IsTurtleOf, IsLinkOf, MayHold}
 use Rattle.nl_agents.specs.declared.agents.Turtle.{Turtle}
 use Rattle.nl_agents.specs.declared.agents.Link.{Link}
 use Rattle.nl_agents.specs.declared.agents.Owner.{Owner}
 use Rattle.nl_agents.proofs.Finding.{found_all}
 use Rattle.nl_agents.proofs.Holding.{values_fit}
+use Rattle.nl_agents.proofs.Worlds.{revalued_is_world}
 use Rattle.nl_plain.specs.Lists.{world_of}
 
 abbrev pub with_agents : World → List Turtle → List Link → World
@@ -91,6 +93,12 @@ all_first value xs n h = one_each value xs ∙ ap (λ m. replicate m value) h
 pub holds_back : (w : World) (whose : Owner) (slot : Slot) (o : Option (Bor Value)) → IsWorld w → option_map plain (option_copied o) ≡ value_of whose slot w → IfSome o (λ value. MayHold w.rest whose slot (plain value.now))
 holds_back w whose slot None stands e = tt
 holds_back w whose slot (Some value) stands e = subst (λ p. IfSome p (MayHold w.rest whose slot)) (sym e) (values_fit w whose slot stands)
+
+-- the world after a variable was set
+pub revalued_stands : (w after : World) (said whose : Owner) (slot : Slot) (value : Plain) → IsWorld w → MayHold w.rest said slot value → said ≡ whose
+    → after ≡ revalued whose slot value w → IsWorld after
+revalued_stands w after said whose slot value stands holds is e =
+    subst IsWorld (sym e) (revalued_is_world whose slot value w stands (subst (λ (o : Owner). MayHold w.rest o slot value) is holds))
 
 abbrev pub with_observed : World → List Plain → List Plain → World
 with_observed w globals run = record w { globals = globals; rest = record w.rest { run = run } }

@@ -1,4 +1,5 @@
 pub mod Cleared
+pub mod Counted
 pub mod Filled
 pub mod Found
 pub mod Holds

@@ -1,14 +1,16 @@
 -- The world that a store of lists stands for.
-use Rattle.std.specs.Prelude.{◌≡◌, ℕ, ◌-◌, nat_lt, slice_set, Bool, true, if◌then◌else◌, List, Option, Some, None, IsSome, All, find, length, map, option_map, slice_get}
+use Rattle.std.specs.Prelude.{◌≡◌, ℕ, ◌-◌, nat_lt, slice_set, Bool, true, if◌then◌else◌, List, Option, Some, None, IsSome, All, filter, find, length, map, option_map, slice_get}
 use Rattle.std.specs.Option.{option_and_then}
 use Rattle.std.specs.List.Sorted.{IsStrictlyIncreasing}
 use Rattle.nl_value.specs.Plain.{Plain}
 use Rattle.nl_grid.specs.Geometry.{Plane}
 use Rattle.nl_grid.specs.declared.point.Point.{Point}
-use Rattle.nl_agents.specs.Nouns.{Slot, Slots, Vars, BreedNumber}
+use Rattle.nl_layout.specs.Nouns.{Slot, Slots, BreedNumber}
+use Rattle.nl_agents.specs.Nouns.{Vars}
 use Rattle.nl_agents.specs.Changes.{is_turtle, is_link, value_in, value_set, changed_at, bred_vars, birth_vars}
+use Rattle.nl_agents.specs.Members.{is_unbreeded}
 use Rattle.nl_agents.specs.World.{World}
-use Rattle.nl_agents.specs.declared.layout.Layout.{Layout}
+use Rattle.nl_layout.specs.declared.layout.Layout.{Layout}
 use Rattle.nl_agents.specs.declared.agents.Turtle.{Turtle}
 use Rattle.nl_agents.specs.declared.agents.Link.{Link}
 
@@ -56,6 +58,10 @@ HasTurtle serial turtles = IsSome (find (is_turtle serial) turtles)
 abbrev pub HasLink : ℕ → List Link → Type 0
 HasLink serial links = IsSome (find (is_link serial) links)
 
+-- how many links of no breed have a direction, or have none
+abbrev pub unbreeded : (directed : Bool) → List Link → ℕ
+unbreeded directed links = length (filter (is_unbreeded directed) links)
+
 -- each turtle keeps one entry a slot
 abbrev pub KeepAll : Layout → List Turtle → Type 0
 KeepAll layout turtles = All (λ t. length t.vars ≡ length layout.some_turtle) turtles
@@ -93,10 +99,6 @@ links_set slots slot value serial links =
 
 abbrev pub patches_set : Slots → Slot → Plain → ℕ → List Vars → List Vars
 patches_set slots slot value patch patches = changed_at (λ vars. value_set slots vars slot value) patch patches
-
--- a value that wasn't set is handed back, where there is no such variable
-abbrev pub IsHandedBack : Option Plain → Plain → Plain → Type 0
-IsHandedBack entry value back = (back ≡ value) × (entry ≡ None)
 
 -- the global variables of the model, and what a run is, after a slot of both was set
 abbrev pub globals_set : Slot → Plain → List Plain → List Plain

@@ -1,6 +1,6 @@
 //! What agents and global variables hold at first.
 ghost use Rattle.std.specs.Prelude.{◌≡◌, replicate, IfSome, IfOk};
-ghost use Rattle.nl_agents.specs.BuiltIn.{zero_value};
+ghost use Rattle.nl_layout.specs.BuiltIn.{zero_value};
 ghost use Rattle.nl_plain.specs.Lists.{TurtlesAscend, HasTurtle, KeepAll, birth_vars_among};
 
 use crate::finding::turtle_in;
@@ -31,7 +31,9 @@ pub(crate) fn birth_vars(
     ensures { IfOk result (λ vars. vars ≡ birth_vars_among layout.now breed parent turtles.now) }
 {
     match parent {
-        None => layout.first_turtle(alloc, breed),
-        Some(serial) => layout.hatched(alloc, breed, &turtle_in(turtles, serial).vars),
+        None => Variables::first_of_turtle(alloc, layout, breed),
+        Some(serial) => turtle_in(turtles, serial)
+            .vars
+            .hatched(alloc, layout, breed),
     }
 }

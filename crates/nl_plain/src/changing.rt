@@ -1,8 +1,8 @@
 //! Changes of one agent in a list that is in the order of serials.
-ghost use Rattle.std.specs.Prelude.{◌≡◌, ◌<◌, filter, length, not, Some, IfOk, IfErr, OnErr};
+ghost use Rattle.std.specs.Prelude.{◌≡◌, ◌<◌, filter, length, not, None, Some, IfOk, IfErr, OnErr};
 ghost use Rattle.nl_value.specs.Views.{plain};
-ghost use Rattle.nl_agents.specs.Changes.{is_turtle, is_link};
-ghost use Rattle.nl_plain.specs.Lists.{TurtlesAscend, LinksAscend, HasTurtle, HasLink, KeepAll, IsHandedBack};
+ghost use Rattle.nl_agents.specs.Changes.{is_turtle};
+ghost use Rattle.nl_plain.specs.Lists.{TurtlesAscend, LinksAscend, HasTurtle, HasLink, KeepAll};
 ghost use Rattle.nl_plain.specs.Lists.{turtles_moved, turtles_rebred, turtles_set, links_set, patches_set};
 ghost use Rattle.nl_plain.specs.Lists.{turtle_entry, link_entry, patch_entry};
 
@@ -19,16 +19,6 @@ pub(crate) fn remove_turtle(turtles: &mut Vec<Turtle>, serial: u64)
 {
     let at = turtle_place(turtles, serial).unwrap();
     let _ = turtles.remove(at);
-}
-
-/// Takes the link of a serial away.
-pub(crate) fn remove_link(links: &mut Vec<Link>, serial: u64)
-    requires order { LinksAscend links.old.items }
-    requires lives { HasLink serial links.old.items }
-    ensures { links.new.items ≡ filter (λ l. not (is_link serial l)) links.old.items }
-{
-    let at = link_place(links, serial).unwrap();
-    let _ = links.remove(at);
 }
 
 /// Has the turtle of a serial stand at a point.
@@ -51,7 +41,7 @@ pub(crate) fn rebreed_turtle(turtles: &mut Vec<Turtle>, layout: &Layout, serial:
     let at = turtle_place(turtles, serial).unwrap();
     let turtle = &mut turtles[at];
     turtle.breed = breed;
-    layout.rebreed(breed, &mut turtle.vars);
+    turtle.vars.rebreed(layout, breed);
 }
 
 /// Sets a variable of the turtle of a serial, where its breed owns it.
@@ -64,8 +54,10 @@ pub(crate) fn set_turtle(
 ) -> Result<Value, Value>
     requires order { TurtlesAscend turtles.old.items }
     requires lives { HasTurtle serial turtles.old.items }
-    ensures old { IfOk result (λ old. turtle_entry slots.now slot serial turtles.old.items ≡ Some (plain old)) }
-    ensures back { IfErr result (λ back. IsHandedBack (turtle_entry slots.now slot serial turtles.old.items) (plain value) (plain back)) }
+    ensures old { IfOk result (λ old.
+        turtle_entry slots.now slot serial turtles.old.items ≡ Some (plain old)) }
+    ensures back { IfErr result (λ back. plain back ≡ plain value) }
+    ensures not_owned { OnErr result (turtle_entry slots.now slot serial turtles.old.items ≡ None) }
     ensures new { turtles.new.items ≡ turtles_set slots.now slot (plain value) serial turtles.old.items }
     ensures kept { OnErr result (turtles.new.items ≡ turtles.old.items) }
 {
@@ -84,7 +76,8 @@ pub(crate) fn set_link(
     requires order { LinksAscend links.old.items }
     requires lives { HasLink serial links.old.items }
     ensures old { IfOk result (λ old. link_entry slots.now slot serial links.old.items ≡ Some (plain old)) }
-    ensures back { IfErr result (λ back. IsHandedBack (link_entry slots.now slot serial links.old.items) (plain value) (plain back)) }
+    ensures back { IfErr result (λ back. plain back ≡ plain value) }
+    ensures not_owned { OnErr result (link_entry slots.now slot serial links.old.items ≡ None) }
     ensures new { links.new.items ≡ links_set slots.now slot (plain value) serial links.old.items }
     ensures kept { OnErr result (links.new.items ≡ links.old.items) }
 {
@@ -102,7 +95,8 @@ pub(crate) fn set_patch(
 ) -> Result<Value, Value>
     requires { patch < length patches.old.items }
     ensures old { IfOk result (λ old. patch_entry slots.now slot patch patches.old.items ≡ Some (plain old)) }
-    ensures back { IfErr result (λ back. IsHandedBack (patch_entry slots.now slot patch patches.old.items) (plain value) (plain back)) }
+    ensures back { IfErr result (λ back. plain back ≡ plain value) }
+    ensures not_owned { OnErr result (patch_entry slots.now slot patch patches.old.items ≡ None) }
     ensures new { patches.new.items ≡ patches_set slots.now slot (plain value) patch patches.old.items }
     ensures kept { OnErr result (patches.new.items ≡ patches.old.items) }
 {

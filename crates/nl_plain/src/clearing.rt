@@ -1,10 +1,10 @@
 //! Clears of whole lists, and first values.
-ghost use Rattle.std.specs.Prelude.{◌≡◌, ◌<◌, map, filter, length, not, replicate, slice_set, All, IfOk, if◌then◌else◌};
-ghost use Rattle.nl_agents.specs.BuiltIn.{zero_value};
+ghost use Rattle.std.specs.Prelude.{◌≡◌, ◌<◌, map, length, replicate, slice_set, All, IfOk, if◌then◌else◌};
+ghost use Rattle.nl_layout.specs.BuiltIn.{zero_value};
 ghost use Rattle.nl_agents.specs.World.{first_patch_vars};
-ghost use Rattle.nl_agents.specs.Changes.{has_end, cleared_from};
+ghost use Rattle.nl_agents.specs.Changes.{cleared_from};
 
-use nl_agents::{Layout, Link, Variables};
+use nl_agents::{Layout, Variables};
 use nl_fixed::{NoMemory, Num};
 use nl_value::{Items, Value};
 use std::alloc::Global;
@@ -19,7 +19,7 @@ pub(crate) fn first_patches(
 {
     let mut patches = Vec::with_capacity(alloc, count as usize)?;
     for _ in 0..count {
-        patches.push(layout.first_patch(alloc)?)?;
+        patches.push(Variables::first_of_patch(alloc, layout)?)?;
     }
     Ok(patches)
 }
@@ -31,7 +31,7 @@ pub(crate) fn reset_patches(alloc: Global, patches: &mut Vec<Variables>, layout:
 {
     let count = patches.as_slice().len();
     for at in 0..count {
-        layout.reset_patch(alloc, &mut patches[at]);
+        patches[at].reset_patch(alloc, layout);
     }
 }
 
@@ -54,11 +54,4 @@ fn clear_one(globals: &mut Items, coded: bool, at: usize)
         let zero = Num::whole(0).unwrap();
         let _ = globals.replace(at, Value::Number(zero));
     }
-}
-
-/// Takes the links away that have the turtle as an end.
-pub(crate) fn remove_links_of(links: &mut Vec<Link>, turtle: u64)
-    ensures { links.new.items ≡ filter (λ l. not (has_end turtle l)) links.old.items }
-{
-    links.retain(|link| link.end1 != turtle && link.end2 != turtle);
 }

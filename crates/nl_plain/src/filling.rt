@@ -68,7 +68,8 @@ pub(crate) fn fill_on(
 ) -> Result<(), NoMemory>
     requires order { TurtlesAscend turtles.now }
     requires inside { All (λ t. IsPointOf shape t.at) turtles.now }
-    ensures { OnOk result (into.new ≡ map (λ t. t.serial) (filter (λ t. patch_at shape t.at == patch) turtles.now)) }
+    ensures { OnOk result (into.new
+        ≡ map (λ t. t.serial) (filter (λ t. patch_at shape t.at == patch) turtles.now)) }
 {
     into.clear();
     for turtle in turtles {

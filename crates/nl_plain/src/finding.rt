@@ -8,7 +8,8 @@ use nl_agents::{Link, Turtle, Variables};
 /// The index of the turtle of a serial.
 pub(crate) fn turtle_place(turtles: &[Turtle], serial: u64) -> Option<usize>
     requires { TurtlesAscend turtles.now }
-    ensures { MatchOption result (find (is_turtle serial) turtles.now ≡ None) (StandsAt (is_turtle serial) turtles.now) }
+    ensures { MatchOption result (find (is_turtle serial) turtles.now ≡ None)
+        (StandsAt (is_turtle serial) turtles.now) }
 {
     turtles.binary_search_by(|t| t.serial.cmp(&serial)).ok()
 }
@@ -16,7 +17,8 @@ pub(crate) fn turtle_place(turtles: &[Turtle], serial: u64) -> Option<usize>
 /// The index of the link of a serial.
 pub(crate) fn link_place(links: &[Link], serial: u64) -> Option<usize>
     requires { LinksAscend links.now }
-    ensures { MatchOption result (find (is_link serial) links.now ≡ None) (StandsAt (is_link serial) links.now) }
+    ensures { MatchOption result (find (is_link serial) links.now ≡ None)
+        (StandsAt (is_link serial) links.now) }
 {
     links.binary_search_by(|l| l.serial.cmp(&serial)).ok()
 }

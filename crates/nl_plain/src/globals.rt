@@ -1,8 +1,8 @@
 //! Global variables: those of the model, and behind them the number of the run and the name of the experiment.
-ghost use Rattle.std.specs.Prelude.{◌≡◌, ◌++◌, slice_get, option_map, Some, IfOk, IfErr, OnErr};
+ghost use Rattle.std.specs.Prelude.{◌≡◌, ◌++◌, slice_get, option_map, None, Some, IfOk, IfErr, OnErr};
 ghost use Rattle.std.specs.Option.{option_copied};
 ghost use Rattle.nl_value.specs.Views.{plain};
-ghost use Rattle.nl_plain.specs.Lists.{IsHandedBack, globals_set, run_set};
+ghost use Rattle.nl_plain.specs.Lists.{globals_set, run_set};
 
 use nl_value::{Items, Value};
 
@@ -26,7 +26,8 @@ pub(crate) fn set_global(
     value: Value,
 ) -> Result<Value, Value>
     ensures old { IfOk result (λ old. slice_get (globals.old ++ run.old) slot ≡ Some (plain old)) }
-    ensures back { IfErr result (λ back. IsHandedBack (slice_get (globals.old ++ run.old) slot) (plain value) (plain back)) }
+    ensures back { IfErr result (λ back. plain back ≡ plain value) }
+    ensures not_owned { OnErr result (slice_get (globals.old ++ run.old) slot ≡ None) }
     ensures globals { globals.new ≡ globals_set slot (plain value) globals.old }
     ensures run { run.new ≡ run_set slot (plain value) globals.old run.old }
     ensures kept { OnErr result ((globals.new ≡ globals.old) × (run.new ≡ run.old)) }

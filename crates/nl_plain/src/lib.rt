@@ -8,6 +8,7 @@ mod copying;
 mod filling;
 mod finding;
 mod globals;
+mod links;
 pub mod plain;
 
 pub use plain::Plain;

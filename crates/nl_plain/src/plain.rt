@@ -11,14 +11,13 @@ ghost use Rattle.std.proofs.Props.{props};
 ghost use Rattle.nl_plain.specs.Lists.{world_of};
 
 use crate::bearing::{birth_vars, zeros};
-use crate::changing::{
-    move_turtle, rebreed_turtle, remove_link, remove_turtle, set_link, set_patch, set_turtle,
-};
-use crate::clearing::{clear_coded, first_patches, remove_links_of, reset_patches};
-use crate::copying::{copy_links, copy_patches, copy_turtles};
+use crate::changing::{move_turtle, rebreed_turtle, remove_turtle, set_patch, set_turtle};
+use crate::clearing::{clear_coded, first_patches, reset_patches};
+use crate::copying::{copy_patches, copy_turtles};
 use crate::filling::{count_breed, fill_breed, fill_links, fill_links_of, fill_on, fill_turtles};
 use crate::finding::{link_in, link_place, patch_in, turtle_in, turtle_place};
 use crate::globals::{global_in, set_global};
+use crate::links::Links;
 use nl_agents::{BearFail, Layout, Link, Owner, Steps, Store, TieFail, Turtle, Variables};
 use nl_fixed::NoMemory;
 use nl_grid::{Point, Shape};
@@ -45,11 +44,12 @@ pub struct Plain {
     run: Items,
     turtles: Vec<Turtle>,
     patches: Vec<Variables>,
-    links: Vec<Link>,
+    links: Links,
     turtles_given: u64,
     links_given: u64,
     base: u64,
-    ghost stands: { IsWorld (world_of shape layout globals run turtles.items patches.items links.items turtles_given links_given base) } by { Prim.hlevel props },
+    ghost stands: { IsWorld (world_of shape layout globals run turtles.items patches.items links
+        turtles_given links_given base) } by { Prim.hlevel props },
 }
 
 impl Plain {
@@ -68,7 +68,7 @@ impl Plain {
             Owner::Patch(patch) => {
                 patch_in(&self.patches, patch).get(&self.layout.every_patch, slot)
             }
-            Owner::Link(link) => link_in(&self.links, link)
+            Owner::Link(link) => link_in(self.links.as_slice(), link)
                 .vars
                 .get(&self.layout.some_link, slot),
         }
@@ -78,7 +78,8 @@ impl Plain {
 impl Store for Plain {
     ghost use Rattle.nl_agents.specs.World.{World};
 
-    ghost world = { λ s. world_of s.shape s.layout s.globals s.run s.turtles.items s.patches.items s.links.items s.turtles_given s.links_given s.base };
+    ghost world = { λ s. world_of s.shape s.layout s.globals s.run s.turtles.items s.patches.items s.links
+        s.turtles_given s.links_given s.base };
 
     fn new(alloc: Global, layout: &Layout, shape: Shape) -> Result<Self, NoMemory> {
         let layout = layout.copy(alloc)?;
@@ -93,7 +94,7 @@ impl Store for Plain {
             run,
             turtles: Vec::new(alloc),
             patches,
-            links: Vec::new(alloc),
+            links: Links::empty(alloc),
             turtles_given: 0,
             links_given: 0,
             base: 0,
@@ -113,7 +114,7 @@ impl Store for Plain {
     }
 
     fn link_lives(&self, link: u64) -> bool {
-        link_place(&self.links, link).is_some()
+        link_place(self.links.as_slice(), link).is_some()
     }
 
     fn turtle_count(&self) -> usize {
@@ -126,6 +127,10 @@ impl Store for Plain {
 
     fn link_count(&self) -> usize {
         self.links.as_slice().len()
+    }
+
+    fn unbreeded_count(&self, directed: bool) -> usize {
+        self.links.unbreeded(directed)
     }
 
     fn bear(
@@ -152,7 +157,7 @@ impl Store for Plain {
 
     fn kill(&mut self, turtle: u64) {
         remove_turtle(&mut self.turtles, turtle);
-        remove_links_of(&mut self.links, turtle);
+        self.links.remove_of(turtle);
     }
 
     fn shift(&mut self, turtle: u64, to: Point) {
@@ -174,7 +179,7 @@ impl Store for Plain {
         if self.link_count() >= MOST_LINKS || self.links_given >= MOST_SERIALS {
             return Err(TieFail::Full);
         }
-        let vars = self.layout.first_link(alloc, breed)?;
+        let vars = Variables::first_of_link(alloc, &self.layout, breed)?;
         let serial = self.links_given;
         self.links.push(Link {
             serial,
@@ -189,7 +194,7 @@ impl Store for Plain {
     }
 
     fn cut(&mut self, link: u64) {
-        remove_link(&mut self.links, link);
+        self.links.remove(link);
     }
 
     fn at(&self, turtle: u64) -> Point {
@@ -201,12 +206,12 @@ impl Store for Plain {
     }
 
     fn ends(&self, link: u64) -> (u64, u64) {
-        let link = link_in(&self.links, link);
+        let link = link_in(self.links.as_slice(), link);
         (link.end1, link.end2)
     }
 
     fn link_breed(&self, link: u64) -> (u32, bool) {
-        let link = link_in(&self.links, link);
+        let link = link_in(self.links.as_slice(), link);
         (link.breed, link.directed)
     }
 
@@ -227,7 +232,7 @@ impl Store for Plain {
             }
             Owner::Link(link) => {
                 let slots = &self.layout.some_link;
-                set_link(&mut self.links, slots, link, slot, value)
+                self.links.set(slots, link, slot, value)
             }
         }
     }
@@ -267,7 +272,7 @@ impl Store for Plain {
         into: &mut Serials,
         _steps: &mut Steps<L>,
     ) -> Result<(), NoMemory> {
-        fill_links(alloc, &self.links, into)
+        fill_links(alloc, self.links.as_slice(), into)
     }
 
     fn links_of<L: Ledger>(
@@ -277,7 +282,7 @@ impl Store for Plain {
         into: &mut Serials,
         _steps: &mut Steps<L>,
     ) -> Result<(), NoMemory> {
-        fill_links_of(alloc, &self.links, turtle, into)
+        fill_links_of(alloc, self.links.as_slice(), turtle, into)
     }
 
     fn clear_turtles(&mut self) {
@@ -307,7 +312,7 @@ impl Store for Plain {
             run: self.run.copy(alloc)?,
             turtles: copy_turtles(alloc, &self.turtles)?,
             patches: copy_patches(alloc, &self.patches)?,
-            links: copy_links(alloc, &self.links)?,
+            links: self.links.copy(alloc)?,
             turtles_given: self.turtles_given,
             links_given: self.links_given,
             base: self.base,

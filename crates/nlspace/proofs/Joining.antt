@@ -2,7 +2,7 @@
 use Rattle.std.specs.Prelude.{◌≡◌, ℕ, ◌||◌, Bool, true, false, if◌then◌else◌, List, [], ◌∷◌, map, filter, refl}
 use Rattle.std.proofs.Common.{ap, sym, ◌∙◌}
 use Rattle.std.specs.List.{list_any}
-use Rattle.nl_agents.specs.Nouns.{BreedNumber}
+use Rattle.nl_layout.specs.Nouns.{BreedNumber}
 use Rattle.nl_agents.specs.World.{World}
 use Rattle.nl_agents.specs.Changes.{joins, link_of}
 use Rattle.nl_agents.specs.Members.{all_links}

@@ -1,6 +1,6 @@
 -- What a test of a store finds of a link.
 use Rattle.std.specs.Prelude.{ℕ, Bool, false, Option, None, Some}
-use Rattle.nl_agents.specs.Nouns.{BreedNumber}
+use Rattle.nl_layout.specs.Nouns.{BreedNumber}
 use Rattle.nl_agents.specs.Changes.{joins}
 use Rattle.nl_agents.specs.declared.agents.Link.{Link}
 

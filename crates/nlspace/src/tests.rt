@@ -21,3 +21,4 @@ mod trees;
 mod trial_model;
 mod trials;
 mod views;
+mod wanting;

@@ -1,6 +1,6 @@
 -- Who is joined already with a caller, found link by link.
 use Rattle.std.specs.Prelude.{ℕ, ◌==◌, Bool, ◌&&◌, not, if◌then◌else◌, List, [], ◌∷◌, Option, Some, None}
-use Rattle.nl_agents.specs.Nouns.{BreedNumber}
+use Rattle.nl_layout.specs.Nouns.{BreedNumber}
 use Rattle.nl_agents.specs.declared.agents.Link.{Link}
 use Rattle.nl_birth.specs.Links.{has_direction}
 use Rattle.nl_birth.specs.declared.way.Way.{Way}

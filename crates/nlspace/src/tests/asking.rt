@@ -8,9 +8,9 @@ use std::alloc::Global;
 use std::marker::Brand;
 use std::sync::ledger::{Blank, Ledger};
 
-// A list that a store gives.
+/// A list that a store gives.
 #[derive(Clone, Copy)]
-enum Listed {
+pub(crate) enum Listed {
     Turtles,
     OfBreed(u32),
     On(Place),
@@ -70,6 +70,14 @@ impl<S: Store> Tried<S> {
         }
     }
 
+    /// Whether a list has the serials from 0 on, so many.
+    pub(crate) fn counts_up(&self, alloc: Global, which: Listed, count: u64) -> bool {
+        match self.listed::<Brand>(alloc, Blank::new(1), which) {
+            Some(serials) => is_count(serials.as_slice(), count),
+            None => false,
+        }
+    }
+
     fn is_turtle(&self, turtle: u64, breed: u32, place: Place) -> bool {
         if !self.store.turtle_lives(turtle) {
             return false;
@@ -113,6 +121,7 @@ impl<S: Store> Tried<S> {
                 self.store.link_count() == wanted.len() && self.lists(alloc, Listed::Links, wanted)
             }
             Look::LinksOf(turtle, wanted) => self.lists(alloc, Listed::LinksOf(turtle), wanted),
+            Look::Unbreeded(directed, count) => self.store.unbreeded_count(directed) == count,
             Look::Turtle(turtle, breed, place) => self.is_turtle(turtle, breed, place),
             Look::Link(link, breed, directed, end1, end2) => {
                 self.is_link(link, breed, directed, end1, end2)
@@ -123,6 +132,16 @@ impl<S: Store> Tried<S> {
             Look::Holds(owner, name, wanted) => self.holds(owner, name, wanted),
         }
     }
+}
+
+// Whether these are the numbers from 0 on, so many.
+fn is_count(numbers: &[u64], count: u64) -> bool {
+    for (at, number) in numbers.iter().enumerate() {
+        if *number != at as u64 {
+            return false;
+        }
+    }
+    numbers.len() as u64 == count
 }
 
 /// Whether a variable holds this.

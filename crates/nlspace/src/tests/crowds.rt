@@ -1,8 +1,10 @@
-//! Stores with as many turtles as may live.
+//! Stores with as many turtles as may live, with many links of one turtle, and with many patches.
 
+use crate::tests::asking::Listed;
 use crate::tests::trial_model::{FOXES, OWLS, program};
-use crate::tests::trials::{Look, Scene, Step, Tried, played, proceed};
-use nl_agents::Store;
+use crate::tests::trials::{Look, Scene, Step, Tried, Wanted, played, proceed};
+use nl_agents::{Owner, Store};
+use nl_grid::Shape;
 use nl_plain::Plain;
 use std::alloc::Global;
 use std::process::Abort;
@@ -30,6 +32,35 @@ impl<S: Store> Tried<S> {
             }
         }
         true
+    }
+
+    // Whether these many foxes at the origin are all that is listed.
+    fn lists_foxes(&self, alloc: Global, count: u64) -> bool {
+        self.counts_up(alloc, Listed::Turtles, count)
+            && self.counts_up(alloc, Listed::OfBreed(FOXES), count)
+            && self.counts_up(alloc, Listed::On(HERE), count)
+    }
+
+    // Goes on with a copy.
+    fn copies(&mut self, alloc: Global) -> bool {
+        self.play(alloc, Step::Copy) && self.play(alloc, Step::Swap)
+    }
+
+    // Whether so many links are made, each from the first turtle to the next one.
+    fn ties(&mut self, alloc: Global, count: u64) -> bool {
+        for link in 0..count {
+            if !self.play(alloc, Step::Tie(0, false, 0, link + 1, link)) {
+                return false;
+            }
+        }
+        true
+    }
+
+    // Whether these many links of the first turtle are all that is listed.
+    fn lists_spokes(&self, alloc: Global, count: u64) -> bool {
+        self.counts_up(alloc, Listed::Links, count)
+            && self.counts_up(alloc, Listed::LinksOf(0), count)
+            && self.store.unbreeded_count(false) as u64 == count
     }
 }
 
@@ -68,10 +99,77 @@ fn assert_full<S: Store>(rt: &impl Abort, alloc: Global) {
     let mut tried: Tried<S> = played(rt, alloc, model, &[]);
     assert!(rt; tried.bears(alloc, MOST_TURTLES - 1));
     assert!(rt; tried.finds(alloc, MOST_TURTLES - 1));
+    assert!(rt; tried.lists_foxes(alloc, MOST_TURTLES - 1));
+    assert!(rt; tried.copies(alloc));
+    assert!(rt; tried.lists_foxes(alloc, MOST_TURTLES - 1));
     proceed(rt, alloc, &mut tried, FULL);
 }
 
 #[test]
 fn two_hundred_thousand_turtles_may_live(rt: HostRuntime) {
     assert_full::<Plain>(&rt, rt.alloc());
+}
+
+const SPOKES: u64 = 400;
+
+const HUB_DIES: &[Scene] = &[(
+    &[Step::Kill(0)],
+    &[
+        Look::Links(&[]),
+        Look::Unbreeded(false, 0),
+        Look::LinksOf(9, &[]),
+    ],
+)];
+
+fn assert_star<S: Store>(rt: &impl Abort, alloc: Global) {
+    let Some(model) = program(alloc) else {
+        panic!(rt);
+    };
+    let mut tried: Tried<S> = played(rt, alloc, model, &[]);
+    assert!(rt; tried.bears(alloc, SPOKES + 1));
+    assert!(rt; tried.ties(alloc, SPOKES));
+    assert!(rt; tried.lists_spokes(alloc, SPOKES));
+    assert!(rt; tried.copies(alloc));
+    assert!(rt; tried.lists_spokes(alloc, SPOKES));
+    proceed(rt, alloc, &mut tried, HUB_DIES);
+}
+
+#[test]
+fn many_links_have_one_turtle_as_an_end(rt: HostRuntime) {
+    assert_star::<Plain>(&rt, rt.alloc());
+}
+
+const ZERO: Wanted = Wanted::Number(0);
+
+const FAR: &[Scene] = &[(
+    &[
+        Step::Bear(0, (1_000, -1_000), None, 0),
+        Step::Set(Owner::Patch(40_400), "p", 10, ZERO),
+        Step::Copy,
+        Step::Swap,
+        Step::ClearPatches,
+    ],
+    &[
+        Look::On((1_000, -1_000), &[0]),
+        Look::Holds(Owner::Patch(40_400), "p", ZERO),
+        Look::Holds(Owner::Patch(0), "p", ZERO),
+    ],
+)];
+
+fn assert_wide<S: Store>(rt: &impl Abort, alloc: Global) {
+    let Some(model) = program(alloc) else {
+        panic!(rt);
+    };
+    let Some(shape) = Shape::new(-100, 100, -100, 100, true, true) else {
+        panic!(rt);
+    };
+    let Some(mut tried) = Tried::<S>::of(alloc, model, shape) else {
+        panic!(rt);
+    };
+    proceed(rt, alloc, &mut tried, FAR);
+}
+
+#[test]
+fn a_wide_world_has_all_of_its_patches(rt: HostRuntime) {
+    assert_wide::<Plain>(&rt, rt.alloc());
 }

@@ -160,6 +160,7 @@ const COPIES: &[Scene] = &[
             Step::Bear(FOXES, HERE, None, 0),
             Step::Bear(0, (10, 0), None, 1),
             Step::Tie(WIRES, true, 0, 1, 0),
+            Step::Tie(0, false, 1, 0, 1),
             Step::Set(FIRST, "den", 30, ZERO),
             Step::Set(Owner::Patch(3), "p", 20, ZERO),
             Step::Set(Owner::Observer, "g", 40, ZERO),
@@ -174,6 +175,7 @@ const COPIES: &[Scene] = &[
         &[
             Look::Turtles(&[0, 2]),
             Look::Links(&[]),
+            Look::Unbreeded(false, 0),
             Look::Holds(FIRST, "den", Wanted::Number(80)),
         ],
     ),
@@ -182,7 +184,8 @@ const COPIES: &[Scene] = &[
         &[
             Look::Turtles(&[0, 1]),
             Look::On((10, 0), &[1]),
-            Look::Links(&[0]),
+            Look::Links(&[0, 1]),
+            Look::Unbreeded(false, 1),
             Look::Link(0, WIRES, true, 0, 1),
             Look::Holds(FIRST, "den", Wanted::Number(30)),
             Look::Holds(Owner::Patch(3), "p", Wanted::Number(20)),
@@ -193,7 +196,7 @@ const COPIES: &[Scene] = &[
     (
         &[
             Step::Bear(FOXES, HERE, None, 2),
-            Step::Tie(ROPES, false, 0, 2, 1),
+            Step::Tie(ROPES, false, 0, 2, 2),
             Step::ClearTurtles,
             Step::Swap,
         ],

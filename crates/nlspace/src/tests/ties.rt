@@ -25,6 +25,8 @@ const TIES: &[Scene] = &[
         ],
         &[
             Look::Links(&[0, 1, 2, 3, 4, 5]),
+            Look::Unbreeded(false, 1),
+            Look::Unbreeded(true, 2),
             Look::LinksOf(0, &[0, 1, 2]),
             Look::LinksOf(1, &[0, 1, 2, 3, 4, 5]),
             Look::LinksOf(2, &[3, 4, 5]),
@@ -45,6 +47,8 @@ const TIES: &[Scene] = &[
         &[Step::Cut(1), Step::Cut(4), Step::Tie(WIRES, true, 0, 1, 6)],
         &[
             Look::Links(&[0, 2, 3, 5, 6]),
+            Look::Unbreeded(false, 1),
+            Look::Unbreeded(true, 1),
             Look::LinksOf(0, &[0, 2, 6]),
             Look::LinksOf(2, &[3, 5]),
             Look::DeadLink(1),
@@ -79,6 +83,8 @@ const STAR: &[Scene] = &[
         &[
             Look::Turtles(&[0, 1, 3, 4]),
             Look::Links(&[4, 5]),
+            Look::Unbreeded(false, 1),
+            Look::Unbreeded(true, 0),
             Look::LinksOf(0, &[4]),
             Look::LinksOf(1, &[5]),
             Look::LinksOf(3, &[5]),
@@ -115,6 +121,7 @@ const TURTLES_CLEARED: &[Scene] = &[
             Look::OfBreed(FOXES, &[]),
             Look::On(HERE, &[]),
             Look::Links(&[]),
+            Look::Unbreeded(false, 0),
             Look::DeadTurtle(0),
             Look::DeadTurtle(1),
             Look::DeadLink(0),
@@ -133,6 +140,7 @@ const TURTLES_CLEARED: &[Scene] = &[
             Look::Turtles(&[2, 3]),
             Look::OfBreed(FOXES, &[2]),
             Look::Links(&[1]),
+            Look::Unbreeded(false, 1),
             Look::LinksOf(3, &[1]),
             Look::Base(2),
         ],
@@ -159,10 +167,12 @@ const LINKS_CLEARED: &[Scene] = &[
             Step::Bear(0, HERE, None, 1),
             Step::Tie(ROPES, false, 0, 1, 0),
             Step::Tie(WIRES, true, 1, 0, 1),
+            Step::Tie(0, true, 1, 0, 2),
             Step::ClearLinks,
         ],
         &[
             Look::Links(&[]),
+            Look::Unbreeded(true, 0),
             Look::LinksOf(0, &[]),
             Look::DeadLink(0),
             Look::DeadLink(1),
@@ -171,8 +181,8 @@ const LINKS_CLEARED: &[Scene] = &[
         ],
     ),
     (
-        &[Step::Tie(ROPES, false, 0, 1, 2)],
-        &[Look::Links(&[2]), Look::Link(2, ROPES, false, 0, 1)],
+        &[Step::Tie(ROPES, false, 0, 1, 3)],
+        &[Look::Links(&[3]), Look::Link(3, ROPES, false, 0, 1)],
     ),
 ];
 

@@ -57,6 +57,8 @@ pub(crate) enum Look {
     On(Place, &'static [u64]),
     Links(&'static [u64]),
     LinksOf(u64, &'static [u64]),
+    /// How many links of no breed have a direction, or have none.
+    Unbreeded(bool, usize),
     /// The breed and the place of a turtle.
     Turtle(u64, u32, Place),
     /// The breed of a link, whether it has a direction, and its ends.
@@ -96,8 +98,12 @@ pub(crate) struct Tried<S: Store> {
 impl<S: Store> Tried<S> {
     /// Stores of five by five patches around the origin that go on in x behind their sides. None at want of memory.
     pub(crate) fn new(alloc: Global, program: Program) -> Option<Tried<S>> {
+        Tried::of(alloc, program, Shape::new(-2, 2, -2, 2, true, false)?)
+    }
+
+    /// Stores of a shape. None at want of memory.
+    pub(crate) fn of(alloc: Global, program: Program, shape: Shape) -> Option<Tried<S>> {
         let layout = Layout::of(alloc, &program).ok()?;
-        let shape = Shape::new(-2, 2, -2, 2, true, false)?;
         let store = S::new(alloc, &layout, shape).ok()?;
         let aside = S::new(alloc, &layout, shape).ok()?;
         Some(Tried {

@@ -8,4 +8,4 @@ use Rattle.nl_plain.proofs.plain.PlainStore.cut.Goals as goal
 pub invariant_of-self : goal.invariant_of-self
 invariant_of-self c =
     let w = world_in c.args.self.now in
-    record { stands = subst IsWorld (sym (ap (with_links w) c.remove_link.ensures)) (cut_is_world c.args.link w c.args.self.now.stands) }
+    record { stands = subst IsWorld (sym (ap (with_links w) c.remove.ensures)) (cut_is_world c.args.link w c.args.self.now.stands) }

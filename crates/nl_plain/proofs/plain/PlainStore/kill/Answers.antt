@@ -8,4 +8,4 @@ use Rattle.nl_plain.proofs.plain.PlainStore.kill.Goals as goal
 pub invariant_of-self : goal.invariant_of-self
 invariant_of-self c =
     let w = world_in c.args.self.now in
-    record { stands = subst IsWorld (sym (ap₂ (with_agents w) c.remove_turtle.ensures c.remove_links_of.ensures)) (killed_is_world c.args.turtle w c.args.self.now.stands) }
+    record { stands = subst IsWorld (sym (ap₂ (with_agents w) c.remove_turtle.ensures c.remove_of.ensures)) (killed_is_world c.args.turtle w c.args.self.now.stands) }

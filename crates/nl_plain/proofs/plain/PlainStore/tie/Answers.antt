@@ -15,6 +15,6 @@ invariant_of-self-2 c =
     let room = room_for_links w (subst (λ (n : ℕ). n < 400_000) c.link_count.ensures c.if-link_count-ge-MOST_LINKS.false) c.if-self-ge-MOST_SERIALS.false in
     record {
       stands = subst IsWorld
-          (sym (ap (with_ties w) (c.in_ok-push.ensures.items ∙ ap (λ (vars : Vars). w.rest.links ++ link vars ∷ []) c.in_ok-vars.ensures)))
+          (sym (ap (with_ties w) (c.in_ok-push.ensures.ok ∙ ap (λ (vars : Vars). w.rest.links ++ link vars ∷ []) c.in_ok-vars.ensures)))
           (tied_is_world c.args.breed c.args.directed c.args.end1 c.args.end2 w c.args.self.now.stands c.requires.breed c.requires.first c.requires.second c.requires.apart c.requires.none room);
     }

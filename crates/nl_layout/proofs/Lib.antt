@@ -1,0 +1,5 @@
+pub mod Ascending
+pub mod Collected
+pub mod OwnedRows
+pub mod Placing
+pub mod SlotNames

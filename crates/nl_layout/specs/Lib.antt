@@ -1,0 +1,5 @@
+pub mod BuiltIn
+pub mod Layouts
+pub mod Nouns
+pub mod SlotLaws
+pub mod inner

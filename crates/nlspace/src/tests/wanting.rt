@@ -1,0 +1,99 @@
+//! Stores to which memory is refused: a call that is refused leaves the store as it was.
+//!
+//! With ample memory each call is made. Where `rt try --test --fail-alloc` has one allocation fail, the call was made whole or not at all.
+
+use crate::tests::trial_model::{FOXES, OWLS, ROPES, WIRES, program};
+use crate::tests::trials::{Look, Step, Tried, Wanted};
+use nl_agents::{Owner, Store};
+use nl_plain::Plain;
+use std::alloc::Global;
+use std::process::Abort;
+
+const HERE: (i64, i64) = (0, 0);
+
+const ZERO: Wanted = Wanted::Number(0);
+
+const FIRST: &[Step] = &[
+    Step::Bear(FOXES, HERE, None, 0),
+    Step::Bear(0, (10, 0), None, 1),
+    Step::Tie(WIRES, true, 0, 1, 0),
+    Step::Set(Owner::Turtle(0), "den", 30, ZERO),
+];
+
+// What is true before a call that may be refused. No answer takes memory.
+const BEFORE: &[Look] = &[
+    Look::Turtle(0, FOXES, HERE),
+    Look::Turtle(1, 0, (10, 0)),
+    Look::Unbreeded(false, 0),
+    Look::Link(0, WIRES, true, 0, 1),
+    Look::Holds(Owner::Turtle(0), "den", Wanted::Number(30)),
+    Look::DeadTurtle(2),
+    Look::DeadLink(1),
+];
+
+// A call, and what is true after it.
+type Trial = (Step, &'static [Look]);
+
+const TRIALS: &[Trial] = &[
+    (
+        Step::Bear(OWLS, HERE, None, 2),
+        &[Look::Turtle(2, OWLS, HERE), Look::DeadTurtle(3)],
+    ),
+    (
+        Step::Bear(FOXES, HERE, Some(0), 2),
+        &[
+            Look::Turtle(2, FOXES, HERE),
+            Look::Holds(Owner::Turtle(2), "den", Wanted::Number(30)),
+        ],
+    ),
+    (
+        Step::Tie(ROPES, false, 1, 0, 1),
+        &[Look::Link(1, ROPES, false, 1, 0), Look::DeadLink(2)],
+    ),
+    (
+        Step::Tie(0, false, 0, 1, 1),
+        &[Look::Link(1, 0, false, 0, 1), Look::Unbreeded(false, 1)],
+    ),
+    (Step::Copy, BEFORE),
+];
+
+impl<S: Store> Tried<S> {
+    fn plays(&mut self, alloc: Global, steps: &[Step]) -> bool {
+        for step in steps {
+            if !self.play(alloc, *step) {
+                return false;
+            }
+        }
+        true
+    }
+}
+
+// A store with two turtles and a link. None at want of memory.
+fn begun<S: Store>(alloc: Global) -> Option<Tried<S>> {
+    let mut tried = Tried::new(alloc, program(alloc)?)?;
+    if !tried.plays(alloc, FIRST) {
+        return None;
+    }
+    Some(tried)
+}
+
+fn assert_whole<S: Store>(rt: &impl Abort, alloc: Global, call: Step, after: &[Look]) {
+    let Some(mut tried) = begun::<S>(alloc) else {
+        return;
+    };
+    let looks = if tried.play(alloc, call) {
+        after
+    } else {
+        BEFORE
+    };
+    for look in looks {
+        assert!(rt; tried.answers(alloc, *look), "{call:?}: {look:?}");
+    }
+}
+
+#[test]
+fn a_call_is_made_whole_or_not_at_all(rt: HostRuntime) {
+    for (call, after) in TRIALS {
+        assert_whole::<Plain>(&rt, rt.alloc(), *call, after);
+    }
+}
