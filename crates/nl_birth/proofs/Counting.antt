@@ -23,6 +23,7 @@ use Rattle.nl_agents.specs.declared.refusals.BearFail.TheVariants as bear
 use Rattle.nl_agents.proofs.Worlds.{turtle_by}
 use Rattle.nl_birth.specs.declared.looks.Looks.{Looks}
 use Rattle.nl_birth.specs.declared.failing.BirthFail.{BirthFail}
+use Rattle.nl_birth.specs.declared.failing.BirthFail.TheVariants.{TooMany, LinkFault, NoMemory}
 use Rattle.nl_birth.specs.Looks.{drawn_looks, looks_in_order, born_with}
 use Rattle.nl_birth.specs.Births.{Scene, turtle_room, drawn_birth, drawn_births, ordered_births, hatchings, origin}
 use Rattle.nl_birth.specs.Outcomes.{Outcome, Made, Filled, outcome_of, IsOutcome, IsCutShort, fail_of_bear}
@@ -142,12 +143,6 @@ all_filled after room first count k low high more =
     (false_from_ne_true (nat_le count room) (λ e. let l = leb-true count room e in omega (arith, l)))
     ∙ ap (λ n. Filled (after n)) same
 
--- where a birth was refused after k births
-pub refused_after : {X : Type 0} (after : ℕ → X) (room first count k : ℕ) (now : X) (fail : BearFail) → k ≤ room → k < count → (fail ≡ bear.Full → room ≤ k) → now ≡ after k
-    → IsOutcome (outcome_of after room first count) after (min count room) (Err (fail_of_bear fail)) now
-refused_after after room first count k now bear.Full low more full is = all_filled after room first count k low (full refl) more ∙ ap Filled (sym is)
-refused_after after room first count k now bear.NoMemory low more full is = record { made = k; few = omega arith; leaves = is }
-
 -- ---- so many were made
 
 -- k of them were made, and this is what that leaves
@@ -178,10 +173,6 @@ all_done after room first count now made h =
 
 pub cut_short : {X : Type 0} (after : ℕ → X) (room count k : ℕ) (now : X) → now ≡ after k → k ≤ count → k ≤ room → IsCutShort after (min count room) now
 cut_short after room count k now is few fit = record { made = k; few = omega arith; leaves = is }
-
-pub refused_then : {X : Type 0} (after : ℕ → X) (room first count k : ℕ) (now next : X) (made : Serials) (fail : BearFail) → IsSoFar after room first k now made → next ≡ now → k < count → (fail ≡ bear.Full → room ≤ k)
-    → IsOutcome (outcome_of after room first count) after (min count room) (Err (fail_of_bear fail)) next
-refused_then after room first count k now next made fail h same more full = refused_after after room first count k next fail h.fit more full (same ∙ h.leaves)
 
 -- ---- each of the births
 
@@ -225,6 +216,33 @@ pub exits : {X : Type 0} (outcome : Outcome X) (after : ℕ → X) (most : ℕ) 
 exits outcome after most now r fail e h =
     let p = err_from_is_err_and r e in
     subst (λ x. IsOutcome outcome after most x now) (sym (p.1 ∙ ap Err p.2)) h
+
+-- why no more was made: for a full store there was no more room
+abbrev pub Explains : BirthFail → (room k : ℕ) → Type 0
+Explains TooMany room k = room ≤ k
+Explains LinkFault room k = ⊥
+Explains NoMemory room k = Unit {0}
+
+-- so a call ends where one more was refused after k of them, and nothing is changed
+pub ends_refused : {X : Type 0} (after : ℕ → X) (room first count k : ℕ) (now next : X) (made : Serials) (r : Result Serials BirthFail) (fail : BirthFail) → IsErrAnd r (λ mine. mine ≡ fail)
+    → IsSoFar after room first k now made → next ≡ now → k < count → Explains fail room k → IsOutcome (outcome_of after room first count) after (min count room) r next
+ends_refused after room first count k now next made r fail e h same more why =
+    exits (outcome_of after room first count) after (min count room) next r fail e (by fail why)
+  where
+    by : (fail : BirthFail) → Explains fail room k → IsOutcome (outcome_of after room first count) after (min count room) (Err fail) next
+    by TooMany full = all_filled after room first count k h.fit full more ∙ ap Filled (sym (same ∙ h.leaves))
+    by LinkFault none = absurd none
+    by NoMemory free = let fit = h.fit in record { made = k; few = omega (arith, more, fit); leaves = same ∙ h.leaves }
+
+-- and so where one more was made, and memory was refused for its serial
+pub ends_made : {X : Type 0} (after : ℕ → X) (room first count k : ℕ) (next : X) (r : Result Serials BirthFail) → IsErrAnd r (λ mine. mine ≡ NoMemory) → next ≡ after (suc k) → k < count → suc k ≤ room
+    → IsOutcome (outcome_of after room first count) after (min count room) r next
+ends_made after room first count k next r e step more fit =
+    exits (outcome_of after room first count) after (min count room) next r NoMemory e (cut_short after room count (suc k) next step (omega (arith, more)) fit)
+
+pub bear_explained : (fail : BearFail) (room k : ℕ) → (fail ≡ bear.Full → room ≤ k) → Explains (fail_of_bear fail) room k
+bear_explained bear.Full room k h = h refl
+bear_explained bear.NoMemory room k h = tt
 
 pub ok_not_full : {T E : Type 0} (x : T) (y : E) (full : Type 0) → (full → Ok x ≡ Err y) → full → ⊥
 ok_not_full x y full h f = let e = h f in cc

@@ -1,24 +1,23 @@
 -- Who is joined with a caller: what is found link by link is what a look over all links says.
-use Rattle.std.specs.Prelude.{◌≡◌, ℕ, ◌+◌, ◌<◌, ◌≤◌, ◌==◌, Bool, true, false, ◌&&◌, ◌||◌, not, cond, List, [], ◌∷◌, ◌++◌, map, filter, take, length, min, max, Option, Some, None, is_some, option_map, All}
+use Rattle.std.specs.Prelude.{◌≡◌, ℕ, ◌+◌, ◌<◌, ◌≤◌, ◌==◌, suc, nat_lt, if◌then◌else◌, Bool, true, false, ◌&&◌, ◌||◌, cond, List, [], ◌∷◌, ◌++◌, map, filter, take, length, min, max, Option, Some, None, is_some, All}
 use Rattle.std.specs.List.{list_any, Contains, dedup}
 use Rattle.std.specs.Option.{option_and_then}
 use Rattle.std.proofs.Common.{arith, ap, ap₂, ◌∙◌, sym, refl, subst, get_or, eqb, Vec, Global}
-use Rattle.std.specs.Bool.{beq}
-use Rattle.std.proofs.lemmas.Bool.{cond_both, eq-eqb, eqb-true, ne_eqb}
+use Rattle.std.proofs.lemmas.Bool.{cond_both, eq-eqb, eqb-true, le-leb}
 use Rattle.std.proofs.lemmas.Bool.Decides.{same_from_decides, nat_tests}
-use Rattle.std.proofs.lemmas.Option.{slice_get-get_or, none-some, same_Some}
-use Rattle.std.proofs.lemmas.List.{take_more, take_all, get_or_default}
+use Rattle.std.proofs.lemmas.Option.{slice_get-get_or}
+use Rattle.std.proofs.lemmas.List.{take_more, take_all}
 use Rattle.std.proofs.lemmas.List.Elements.{All-head, All-tail, All-map, All-filter, All-weaker}
-use Rattle.std.proofs.lemmas.List.Folds.{Any-from_list_any, list_any-from_Any, list_any_more}
+use Rattle.std.proofs.lemmas.List.Folds.{Any-from_list_any, list_any-from_Any}
 use Rattle.std.proofs.lemmas.List.Kept.{Contains-from_dedup, Contains-dedup_nat}
 use Rattle.nl_layout.specs.Nouns.{BreedNumber}
 use Rattle.nl_agents.specs.World.{Rest, World}
 use Rattle.nl_agents.specs.Changes.{link_of, LinkLives, joins, has_end}
-use Rattle.nl_agents.specs.Members.{links_where, all_links, is_listed}
+use Rattle.nl_agents.specs.Members.{links_where, is_listed}
 use Rattle.nl_agents.specs.Standing.{IsWorld}
 use Rattle.nl_agents.specs.declared.agents.Link.{Link}
 use Rattle.nl_agents.proofs.Keyed.{found_at}
-use Rattle.nl_birth.specs.Links.{has_direction, first_end, second_end, is_joined, is_of_other_kind}
+use Rattle.nl_birth.specs.Links.{has_direction, first_end, second_end, is_joined}
 use Rattle.nl_birth.specs.declared.way.Way.{Way}
 use Rattle.nl_birth.specs.declared.way.Way.TheVariants.{With, To, From}
 use Rattle.nl_birth.specs.inner.Partners.{other_end, is_alike, partner, with_some, collected}
@@ -41,11 +40,6 @@ pub all_live : (test : Link → Bool) (w : World) → IsWorld w → All (λ seri
 all_live test w h =
     All-map (λ serial. LinkLives serial w) (λ (l : Link). l.serial) (filter test w.rest.links)
     (All-filter test (λ l. LinkLives l.serial w) w.rest.links (All-weaker (IsFoundIn w.rest) (λ l. LinkLives l.serial w) (λ l e. ap is_some e) w.rest.links (all_found w h)))
-
-pub all_linked_live : (w : World) → IsWorld w → All (λ serial. LinkLives serial w) (all_links w.rest)
-all_linked_live w h =
-    All-map (λ serial. LinkLives serial w) (λ (l : Link). l.serial) w.rest.links
-    (All-weaker (IsFoundIn w.rest) (λ l. LinkLives l.serial w) (λ l e. ap is_some e) w.rest.links (all_found w h))
 
 -- ---- what is collected
 
@@ -178,43 +172,11 @@ items_alike v u xs e h = ap (λ (x : Vec ℕ Global). x.items) e ∙ h
 
 -- ---- kinds of links
 
--- the link is there and passes the test
-abbrev pub passes : (Link → Bool) → Option Link → Bool
-passes test None = false
-passes test (Some l) = test l
-
-pub passes_by_links : (test : Link → Bool) (r : Rest) (ls : List Link) → All (IsFoundIn r) ls → list_any (λ s. passes test (link_of s r)) (map (λ (l : Link). l.serial) ls) ≡ list_any test ls
-passes_by_links test r [] h = refl
-passes_by_links test r (l ∷ ls) h =
-    ap₂ (λ x y. x || y) (ap (passes test) (All-head (IsFoundIn r) l ls h)) (passes_by_links test r ls (All-tail (IsFoundIn r) l ls h))
-
-pub passes_of : (test : Link → Bool) (w : World) (serials : List ℕ) → IsWorld w → serials ≡ all_links w.rest → list_any (λ s. passes test (link_of s w.rest)) serials ≡ list_any test w.rest.links
-passes_of test w serials h e = ap (list_any (λ s. passes test (link_of s w.rest))) e ∙ passes_by_links test w.rest w.rest.links (all_found w h)
-
-pub kind_of : (directed : Bool) (o : Option Link) (b : ℕ) (d : Bool) → option_map (λ l. l.breed) o ≡ Some b → option_map (λ l. l.directed) o ≡ Some d → passes (is_of_other_kind directed) o ≡ ((b == 0) && cond directed (not d) d)
-kind_of directed None b d p q = absurd (none-some b p)
-kind_of directed (Some l) b d p q = ap₂ (λ x y. (x == 0) && cond directed (not y) y) (same_Some l.breed b p) (same_Some l.directed d q)
-
-pub more_pass : (test : ℕ → Bool) (xs : List ℕ) (i : ℕ) (b : Bool) → i < length xs → list_any test (take i xs) ≡ false → test (get_or xs i 0) ≡ b → list_any test (take (i + 1) xs) ≡ b
-more_pass test xs i b l e h = list_any_more test xs i 0 l ∙ ap₂ (λ x y. x || y) e h
-
-pub some_pass : (test : ℕ → Bool) (xs : List ℕ) (i : ℕ) → i < length xs → test (get_or xs i 0) ≡ true → list_any test xs ≡ true
-some_pass test xs i l h = list_any-from_Any test xs (i, get_or xs i 0, l, get_or_default xs i (get_or xs i 0) 0 l, h)
-
-pub none_pass : (test : ℕ → Bool) (xs : List ℕ) (i : ℕ) → length xs ≤ i → list_any test (take i xs) ≡ false → list_any test xs ≡ false
-none_pass test xs i l e = ap (list_any test) (sym (take_all i xs l)) ∙ e
-
-other_kind : (directed d : Bool) → not (beq d directed) ≡ cond directed (not d) d
-other_kind true true = refl
-other_kind true false = refl
-other_kind false true = refl
-other_kind false false = refl
-
-pub kind_found : (directed d : Bool) (b : ℕ) → b ≡ 0 → not (beq d directed) ≡ true → ((b == 0) && cond directed (not d) d) ≡ true
-kind_found directed d b p q = ap₂ (λ x y. x && y) (eq-eqb b 0 p) (sym (other_kind directed d) ∙ q)
-
-pub kind_same : (directed d : Bool) (b : ℕ) → not (beq d directed) ≡ false → ((b == 0) && cond directed (not d) d) ≡ false
-kind_same directed d b q = ap (λ y. (b == 0) && y) (sym (other_kind directed d) ∙ q) ∙ no_and (b == 0)
-
-pub kind_bred : (directed d : Bool) (b : ℕ) → (b ≡ 0 → ⊥) → ((b == 0) && cond directed (not d) d) ≡ false
-kind_bred directed d b h = ap (λ x. x && cond directed (not d) d) (ne_eqb b 0 h)
+-- one passes exactly where the count of those that pass isn't 0
+pub any_counted : {X : Type 0} (test : X → Bool) (xs : List X) → nat_lt 0 (length (filter test xs)) ≡ list_any test xs
+any_counted test [] = refl
+any_counted test (x ∷ xs) = by (test x) (any_counted test xs)
+  where
+    by : (b : Bool) → nat_lt 0 (length (filter test xs)) ≡ list_any test xs → nat_lt 0 (length (if b then x ∷ filter test xs else filter test xs)) ≡ (b || list_any test xs)
+    by true later = le-leb 1 (suc (length (filter test xs))) (omega arith)
+    by false later = later

@@ -20,8 +20,8 @@ use Rattle.nl_agents.specs.declared.refusals.TieFail.TheVariants as tie
 use Rattle.nl_birth.specs.declared.way.Way.{Way}
 use Rattle.nl_birth.specs.declared.way.Way.TheVariants.{With, To, From}
 use Rattle.nl_birth.specs.Links.{has_direction, first_end, second_end, is_joined, tied_to, tied_to_all, first_ties, linkings, wanted, link_room}
-use Rattle.nl_birth.specs.Outcomes.{Filled, outcome_of, IsOutcome, IsCutShort, fail_of_tie}
-use Rattle.nl_birth.proofs.Counting.{IsSoFar, all_filled}
+use Rattle.nl_birth.specs.Outcomes.{IsCutShort, fail_of_tie}
+use Rattle.nl_birth.proofs.Counting.{IsSoFar, Explains}
 
 -- ---- what so many links keep
 
@@ -165,11 +165,9 @@ more_link_room w now k h room =
     let below : now.rest.links_given < 9000000000000 = omega (arith, λ (l : 9000000000000 ≤ now.rest.links_given). room (inr l)) in
     omega (arith, fewer, below, many, given)
 
--- where a link was refused after k links
-pub tie_refused : {X : Type 0} (after : ℕ → X) (room first count k : ℕ) (now next : X) (made : Serials) (fail : TieFail) → IsSoFar after room first k now made → next ≡ now → k < count → (fail ≡ tie.Full → room ≤ k)
-    → IsOutcome (outcome_of after room first count) after (min count room) (Err (fail_of_tie fail)) next
-tie_refused after room first count k now next made tie.Full h same more full = all_filled after room first count k h.fit (full refl) more ∙ ap Filled (sym (same ∙ h.leaves))
-tie_refused after room first count k now next made tie.NoMemory h same more full = let fit = h.fit in record { made = k; few = omega arith; leaves = same ∙ h.leaves }
+pub tie_explained : (fail : TieFail) (room k : ℕ) → (fail ≡ tie.Full → room ≤ k) → Explains (fail_of_tie fail) room k
+tie_explained tie.Full room k h = h refl
+tie_explained tie.NoMemory room k h = tt
 
 -- ---- what is wanted
 

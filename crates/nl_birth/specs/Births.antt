@@ -84,10 +84,13 @@ creations true breed count s = ordered_scenes breed count s
 abbrev pub created : Bool → BreedNumber → ℤ → Scene → Outcome Scene
 created ordered breed number s = turtles_born (creations ordered breed (count_of number) s) s.world (count_of number)
 
+-- what each number of turtles that sprout on a patch leaves
+abbrev pub sproutings : ℕ → BreedNumber → Scene → ℕ → Scene
+sproutings patch breed s = drawn_births breed (center_of s.world.rest.shape patch) s
+
 -- `sprout`: at the center of the patch
 abbrev pub sprouted : ℕ → BreedNumber → ℤ → Scene → Outcome Scene
-sprouted patch breed number s =
-    turtles_born (drawn_births breed (center_of s.world.rest.shape patch) s) s.world (count_of number)
+sprouted patch breed number s = turtles_born (sproutings patch breed s) s.world (count_of number)
 
 -- `hatch`: where the parent stands, with its variables
 abbrev pub hatched : ℕ → BreedNumber → ℤ → World → Outcome World

@@ -1,11 +1,11 @@
 -- The making of links between a turtle and targets: which are made, which ends they have, and where none may be made.
-use Rattle.std.specs.Prelude.{ℕ, ◌-◌, ◌==◌, Bool, true, false, ◌&&◌, ◌||◌, not, if◌then◌else◌, [], ◌∷◌, length, filter, take, min, max}
+use Rattle.std.specs.Prelude.{◌≡◌, All, ℕ, ◌-◌, ◌==◌, Bool, true, false, ◌&&◌, ◌||◌, not, if◌then◌else◌, [], ◌∷◌, length, filter, take, min, max}
 use Rattle.std.specs.List.{list_any}
 use Rattle.nl_value.specs.Nouns.{Serials}
 use Rattle.nl_layout.specs.Nouns.{BreedNumber}
 use Rattle.nl_agents.specs.World.{World}
 use Rattle.nl_agents.specs.Changes.{joins, tied}
-use Rattle.nl_agents.specs.Members.{is_listed}
+use Rattle.nl_agents.specs.Members.{is_listed, is_unbreeded}
 use Rattle.nl_agents.specs.declared.agents.Link.{Link}
 use Rattle.nl_birth.specs.Outcomes.{Outcome, Refused, outcome_of}
 use Rattle.nl_birth.specs.declared.way.Way.{Way}
@@ -37,6 +37,10 @@ abbrev pub is_joined : Way → BreedNumber → (caller : ℕ) → World → (tar
 is_joined way breed caller w target =
     list_any (joins breed (has_direction way) (first_end way caller target) (second_end way caller target)) w.rest.links
 
+-- none of the targets is joined with the caller already
+abbrev pub AreFree : Way → BreedNumber → (caller : ℕ) → World → Serials → Type 0
+AreFree way breed caller w = All (λ target. is_joined way breed caller w target ≡ false)
+
 -- the targets to which a link is to be made
 abbrev pub wanted : Way → BreedNumber → (caller : ℕ) → Serials → World → Serials
 wanted way breed caller targets w = filter (λ target. not (is_joined way breed caller w target)) targets
@@ -66,7 +70,7 @@ is_none (t ∷ ts) = false
 
 -- the link is of no breed, and has a direction where links without one are to be made, or none where links with one are
 abbrev pub is_of_other_kind : Bool → Link → Bool
-is_of_other_kind directed l = (l.breed == 0) && (if directed then not l.directed else l.directed)
+is_of_other_kind directed = is_unbreeded (not directed)
 
 -- The caller is a target; or a link of no breed is to be made, and one of the other kind lives.
 abbrev pub is_refused : Way → BreedNumber → (caller : ℕ) → Serials → World → Bool
@@ -75,6 +79,10 @@ is_refused way breed caller targets w =
     || ((breed == 0) && not (is_none (wanted way breed caller targets w)) && list_any (is_of_other_kind (has_direction way)) w.rest.links)
 
 -- ---- the words
+
+-- Links to a number of targets: all are made, or as many as there is room for.
+abbrev pub links_made : (ℕ → World) → World → ℕ → Outcome World
+links_made after w count = outcome_of after (link_room w) w.rest.links_given count
 
 -- what so many links leave, of those that are to be made
 abbrev pub linkings : Way → BreedNumber → (caller : ℕ) → Serials → World → ℕ → World
@@ -85,7 +93,7 @@ abbrev pub linked : Way → BreedNumber → (caller : ℕ) → Serials → World
 linked way breed caller targets w =
     if is_refused way breed caller targets w
     then Refused w
-    else outcome_of (linkings way breed caller targets w) (link_room w) w.rest.links_given (length (wanted way breed caller targets w))
+    else links_made (linkings way breed caller targets w) w (length (wanted way breed caller targets w))
 
 -- how many of them are made at the most, also where memory is refused on the way: none where none may be made
 abbrev pub most_links : Way → BreedNumber → (caller : ℕ) → Serials → World → ℕ

@@ -7,7 +7,7 @@ use Rattle.nl_value.specs.Plain.{PlainNumber}
 use Rattle.nl_value.specs.Colors.{primary_numbers}
 use Rattle.nl_grid.specs.declared.point.Point.{Point}
 use Rattle.nl_draw.specs.Stream.{drawn}
-use Rattle.nl_layout.specs.Nouns.{BreedNumber}
+use Rattle.nl_layout.specs.Nouns.{BreedNumber, Slot}
 use Rattle.nl_layout.specs.BuiltIn.{color_slot, heading_slot}
 use Rattle.nl_agents.specs.World.{World}
 use Rattle.nl_agents.specs.Changes.{born, revalued}
@@ -33,11 +33,13 @@ heading_in_order count index = int_rem_euclid (rounded_quotient (pos (360 * one 
 unfoldable pub looks_in_order : ℕ → ℕ → Looks
 looks_in_order count index = record { color = primary (index % 14); heading = heading_in_order count index }
 
+-- a variable of the turtle becomes the number, where the turtle owns it
+abbrev pub numbered : ℕ → Slot → ℤ → World → World
+numbered turtle slot number = revalued (owner.Turtle turtle) slot (PlainNumber number)
+
 -- the turtle has these looks, as far as it owns what they are kept in
 abbrev pub dressed : ℕ → Looks → World → World
-dressed turtle looks w =
-    revalued (owner.Turtle turtle) heading_slot (PlainNumber looks.heading)
-    (revalued (owner.Turtle turtle) color_slot (PlainNumber looks.color) w)
+dressed turtle looks w = numbered turtle heading_slot looks.heading (numbered turtle color_slot looks.color w)
 
 -- a turtle more, of no parent and with these looks
 abbrev pub born_with : BreedNumber → Point → Looks → World → World

@@ -9,7 +9,7 @@ ghost use Rattle.nl_grid.specs.Geometry.{IsPointOf, center_of, patches_of};
 ghost use Rattle.nl_layout.specs.Layouts.{is_turtle_breed};
 ghost use Rattle.nl_agents.specs.Changes.{TurtleLives, AreTurtlesFull};
 ghost use Rattle.nl_birth.specs.Looks.{drawn_looks, born_with};
-ghost use Rattle.nl_birth.specs.Births.{Scene, count_of, turtle_room, drawn_births, ordered_births, hatchings, turtles_born, creations, created, sprouted, hatched, place_of, origin};
+ghost use Rattle.nl_birth.specs.Births.{Scene, count_of, turtle_room, drawn_births, ordered_births, hatchings, turtles_born, creations, created, sproutings, sprouted, hatched, place_of, origin};
 ghost use Rattle.nl_birth.specs.Outcomes.{IsOutcome};
 
 use crate::failing::BirthFail;
@@ -58,7 +58,8 @@ fn bear_drawn<S: Store>(
     requires breed { IsTrue (is_turtle_breed (S.world store.old).rest.layout breed) }
     requires at { IsPointOf (S.world store.old).rest.shape at.now }
     ensures serial { IfOk result (λ serial. serial ≡ (S.world store.old).rest.turtles_given) }
-    ensures born { OnOk result (S.world store.new ≡ born_with breed at.now (drawn_looks stream.old).0 (S.world store.old)) }
+    ensures born { let looks = (drawn_looks stream.old).0 in
+        OnOk result (S.world store.new ≡ born_with breed at.now looks (S.world store.old)) }
     ensures drawn { OnOk result (stream.new ≡ (drawn_looks stream.old).1) }
     ensures kept { OnErr result (S.world store.new ≡ S.world store.old) }
     ensures undrawn { OnErr result (stream.new ≡ stream.old) }
@@ -104,7 +105,8 @@ fn bear_all_drawn<S: Store>(
     ensures { let scene : Scene = record { world = S.world store.old; stream = stream.old } in
         let now : Scene = record { world = S.world store.new; stream = stream.new } in
         let after = drawn_births breed at.now scene in
-        IsOutcome (turtles_born after scene.world count) after (min count (turtle_room scene.world)) result now }
+        let w = scene.world in
+        IsOutcome (turtles_born after w count) after (min count (turtle_room w)) result now }
 {
     let mut made = Serials::empty(alloc);
     for _index in 0..count {
@@ -200,7 +202,7 @@ pub fn sprout<S: Store>(
     requires breed { IsTrue (is_turtle_breed (S.world store.old).rest.layout breed) }
     ensures { let scene : Scene = record { world = S.world store.old; stream = stream.old } in
         let now : Scene = record { world = S.world store.new; stream = stream.new } in
-        IsOutcome (sprouted patch breed count scene) (drawn_births breed (center_of scene.world.rest.shape patch) scene)
+        IsOutcome (sprouted patch breed count scene) (sproutings patch breed scene)
         (min (count_of count) (turtle_room scene.world)) result now }
 {
     let at = store.shape().center(patch);
@@ -219,8 +221,8 @@ pub fn hatch<S: Store>(
     requires parent { TurtleLives parent (S.world store.old) }
     requires breed { IsTrue (is_turtle_breed (S.world store.old).rest.layout breed) }
     ensures { let w = S.world store.old in
-        IsOutcome (hatched parent breed count w) (hatchings breed parent (place_of parent w) w) (min (count_of count) (turtle_room w)) result
-        (S.world store.new) }
+        IsOutcome (hatched parent breed count w) (hatchings breed parent (place_of parent w) w)
+        (min (count_of count) (turtle_room w)) result (S.world store.new) }
 {
     let at = store.at(parent);
     bear_all_of(alloc, store, parent, &at, breed, count_of(count))

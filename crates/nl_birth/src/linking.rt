@@ -9,9 +9,9 @@ ghost use Rattle.std.specs.Option.{option_and_then};
 ghost use Rattle.nl_layout.specs.Layouts.{is_link_breed};
 ghost use Rattle.nl_agents.specs.Changes.{link_of, TurtleLives, LinkLives};
 ghost use Rattle.nl_agents.specs.Members.{is_listed};
-ghost use Rattle.nl_birth.specs.Links.{is_joined, wanted, is_of_other_kind, first_ties, link_room, linkings, linked, most_links};
-ghost use Rattle.nl_birth.specs.Outcomes.{outcome_of, IsOutcome};
-ghost use Rattle.nl_birth.specs.inner.Partners.{other_end, partner};
+ghost use Rattle.nl_birth.specs.Links.{AreFree, wanted, is_of_other_kind, first_ties, links_made, link_room, linkings, linked, most_links};
+ghost use Rattle.nl_birth.specs.Outcomes.{IsOutcome};
+ghost use Rattle.nl_birth.specs.inner.Partners.{other_end, partner, ArePartners};
 
 use crate::failing::BirthFail;
 use crate::way::Way;
@@ -70,7 +70,7 @@ fn partners<S: Store, L: Ledger>(
     requires parts { blank.parts ≡ L.parts }
     requires some { 0 < blank.parts }
     requires caller { TurtleLives caller (S.world store.now) }
-    ensures { IfOk result (λ others. (target : ℕ) → is_listed others target ≡ is_joined way breed caller (S.world store.now) target) }
+    ensures { IfOk result (ArePartners way breed caller (S.world store.now)) }
 {
     let _shape = store.shape();
     let mut links = Serials::empty(alloc);
@@ -94,7 +94,8 @@ fn wanted<S: Store>(
     targets: &Serials,
 ) -> Result<Vec<u64>, NoMemory>
     requires caller { TurtleLives caller (S.world store.now) }
-    ensures list { IfOk result (λ list. list.items ≡ wanted way breed caller targets.now (S.world store.now)) }
+    ensures list { let all = wanted way breed caller targets.now (S.world store.now) in
+        IfOk result (λ list. list.items ≡ all) }
     ensures ascending { IfOk result (λ list. IsStrictlyIncreasing list.items) }
 {
     let others = partners::<S, Brand>(alloc, Blank::new(1), store, way, breed, caller)?;
@@ -108,27 +109,10 @@ fn wanted<S: Store>(
 }
 
 /// Whether a link of no breed and of the other kind lives than those that have a direction, or have none.
-fn other_kind_lives<S: Store, L: Ledger>(
-    alloc: Global,
-    blank: Blank,
-    store: &S,
-    directed: bool,
-) -> Result<bool, NoMemory>
-    requires name { blank.name ≡ L.name }
-    requires parts { blank.parts ≡ L.parts }
-    requires some { 0 < blank.parts }
-    ensures { IfOk result (λ lives. lives ≡ list_any (is_of_other_kind directed) (S.world store.now).rest.links) }
+fn other_kind_lives<S: Store>(store: &S, directed: bool) -> bool
+    ensures { result ≡ list_any (is_of_other_kind directed) (S.world store.now).rest.links }
 {
-    let _shape = store.shape();
-    let mut links = Serials::empty(alloc);
-    store.links(alloc, &mut links, &mut Steps::<L>::new(blank))?;
-    for link in links.as_slice() {
-        let (breed, is_directed) = store.link_breed(*link);
-        if breed == 0 && is_directed != directed {
-            return Ok(true);
-        }
-    }
-    Ok(false)
+    store.unbreeded_count(!directed) > 0
 }
 
 /// A link of the caller is made to each of the targets, none of which is joined with it.
@@ -145,11 +129,11 @@ fn tie_all<S: Store>(
     requires ascending { IsStrictlyIncreasing targets.now }
     requires targets { All (λ target. TurtleLives target (S.world store.old)) targets.now }
     requires apart { is_listed targets.now caller ≡ false }
-    requires free { All (λ target. is_joined way breed caller (S.world store.old) target ≡ false) targets.now }
+    requires free { AreFree way breed caller (S.world store.old) targets.now }
     ensures { let w = S.world store.old in
         let after = first_ties way breed caller targets.now w in
         let most = length targets.now in
-        IsOutcome (outcome_of after (link_room w) w.rest.links_given most) after (min most (link_room w)) result (S.world store.new) }
+        IsOutcome (links_made after w most) after (min most (link_room w)) result (S.world store.new) }
 {
     let mut made = Serials::empty(alloc);
     for target in targets {
@@ -178,17 +162,14 @@ pub fn link<S: Store>(
     requires caller { TurtleLives caller (S.world store.old) }
     requires targets { All (λ target. TurtleLives target (S.world store.old)) targets.now }
     ensures { let w = S.world store.old in
-        IsOutcome (linked way breed caller targets.now w) (linkings way breed caller targets.now w) (most_links way breed caller targets.now w)
-        result (S.world store.new) }
+        IsOutcome (linked way breed caller targets.now w) (linkings way breed caller targets.now w)
+        (most_links way breed caller targets.now w) result (S.world store.new) }
 {
     if targets.contains(caller) {
         return Err(BirthFail::LinkFault);
     }
     let wanted = wanted(alloc, store, way, breed, caller, targets)?;
-    if breed == 0
-        && !wanted.is_empty()
-        && other_kind_lives::<S, Brand>(alloc, Blank::new(1), store, way.has_direction())?
-    {
+    if breed == 0 && !wanted.is_empty() && other_kind_lives(store, way.has_direction()) {
         return Err(BirthFail::LinkFault);
     }
     tie_all(alloc, store, breed, way, caller, &wanted)

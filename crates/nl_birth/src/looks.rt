@@ -4,7 +4,7 @@ ghost use Rattle.nl_fixed.specs.Numbers.{whole_limit};
 ghost use Rattle.nl_value.specs.Plain.{PlainNumber};
 ghost use Rattle.nl_agents.specs.Changes.{TurtleLives, revalued};
 ghost use Rattle.nl_agents.specs.declared.agents.Owner.TheVariants as owner;
-ghost use Rattle.nl_birth.specs.Looks.{drawn_looks, looks_in_order, dressed};
+ghost use Rattle.nl_birth.specs.Looks.{drawn_looks, looks_in_order, numbered, dressed};
 
 use nl_agents::{COLOR, HEADING, Owner, Store};
 use nl_draw::Stream;
@@ -49,7 +49,7 @@ pub(crate) fn looks_in_order(count: u64, index: u64) -> Looks
 /// Sets a variable of a turtle to a number, where the turtle owns it.
 fn set_number<S: Store>(store: &mut S, turtle: u64, slot: u32, number: Num)
     requires { TurtleLives turtle (S.world store.old) }
-    ensures { S.world store.new ≡ revalued (owner.Turtle turtle) slot (PlainNumber number) (S.world store.old) }
+    ensures { S.world store.new ≡ numbered turtle slot number (S.world store.old) }
 {
     let _shape = store.shape();
     let _old = store.set_var(Owner::Turtle(turtle), slot, Value::Number(number));

@@ -132,8 +132,9 @@ pub(crate) fn diffused(
     requires field { length field.now ≡ patches_of shape.now }
     ensures counts { IfOk result (λ counts. counts.items ≡ diffused_field four shape.now part field.now) }
     ensures range { OnOk result (are_in_range (diffused_field four shape.now part field.now) ≡ true) }
-    ensures refused { IfErr result (λ why. (why ≡ MoveFault.NoMemory)
-        ⊎ ((why ≡ MoveFault.Overflow) × (are_in_range (diffused_field four shape.now part field.now) ≡ false))) }
+    ensures refused { let after = diffused_field four shape.now part field.now in
+        IfErr result (λ why. (why ≡ MoveFault.NoMemory)
+        ⊎ ((why ≡ MoveFault.Overflow) × (are_in_range after ≡ false))) }
 {
     let shares = shares_of(alloc, field, part, four)?;
     let mut counts = Vec::new(alloc);

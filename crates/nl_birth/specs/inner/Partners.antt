@@ -1,8 +1,11 @@
 -- Who is joined already with a caller, found link by link.
-use Rattle.std.specs.Prelude.{ℕ, ◌==◌, Bool, ◌&&◌, not, if◌then◌else◌, List, [], ◌∷◌, Option, Some, None}
+use Rattle.std.specs.Prelude.{◌≡◌, ℕ, ◌==◌, Bool, ◌&&◌, not, if◌then◌else◌, List, [], ◌∷◌, Option, Some, None}
 use Rattle.nl_layout.specs.Nouns.{BreedNumber}
 use Rattle.nl_agents.specs.declared.agents.Link.{Link}
-use Rattle.nl_birth.specs.Links.{has_direction}
+use Rattle.nl_value.specs.Nouns.{Serials}
+use Rattle.nl_agents.specs.World.{World}
+use Rattle.nl_agents.specs.Members.{is_listed}
+use Rattle.nl_birth.specs.Links.{has_direction, is_joined}
 use Rattle.nl_birth.specs.declared.way.Way.{Way}
 use Rattle.nl_birth.specs.declared.way.Way.TheVariants.{With, To, From}
 
@@ -28,3 +31,7 @@ with_some (Some n) ns = n ∷ ns
 abbrev pub collected : {X : Type 0} → (X → Option ℕ) → List X → List ℕ
 collected give [] = []
 collected give (x ∷ xs) = with_some (give x) (collected give xs)
+
+-- those and no others are joined with the caller already
+abbrev pub ArePartners : Way → BreedNumber → (caller : ℕ) → World → Serials → Type 0
+ArePartners way breed caller w others = (target : ℕ) → is_listed others target ≡ is_joined way breed caller w target

@@ -1,10 +1,9 @@
-use Rattle.std.proofs.Common.{suc, min, Err, ap, ◌∙◌, refl, arith}
+use Rattle.std.proofs.Common.{Err, ap, ◌∙◌, refl}
 use Rattle.nl_agents.specs.Changes.{AreTurtlesFull}
 use Rattle.nl_agents.specs.declared.refusals.BearFail.TheVariants as bear
-use Rattle.nl_birth.specs.Births.{turtle_room, drawn_births, drawn_birth, turtles_born}
+use Rattle.nl_birth.specs.Births.{turtle_room, drawn_births, drawn_birth}
 use Rattle.nl_birth.specs.Outcomes.{fail_of_bear}
-use Rattle.nl_birth.specs.declared.failing.BirthFail.TheVariants.{NoMemory}
-use Rattle.nl_birth.proofs.Counting.{none_so_far, one_more, may_push, cut_short, refused_then, layout_of, inside_of, drawn_at, drawn_next, no_room, more_room, exits, ok_not_full, scene, same_scene}
+use Rattle.nl_birth.proofs.Counting.{none_so_far, one_more, may_push, ends_refused, ends_made, bear_explained, layout_of, inside_of, drawn_at, drawn_next, no_room, more_room, ok_not_full, scene, same_scene}
 use Rattle.nl_birth.proofs.births.bear_all_drawn.Goals as goal
 
 pub bear_drawn-requires : goal.bear_drawn-requires
@@ -33,9 +32,9 @@ returns-in_err-turtle g c =
     let fail = c.in_err-turtle.field-0.0 in
     let e = c.in_err-turtle.ensures in
     let more = drawn_at c.args.breed c.args.at.now s now k (turtle_room w) w.rest.turtles_given c.loop-index.made c.loop-index.invariant in
-    exits (turtles_born after w c.args.count) after (min c.args.count (turtle_room w)) next c.from_residual.result (fail_of_bear fail) c.from_residual.ensures.1
-    (refused_then after (turtle_room w) w.rest.turtles_given c.args.count k now next c.loop-index.made fail c.loop-index.invariant (same_scene next.world now.world next.stream now.stream e.kept e.undrawn) c.loop-index-test.true
-    (λ full. no_room w now.world k more (e.full.0 (ap Err full))))
+    ends_refused after (turtle_room w) w.rest.turtles_given c.args.count k now next c.loop-index.made c.from_residual.result (fail_of_bear fail) c.from_residual.ensures.1 c.loop-index.invariant
+    (same_scene next.world now.world next.stream now.stream e.kept e.undrawn) c.loop-index-test.true
+    (bear_explained fail (turtle_room w) k (λ full. no_room w now.world k more (e.full.0 (ap Err full))))
 
 pub push-requires : goal.push-requires
 push-requires g c =
@@ -55,14 +54,11 @@ returns-in_err-push g c =
     let next = scene (g.S.Store.world c.bear_drawn.new.store) c.bear_drawn.new.stream in
     let next_one = drawn_birth c.args.breed c.args.at.now now in
     let k = c.loop-index._index in
-    let test = c.loop-index-test.true in
     let e = c.in_ok-turtle.ensures in
     let more = drawn_at c.args.breed c.args.at.now s now k (turtle_room w) w.rest.turtles_given c.loop-index.made c.loop-index.invariant in
-    exits (turtles_born after w c.args.count) after (min c.args.count (turtle_room w)) next c.from_residual-in_err-push.result NoMemory c.from_residual-in_err-push.ensures.1
-    (cut_short after (turtle_room w) c.args.count (suc k) next
+    ends_made after (turtle_room w) w.rest.turtles_given c.args.count k next c.from_residual-in_err-push.result c.from_residual-in_err-push.ensures.1
     (drawn_next c.args.breed c.args.at.now s now k (turtle_room w) w.rest.turtles_given c.loop-index.made next c.loop-index.invariant (same_scene next.world next_one.world next.stream next_one.stream e.born e.drawn))
-    (omega (arith, test))
-    (more_room w now.world k more (ok_not_full c.in_ok-turtle.turtle bear.Full (AreTurtlesFull now.world) e.full.1)))
+    c.loop-index-test.true (more_room w now.world k more (ok_not_full c.in_ok-turtle.turtle bear.Full (AreTurtlesFull now.world) e.full.1))
 
 pub loop-index-preserved : goal.loop-index-preserved
 loop-index-preserved g c =

@@ -1,11 +1,10 @@
-use Rattle.std.proofs.Common.{suc, min, Err, ap, ◌∙◌, refl, arith}
+use Rattle.std.proofs.Common.{Err, ap, ◌∙◌, refl}
 use Rattle.nl_birth.specs.Looks.{looks_in_order}
 use Rattle.nl_agents.specs.Changes.{AreTurtlesFull}
 use Rattle.nl_agents.specs.declared.refusals.BearFail.TheVariants as bear
-use Rattle.nl_birth.specs.Births.{origin, turtle_room, ordered_births, turtles_born}
+use Rattle.nl_birth.specs.Births.{origin, turtle_room, ordered_births}
 use Rattle.nl_birth.specs.Outcomes.{fail_of_bear}
-use Rattle.nl_birth.specs.declared.failing.BirthFail.TheVariants.{NoMemory}
-use Rattle.nl_birth.proofs.Counting.{none_so_far, one_more, may_push, cut_short, refused_then, layout_of, inside_of, ordered_at, ordered_next, no_room, more_room, exits, ok_not_full, born_alike, inside_alike}
+use Rattle.nl_birth.proofs.Counting.{none_so_far, one_more, may_push, ends_refused, ends_made, bear_explained, layout_of, inside_of, ordered_at, ordered_next, no_room, more_room, ok_not_full, born_alike, inside_alike}
 use Rattle.nl_birth.proofs.births.bear_all_in_order.Goals as goal
 
 pub bear_with-requires : goal.bear_with-requires
@@ -35,9 +34,8 @@ returns-in_err-turtle g c =
     let fail = c.in_err-turtle.field-0.0 in
     let e = c.in_err-turtle.ensures in
     let more = ordered_at c.args.breed c.args.count w now k (turtle_room w) w.rest.turtles_given c.loop-index.made c.loop-index.invariant in
-    exits (turtles_born after w c.args.count) after (min c.args.count (turtle_room w)) next c.from_residual.result (fail_of_bear fail) c.from_residual.ensures.1
-    (refused_then after (turtle_room w) w.rest.turtles_given c.args.count k now next c.loop-index.made fail c.loop-index.invariant e.kept c.loop-index-test.true
-    (λ full. no_room w now k more (e.full.0 (ap Err full))))
+    ends_refused after (turtle_room w) w.rest.turtles_given c.args.count k now next c.loop-index.made c.from_residual.result (fail_of_bear fail) c.from_residual.ensures.1 c.loop-index.invariant e.kept
+    c.loop-index-test.true (bear_explained fail (turtle_room w) k (λ full. no_room w now k more (e.full.0 (ap Err full))))
 
 pub push-requires : goal.push-requires
 push-requires g c =
@@ -54,14 +52,12 @@ returns-in_err-push g c =
     let now = g.S.Store.world c.loop-index.store in
     let next = g.S.Store.world c.bear_with.new.store in
     let k = c.loop-index.index in
-    let test = c.loop-index-test.true in
     let e = c.in_ok-turtle.ensures in
     let more = ordered_at c.args.breed c.args.count w now k (turtle_room w) w.rest.turtles_given c.loop-index.made c.loop-index.invariant in
     let born = born_alike next now c.args.breed c.origin.result origin c.looks_in_order-looks.result (looks_in_order c.args.count k) e.born c.origin.ensures c.looks_in_order-looks.ensures in
     let step = ordered_next c.args.breed c.args.count w now k (turtle_room w) w.rest.turtles_given c.loop-index.made next c.loop-index.invariant born in
     let room = more_room w now k more (ok_not_full c.in_ok-turtle.turtle bear.Full (AreTurtlesFull now) e.full.1) in
-    exits (turtles_born after w c.args.count) after (min c.args.count (turtle_room w)) next c.from_residual-in_err-push.result NoMemory c.from_residual-in_err-push.ensures.1
-    (cut_short after (turtle_room w) c.args.count (suc k) next step (omega (arith, test)) room)
+    ends_made after (turtle_room w) w.rest.turtles_given c.args.count k next c.from_residual-in_err-push.result c.from_residual-in_err-push.ensures.1 step c.loop-index-test.true room
 
 pub loop-index-preserved : goal.loop-index-preserved
 loop-index-preserved g c =
@@ -70,7 +66,6 @@ loop-index-preserved g c =
     let now = g.S.Store.world c.loop-index.store in
     let next = g.S.Store.world c.bear_with.new.store in
     let k = c.loop-index.index in
-    let test = c.loop-index-test.true in
     let e = c.in_ok-turtle.ensures in
     let more = ordered_at c.args.breed c.args.count w now k (turtle_room w) w.rest.turtles_given c.loop-index.made c.loop-index.invariant in
     let born = born_alike next now c.args.breed c.origin.result origin c.looks_in_order-looks.result (looks_in_order c.args.count k) e.born c.origin.ensures c.looks_in_order-looks.ensures in

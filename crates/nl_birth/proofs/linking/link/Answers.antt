@@ -14,14 +14,6 @@ returns-in_err-wanted g c =
     exits (linked c.args.way c.args.breed c.args.caller ts w) (linkings c.args.way c.args.breed c.args.caller ts w) most w c.from_residual.result NoMemory c.from_residual.ensures.1
     (none_linked c.args.way c.args.breed c.args.caller ts w most)
 
-pub returns-in_err-other_kind_lives : goal.returns-in_err-other_kind_lives
-returns-in_err-other_kind_lives g c =
-    let w = g.S.Store.world c.args.store.now in
-    let ts = c.args.targets.now in
-    let most = most_links c.args.way c.args.breed c.args.caller ts w in
-    exits (linked c.args.way c.args.breed c.args.caller ts w) (linkings c.args.way c.args.breed c.args.caller ts w) most w c.from_residual-in_err-other_kind_lives.result NoMemory c.from_residual-in_err-other_kind_lives.ensures.1
-    (none_linked c.args.way c.args.breed c.args.caller ts w most)
-
 pub tie_all-requires-clause-ascending : goal.tie_all-requires-clause-ascending
 tie_all-requires-clause-ascending g c = subst IsStrictlyIncreasing (sym c.deref.ensures.value) c.in_ok-wanted.ensures.ascending
 

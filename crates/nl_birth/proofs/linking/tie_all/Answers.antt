@@ -1,11 +1,10 @@
-use Rattle.std.proofs.Common.{suc, length, min, get_or, Err, ap, ◌∙◌, refl, arith}
+use Rattle.std.proofs.Common.{length, get_or, Err, ap, ◌∙◌, refl, arith}
 use Rattle.nl_agents.specs.Changes.{TurtleLives, AreLinksFull}
 use Rattle.nl_agents.specs.declared.refusals.TieFail.TheVariants as tie
-use Rattle.nl_birth.specs.declared.failing.BirthFail.TheVariants.{NoMemory}
 use Rattle.nl_birth.specs.Links.{first_ties, tied_to_all, link_room}
-use Rattle.nl_birth.specs.Outcomes.{outcome_of, fail_of_tie}
-use Rattle.nl_birth.proofs.Counting.{none_so_far, one_more, may_push, cut_short, exits, ok_not_full}
-use Rattle.nl_birth.proofs.Tying.{linked_at, next_tie, none_between, lives_now, breed_now, first_is, second_is, ends_apart, not_listed, no_link_room, more_link_room, tie_refused}
+use Rattle.nl_birth.specs.Outcomes.{fail_of_tie}
+use Rattle.nl_birth.proofs.Counting.{none_so_far, one_more, may_push, ends_refused, ends_made, ok_not_full}
+use Rattle.nl_birth.proofs.Tying.{linked_at, next_tie, none_between, lives_now, breed_now, first_is, second_is, ends_apart, not_listed, no_link_room, more_link_room, tie_explained}
 use Rattle.nl_birth.proofs.linking.tie_all.Goals as goal
 
 pub tie-requires : goal.tie-requires
@@ -52,8 +51,8 @@ returns-in_err-link g c =
     let next = g.S.Store.world c.tie.new.self in
     let fail = c.in_err-link.field-0.0 in
     let e = c.in_err-link.ensures in
-    exits (outcome_of after room first (length ts)) after (min (length ts) room) next c.from_residual.result (fail_of_tie fail) c.from_residual.ensures.1
-    (tie_refused after room first (length ts) k now next c.loop-target.made fail c.loop-target.invariant e.kept test (λ full. no_link_room w now k more (e.full.0 (ap Err full))))
+    ends_refused after room first (length ts) k now next c.loop-target.made c.from_residual.result (fail_of_tie fail) c.from_residual.ensures.1 c.loop-target.invariant e.kept test
+    (tie_explained fail room k (λ full. no_link_room w now k more (e.full.0 (ap Err full))))
 
 pub push-requires : goal.push-requires
 push-requires g c =
@@ -83,8 +82,7 @@ returns-in_err-push g c =
     let ends = c.ends-end1.result in
     let step = next_tie c.args.way c.args.breed c.args.caller ts w now k room first c.loop-target.made c.loop-target.invariant test next c.has_direction.result ends.0 ends.1 e.tied c.has_direction.ensures c.ends-end1.ensures.first c.ends-end1.ensures.second in
     let fits = more_link_room w now k more (ok_not_full c.in_ok-link.link tie.Full (AreLinksFull now) e.full.1) in
-    exits (outcome_of after room first (length ts)) after (min (length ts) room) next c.from_residual-in_err-push.result NoMemory c.from_residual-in_err-push.ensures.1
-    (cut_short after room (length ts) (suc k) next step (omega (arith, test)) fits)
+    ends_made after room first (length ts) k next c.from_residual-in_err-push.result c.from_residual-in_err-push.ensures.1 step test fits
 
 pub loop-target-preserved : goal.loop-target-preserved
 loop-target-preserved g c =
