@@ -1,17 +1,23 @@
 //! The whole program, and each stage of it, over files and sinks in memory.
 
 mod asking;
+mod births;
 mod bodies;
+mod broods;
 mod calls;
+mod climbs;
 mod command;
 mod context;
 mod crowds;
 mod exchanges;
+mod fields;
 mod fire;
+mod gifts;
 mod keeping;
 mod large;
 mod lone;
 mod models;
+mod moves;
 mod places;
 mod playing;
 mod stores;
