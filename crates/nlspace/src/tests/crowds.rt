@@ -99,15 +99,30 @@ fn assert_full<S: Store>(rt: &impl Abort, alloc: Global) {
     let mut tried: Tried<S> = played(rt, alloc, model, &[]);
     assert!(rt; tried.bears(alloc, MOST_TURTLES - 1));
     assert!(rt; tried.finds(alloc, MOST_TURTLES - 1));
-    assert!(rt; tried.lists_foxes(alloc, MOST_TURTLES - 1));
-    assert!(rt; tried.copies(alloc));
-    assert!(rt; tried.lists_foxes(alloc, MOST_TURTLES - 1));
     proceed(rt, alloc, &mut tried, FULL);
 }
 
 #[test]
 fn two_hundred_thousand_turtles_may_live(rt: HostRuntime) {
     assert_full::<Plain>(&rt, rt.alloc());
+}
+
+const CROWD: u64 = 10_000;
+
+fn assert_copied<S: Store>(rt: &impl Abort, alloc: Global) {
+    let Some(model) = program(alloc) else {
+        panic!(rt);
+    };
+    let mut tried: Tried<S> = played(rt, alloc, model, &[]);
+    assert!(rt; tried.bears(alloc, CROWD));
+    assert!(rt; tried.lists_foxes(alloc, CROWD));
+    assert!(rt; tried.copies(alloc));
+    assert!(rt; tried.lists_foxes(alloc, CROWD));
+}
+
+#[test]
+fn a_crowd_is_listed_and_copied(rt: HostRuntime) {
+    assert_copied::<Plain>(&rt, rt.alloc());
 }
 
 const SPOKES: u64 = 400;
