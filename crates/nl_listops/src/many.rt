@@ -16,7 +16,7 @@ use nl_fixed::NoMemory;
 use nl_series::ListFail;
 use nl_series::lists::{list_of, put_first, put_last, sentence};
 use nl_series::ranges::range;
-use nl_series::searches::{each_once, modes};
+use nl_series::repeats::{each_once, modes};
 use nl_series::sorts::sorted;
 use nl_series::texts::word;
 use nl_value::colors::primary_colors;
@@ -59,7 +59,8 @@ fn listed(alloc: Global, values: &[Value]) -> Result<Value, ListFail>
 
 /// The list of the values, with the lists among them taken apart.
 fn sentenced(alloc: Global, values: &[Value]) -> Result<Value, ListFail>
-    ensures { Gives (outcome_map plain result) (kept_within (list_value (sentence_of (map plain values.now)))) }
+    ensures { let whole = sentence_of (map plain values.now) in
+        Gives (outcome_map plain result) (kept_within (list_value whole)) }
 {
     kept_within(Value::Items(sentence(alloc, values)?))
 }

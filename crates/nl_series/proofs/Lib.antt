@@ -1,7 +1,9 @@
 pub mod Ascents
 pub mod Characters
 pub mod Cuts
+pub mod Digesting
 pub mod Elsewhere
+pub mod FirstPlaces
 pub mod Joins
 pub mod OccurrenceLemmas
 pub mod Onces

@@ -2,10 +2,7 @@
 use Rattle.std.proofs.Common.{◌≡◌, ℕ, zero, suc, ◌+◌, ◌<◌, ◌≤◌, Bool, true, false, ◌||◌, not, cond, nat_lt, position, Option, Some, None, List, [], ◌∷◌, length, map, take, drop, get_or, refl, sym, ap, ◌∙◌, arith}
 use Rattle.std.specs.List.{list_any, filter_map, cons_option, position_or_len}
 use Rattle.std.proofs.lemmas.Bool.Decides.{nat_tests}
-use Rattle.std.proofs.lemmas.List.{drop_more, length-map}
-use Rattle.nl_value.specs.declared.order.OrderKind.{OrderKind}
-use Rattle.nl_value.specs.declared.order.OrderKind.TheVariants.{Numbers, Texts, Turtles, Patches, Links, Unordered}
-use Rattle.nl_series.specs.Sorts.{is_agent_kind}
+use Rattle.std.proofs.lemmas.List.{drop_more, length-map, take_all}
 
 pub any_found : {A X : Type 0} (f : A → X) (test : X → Bool) (values : List A) (i : ℕ) (v : A) → i < length values → v ≡ get_or values i v → test (f v) ≡ true → list_any test (map f values) ≡ true
 any_found f test [] i v h is passes = absurd (omega arith)
@@ -41,14 +38,6 @@ first_given f h (value ∷ values) (suc i) v y b is none given =
     neither None ys e = (refl, e)
     neither (Some y) ys e = cc
 
-pub no_agent : (kind : OrderKind) → (kind ≡ Turtles → ⊥) → (kind ≡ Patches → ⊥) → (kind ≡ Links → ⊥) → is_agent_kind kind ≡ false
-no_agent Numbers a b c = refl
-no_agent Texts a b c = refl
-no_agent Turtles a b c = absurd (a refl)
-no_agent Patches a b c = absurd (b refl)
-no_agent Links a b c = absurd (c refl)
-no_agent Unordered a b c = refl
-
 -- ---- the first place that passes
 
 pub from_start : {X : Type 0} (test : X → Bool) (xs : List X) → position_or_len test xs ≡ 0 + position_or_len test xs
@@ -83,3 +72,7 @@ mapped_below f values i h = let long = length-map values f in omega arith
 pub past_all : {A X : Type 0} (f : A → X) (test : X → Bool) (values : List A) (i : ℕ) → length values ≤ i →
     position_or_len test (map f values) ≡ i + position_or_len test (map f (drop i values)) → length (map f values) ≤ position_or_len test (map f values)
 past_all f test values i h is = let long = length-map values f in omega arith
+
+-- the walk has taken all
+pub all_taken : {A X : Type 0} (f : A → X) (values : List A) (i : ℕ) → length values ≤ i → take i (map f values) ≡ map f values
+all_taken f values i h = let long = length-map values f in take_all i (map f values) (omega (arith, h, long))

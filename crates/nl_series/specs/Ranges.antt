@@ -4,7 +4,7 @@ use Rattle.std.specs.List.{range_with_len}
 use Rattle.nl_fixed.specs.Numbers.{one}
 use Rattle.nl_value.specs.Plain.{Plain, PlainNumber}
 use Rattle.nl_series.specs.declared.fail.ListFail.TheVariants.{Domain}
-use Rattle.nl_series.specs.Outcomes.{Outcome, list_value}
+use Rattle.nl_series.specs.Outcomes.{Outcome, outcome_map, limited, list_value}
 
 -- how many steps of a size above 0 begin within a distance: its quotient by the size, rounded up, and none where it isn't above 0
 abbrev pub steps_within : ℤ → ℕ → ℕ
@@ -36,3 +36,7 @@ range_of (bound ∷ []) = range_by (pos 0) bound (pos one)
 range_of (start ∷ bound ∷ []) = range_by start bound (pos one)
 range_of (start ∷ bound ∷ step ∷ []) = range_by start bound step
 range_of (start ∷ bound ∷ step ∷ more ∷ others) = Err Domain
+
+-- numbers as a list of values within the limits on values
+abbrev pub limited_range : Outcome (List ℤ) → Outcome Plain
+limited_range numbers = limited (outcome_map number_list numbers)

@@ -2,8 +2,8 @@
 ghost use Rattle.std.specs.Prelude.{◌≡◌, ◌≢◌, ◌<◌, ℕ, ◌*◌, pos, ◌+ℤ◌, ◌*ℤ◌, ◌^◌, IfOk, map};
 ghost use Rattle.nl_fixed.specs.Numbers.{IsInRange, one};
 ghost use Rattle.nl_value.specs.Plain.{PlainNumber};
-ghost use Rattle.nl_series.specs.Outcomes.{Gives, outcome_map, limited, list_value};
-ghost use Rattle.nl_series.specs.Ranges.{steps_within, range_length, numbers_from, number_list, range_by, range_of};
+ghost use Rattle.nl_series.specs.Outcomes.{Gives, outcome_map, list_value};
+ghost use Rattle.nl_series.specs.Ranges.{steps_within, range_length, numbers_from, range_by, range_of, limited_range};
 
 use crate::fail::ListFail;
 use nl_fixed::{NoMemory, Num};
@@ -69,7 +69,7 @@ fn numbers_from(alloc: Global, start: Num, step: Num, length: usize) -> Result<I
 /// The numbers from the start by steps to before the bound. Domain for a step of 0, and TooLarge where they pass the limit on
 /// values, for which no memory is taken.
 pub fn range_by(alloc: Global, start: Num, bound: Num, step: Num) -> Result<Items, ListFail>
-    ensures { Gives (outcome_map list_value result) (limited (outcome_map number_list (range_by start bound step))) }
+    ensures { Gives (outcome_map list_value result) (limited_range (range_by start bound step)) }
 {
     if step.millionths() == 0 {
         return Err(ListFail::Domain);
@@ -94,7 +94,7 @@ fn small(n: u8) -> Num
 /// Of one number: from 0 by 1 to below it; of two: from the first by 1 to below the second; of three: from the first to before the
 /// second by steps of the third. Domain for a step of 0 and for other counts of numbers, and TooLarge as `range_by`.
 pub fn range(alloc: Global, numbers: &[Num]) -> Result<Items, ListFail>
-    ensures { Gives (outcome_map list_value result) (limited (outcome_map number_list (range_of numbers.now))) }
+    ensures { Gives (outcome_map list_value result) (limited_range (range_of numbers.now)) }
 {
     match numbers {
         [bound] => range_by(alloc, small(0), *bound, small(1)),

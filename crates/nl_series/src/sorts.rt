@@ -2,7 +2,7 @@
 ghost use Rattle.std.specs.Prelude.{◌≡◌, map, IfOk};
 ghost use Rattle.std.specs.List.{list_any, filter_map};
 ghost use Rattle.nl_value.specs.Views.{plain};
-ghost use Rattle.nl_series.specs.Sorts.{is_of, agent_kind, first_kind, sorted_kind, sorted_items};
+ghost use Rattle.nl_series.specs.Sorts.{is_of, is_agent_kind, agent_kind, first_kind, sorted_kind, sorted_items};
 
 use nl_fixed::NoMemory;
 use nl_value::{Items, Life, OrderKind, Value};
@@ -30,16 +30,24 @@ fn has_kind<L: Life>(values: &[Value], kind: OrderKind, life: &L) -> bool
     false
 }
 
+/// Whether values of the kind are living agents.
+fn is_agent_kind(kind: OrderKind) -> bool
+    ensures { result ≡ is_agent_kind kind }
+{
+    matches!(
+        kind,
+        OrderKind::Turtles | OrderKind::Patches | OrderKind::Links
+    )
+}
+
 /// The kind of the first living agent, and Unordered where there is none.
 fn first_agent_kind<L: Life>(values: &[Value], life: &L) -> OrderKind
     ensures { result ≡ first_kind (filter_map (agent_kind (L.living life.now)) (map plain values.now)) }
 {
     for value in values {
-        match value.order_kind(life) {
-            OrderKind::Turtles => return OrderKind::Turtles,
-            OrderKind::Patches => return OrderKind::Patches,
-            OrderKind::Links => return OrderKind::Links,
-            _ => {}
+        let kind = value.order_kind(life);
+        if is_agent_kind(kind) {
+            return kind;
         }
     }
     OrderKind::Unordered
