@@ -61,17 +61,18 @@ module _ (w : Living) where
   then_fit (Ok x) next fit = fit x refl
   then_fit (Err fail) next fit = tt
 
+  kind_fit : {X : Type 0} (value : X → Plain) → ((x : X) → fits w (value x) ≡ true) → (o : Outcome X) → Fit (outcome_map value o)
+  kind_fit value fit (Ok x) = fit x
+  kind_fit value fit (Err fail) = tt
+
   number_fit : (o : Outcome ℤ) → Fit (number_answer o)
-  number_fit (Ok n) = refl
-  number_fit (Err fail) = tt
+  number_fit o = kind_fit PlainNumber (λ n. refl) o
 
   truth_fit : (o : Outcome Bool) → Fit (truth_answer o)
-  truth_fit (Ok b) = refl
-  truth_fit (Err fail) = tt
+  truth_fit o = kind_fit PlainTruth (λ b. refl) o
 
   text_fit : (o : Outcome Bytes) → Fit (text_answer o)
-  text_fit (Ok bytes) = refl
-  text_fit (Err fail) = tt
+  text_fit o = kind_fit PlainWords (λ bytes. refl) o
 
   place_fit : (place : Option ℕ) → Fit (place_answer place)
   place_fit None = refl

@@ -1,4 +1,3 @@
-pub mod Bounds
 pub mod Drawing
 mod Examples
 pub mod Fitting

@@ -1,8 +1,7 @@
 -- Lists as values, and numbers among inputs.
 use Rattle.std.proofs.Common.{◌≡◌, ℕ, zero, suc, ◌+◌, ◌<◌, ◌≤◌, ℤ, Ok, Err, Bool, true, false, ◌&&◌, ◌||◌, is_some, position, cond, not, nat_lt, Some, None, List, [], ◌∷◌, ◌++◌, length, map, take, drop, get_or, refl, sym, ap, ◌∙◌, arith, append_assoc}
 use Rattle.std.proofs.lemmas.List.{take_more, drop_more, drop_all, append-nil, map-append}
-use Rattle.std.proofs.lemmas.List.Elements.{filter_map-append}
-use Rattle.std.specs.List.{cons_option, list_all, list_any, position_or_len}
+use Rattle.std.specs.List.{list_all, list_any, position_or_len}
 use Rattle.std.proofs.lemmas.Bool.{false≢true}
 use Rattle.std.proofs.lemmas.Bool.Decides.{nat_tests}
 use Rattle.nl_value.specs.Living.{Living, fits}
@@ -12,7 +11,6 @@ use Rattle.nl_value.specs.Views.{plain}
 use Rattle.nl_series.specs.declared.fail.ListFail.{ListFail}
 use Rattle.nl_series.specs.Outcomes.{Outcome, and_then}
 use Rattle.nl_listops.specs.Inputs.{as_number, as_list, value_at, list_at, numbers_in}
-use Rattle.nl_listops.specs.Statistics.{number_in, numbers_among}
 
 -- the items of a list as a value are the list
 pub items_of_plains : (ps : List Plain) → items_of (plains ps) ≡ ps
@@ -59,15 +57,6 @@ no_number values ns i v fail h is given =
 
 pub all_numbers : (values : List Value) (ns : List ℤ) (i : ℕ) → length values ≤ i → behind ns (numbers_in (map plain (drop i values))) ≡ Ok ns
 all_numbers values ns i h = ap (λ vs. behind ns (numbers_in (map plain vs))) (drop_all i values h) ∙ ap Ok (append-nil ns)
-
--- ---- the numbers among items
-
-pub among_more : (values : List Value) (i : ℕ) (v : Value) → i < length values → v ≡ get_or values i v →
-    numbers_among (map plain (take (i + 1) values)) ≡ numbers_among (map plain (take i values)) ++ cons_option (number_in (plain v)) []
-among_more values i v h is =
-    ap (λ vs. numbers_among (map plain vs)) (take_more values i v h)
-    ∙ (ap numbers_among (map-append plain (take i values) (get_or values i v ∷ []))
-    ∙ (filter_map-append number_in (map plain (take i values)) (plain (get_or values i v) ∷ []) ∙ ap (λ u. numbers_among (map plain (take i values)) ++ cons_option (number_in (plain u)) []) (sym is)))
 
 -- ---- what fits a world
 

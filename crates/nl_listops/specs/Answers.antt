@@ -50,7 +50,8 @@ use Rattle.nl_listops.specs.Arithmetic.{number_of, number_of_two, circle_ratio, 
 use Rattle.nl_listops.specs.Inputs.{value_at, number_at, truth_at, text_at, list_at, as_text, numbers_in}
 use Rattle.nl_listops.specs.Kinds.{is_kind}
 use Rattle.nl_listops.specs.Shades.{are_shades, scaled_color}
-use Rattle.nl_listops.specs.Statistics.{numbers_among, statistic_of}
+use Rattle.nl_series.specs.Statistics.{numbers_among}
+use Rattle.nl_listops.specs.Statistics.{statistic_of}
 use Rattle.nl_listops.specs.Truths.{truth_of_two, comparison_of}
 use Rattle.nl_listops.specs.Words.{value_word}
 

@@ -3,7 +3,6 @@ pub mod Arithmetic
 pub mod inner
 pub mod Inputs
 pub mod Kinds
-pub mod Laws
 pub mod Shades
 pub mod Statistics
 pub mod Truths

@@ -246,7 +246,8 @@ impl ValueWord {
         stream: &mut Stream,
     ) -> Result<Value, ListFail>
         requires { IsTrue (list_all (fits (L.living life.now)) (map plain inputs.now)) }
-        ensures answer { Answers result stream.new (word_answer (L.living life.now) self (map plain inputs.now) stream.old) }
+        ensures answer { let w = L.living life.now in
+            Answers result stream.new (word_answer w self (map plain inputs.now) stream.old) }
         ensures fit { IfOk result (λ value. IsTrue (fits (L.living life.now) (plain value))) }
         ensures stays { OnErr result (stream.new ≡ stream.old) }
     {
@@ -264,7 +265,8 @@ fn drawn(
     inputs: &[Value],
     stream: &mut Stream,
 ) -> Result<Value, ListFail>
-    ensures answer { Answers result stream.new (and_then (drawn_answer which (map plain inputs.now) stream.old) kept_answer) }
+    ensures answer { let drawn = drawn_answer which (map plain inputs.now) stream.old in
+        Answers result stream.new (and_then drawn kept_answer) }
     ensures stays { OnErr result (stream.new ≡ stream.old) }
 {
     let mark = stream.save();
@@ -286,7 +288,8 @@ pub fn apply<L: Life>(
 ) -> Result<Value, ListFail>
     requires word { IsTrue (is_some (value_word code)) }
     requires fit { IsTrue (list_all (fits (L.living life.now)) (map plain inputs.now)) }
-    ensures answer { Answers result stream.new (applied (L.living life.now) code (map plain inputs.now) stream.old) }
+    ensures answer { let w = L.living life.now in
+        Answers result stream.new (applied w code (map plain inputs.now) stream.old) }
     ensures fit { IfOk result (λ value. IsTrue (fits (L.living life.now) (plain value))) }
     ensures stays { OnErr result (stream.new ≡ stream.old) }
 {

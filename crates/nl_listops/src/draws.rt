@@ -85,7 +85,8 @@ impl Draw {
         stream: &mut Stream,
     ) -> Result<Value, ListFail>
         ensures answer { let state = stream.new in
-            Gives (outcome_map (λ value. (plain value, state)) result) (drawn_answer self (map plain inputs.now) stream.old) }
+            let drawn = drawn_answer self (map plain inputs.now) stream.old in
+            Gives (outcome_map (λ value. (plain value, state)) result) drawn }
         ensures stays { OnErr result (stream.new ≡ stream.old) }
     {
         match self {

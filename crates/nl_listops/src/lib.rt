@@ -5,9 +5,10 @@ pub mod answers;
 mod draws;
 mod inputs;
 mod kinds;
-pub mod laws;
 mod many;
 mod numbers;
+#[cfg(test)]
+mod rows;
 mod series;
 mod shades;
 mod statistics;

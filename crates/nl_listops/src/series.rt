@@ -7,11 +7,11 @@ ghost use Rattle.nl_series.specs.Outcomes.{Gives, outcome_map};
 ghost use Rattle.nl_listops.specs.Answers.{place_answer, list_answer, of_items, of_text, of_series, at_place_of_items, at_place_of_text, at_place, put_in_items, put_in_text, put_at_place, sought_in_items, sought_in_text, not_in_text, value_in_text, sought_in};
 
 use crate::inputs::as_text;
-use crate::statistics::counted;
 use crate::words::{AtPlace, OfSeries, PutAtPlace, Search};
 use nl_fixed::{NoMemory, Num, Str};
 use nl_series::occurrences::{place_of_text, text_without};
 use nl_series::searches::{place_of_item, without_item};
+use nl_series::statistics::counted;
 use nl_series::{ListFail, lists, texts};
 use nl_value::{Items, Life, Value};
 use std::alloc::Global;
@@ -96,7 +96,8 @@ impl PutAtPlace {
         items: &Items,
         value: &Value,
     ) -> Result<Value, ListFail>
-        ensures { Gives (outcome_map plain result) (list_answer (put_in_items self number items.now (plain value.now))) }
+        ensures { let put = put_in_items self number items.now (plain value.now) in
+            Gives (outcome_map plain result) (list_answer put) }
     {
         let put = match self {
             PutAtPlace::ReplaceItem => lists::replaced_at(alloc, number, items, value)?,
@@ -122,7 +123,8 @@ impl PutAtPlace {
         series: &Value,
         value: &Value,
     ) -> Result<Value, ListFail>
-        ensures { Gives (outcome_map plain result) (put_at_place self number (plain series.now) (plain value.now)) }
+        ensures { let put = put_at_place self number (plain series.now) (plain value.now) in
+            Gives (outcome_map plain result) put }
     {
         match series {
             Value::Items(items) => self.in_items(alloc, number, items, value),

@@ -1,14 +1,14 @@
 //! Words at inputs of which nothing lives.
 ghost use Rattle.std.specs.Prelude.{◌≡◌};
 
+use crate::rows;
 use crate::words::value_word;
-use Given::{Agents, DeadTurtle, Deep, Millionths, Patch, Text, True, Whole, Wholes};
 use nl_draw::Stream;
 use nl_fixed::{Num, Str};
 use nl_series::ListFail;
 use nl_value::laws::every_value_fits_no_life;
 use nl_value::texts::text;
-use nl_value::{Items, NoLife, Value};
+use nl_value::{AgentSet, Items, NoLife, Value};
 use nl_words::codes;
 use std::alloc::Global;
 use std::process::Abort;
@@ -16,26 +16,51 @@ use std::test::Fail;
 
 /// An input of a row.
 #[derive(Clone, Copy)]
-enum Given {
+pub(crate) enum Given {
     /// A number in millionths.
     Millionths(i64),
     Whole(i64),
     True,
+    False,
     Text(&'static str),
     /// A list of whole numbers.
     Wholes(&'static [i64]),
+    /// A list of the texts b, é, a and b.
+    Texts,
+    /// A list of a truth, 2, a text, 1, another text and nobody.
+    Mixed,
     DeadTurtle,
+    DeadLink,
     Patch,
+    Nobody,
+    /// The set of all turtles.
+    Set,
     /// A list of two dead turtles and a patch between them.
     Agents,
     /// Empty lists in each other, so many deep.
     Deep(u64),
+    /// A list of the whole numbers from 0 to below this one.
+    Below(i64),
+    /// A text of so many times é, and an a.
+    Accents(usize),
 }
 
-struct Row {
-    code: u16,
-    inputs: &'static [Given],
-    answer: &'static str,
+pub(crate) struct Row {
+    pub(crate) code: u16,
+    pub(crate) inputs: &'static [Given],
+    pub(crate) answer: &'static str,
+}
+
+/// A word with the inputs that stand before and after the one from the step before.
+pub(crate) struct Step {
+    pub(crate) code: u16,
+    pub(crate) before: &'static [Given],
+    pub(crate) after: &'static [Given],
+}
+
+pub(crate) struct Chain {
+    pub(crate) steps: &'static [Step],
+    pub(crate) answer: &'static str,
 }
 
 fn wholes(alloc: Global, numbers: &[i64]) -> Result<Items, Fail> {
@@ -55,6 +80,25 @@ fn agents(alloc: Global) -> Result<Items, Fail> {
     Ok(items)
 }
 
+fn texts(alloc: Global) -> Result<Items, Fail> {
+    let mut items = Items::empty(alloc);
+    for text in ["b", "é", "a", "b"] {
+        items.push(alloc, Value::Words(Str::of(alloc, text.as_bytes())?))?;
+    }
+    Ok(items)
+}
+
+fn mixed(alloc: Global) -> Result<Items, Fail> {
+    let mut items = Items::empty(alloc);
+    items.push(alloc, Value::Truth(true))?;
+    items.push(alloc, Value::Number(Num::whole(2).ok_or("out of range")?))?;
+    items.push(alloc, Value::Words(Str::of(alloc, b"b")?))?;
+    items.push(alloc, Value::Number(Num::whole(1).ok_or("out of range")?))?;
+    items.push(alloc, Value::Words(Str::of(alloc, b"a")?))?;
+    items.push(alloc, Value::Nobody)?;
+    Ok(items)
+}
+
 fn deep(alloc: Global, depth: u64) -> Result<Value, Fail> {
     let mut list = Value::Items(Items::empty(alloc));
     for _ in 1..depth {
@@ -65,17 +109,42 @@ fn deep(alloc: Global, depth: u64) -> Result<Value, Fail> {
     Ok(list)
 }
 
+fn below(alloc: Global, count: i64) -> Result<Items, Fail> {
+    let mut items = Items::empty(alloc);
+    for n in 0..count {
+        items.push(alloc, Value::Number(Num::whole(n).ok_or("out of range")?))?;
+    }
+    Ok(items)
+}
+
+fn accents(alloc: Global, count: usize) -> Result<Str, Fail> {
+    let mut text = Str::of_vec(Vec::new(alloc));
+    for _ in 0..count {
+        text.append(alloc, "é".as_bytes())?;
+    }
+    text.append(alloc, b"a")?;
+    Ok(text)
+}
+
 fn value_of(alloc: Global, given: Given) -> Result<Value, Fail> {
     Ok(match given {
         Given::Millionths(n) => Value::Number(Num::new(n).ok_or("out of range")?),
         Given::Whole(n) => Value::Number(Num::whole(n).ok_or("out of range")?),
         Given::True => Value::Truth(true),
+        Given::False => Value::Truth(false),
         Given::Text(text) => Value::Words(Str::of(alloc, text.as_bytes())?),
         Given::Wholes(numbers) => Value::Items(wholes(alloc, numbers)?),
+        Given::Texts => Value::Items(texts(alloc)?),
+        Given::Mixed => Value::Items(mixed(alloc)?),
         Given::DeadTurtle => Value::Turtle(7),
+        Given::DeadLink => Value::Link(3),
         Given::Patch => Value::Patch(2),
+        Given::Nobody => Value::Nobody,
+        Given::Set => Value::Set(AgentSet::Turtles),
         Given::Agents => Value::Items(agents(alloc)?),
         Given::Deep(depth) => deep(alloc, depth)?,
+        Given::Below(count) => Value::Items(below(alloc, count)?),
+        Given::Accents(count) => Value::Words(accents(alloc, count)?),
     })
 }
 
@@ -114,149 +183,89 @@ fn rows_hold(rt: &impl Abort, alloc: Global, rows: &[Row]) -> Result<(), Fail> {
     Ok(())
 }
 
-macro_rules! rows {
-    ($($code:ident [$($input:expr),*] $answer:literal)*) => {
-        &[$(Row { code: codes::$code, inputs: &[$($input),*], answer: $answer }),*]
-    };
-}
-
-const NUMBERS: &[Row] = rows! {
-    DIVIDED [Whole(2), Whole(3)] "0.666667"
-    DIVIDED [Whole(2), Whole(0)] "ZeroDivide"
-    POWER [Whole(2), Whole(-1)] "0.5"
-    ROUND [Millionths(-500_000)] "0"
-    SUBTRACT_HEADINGS [Whole(10), Whole(350)] "20"
-    STANDARD_DEVIATION [Wholes(&[1, 2, 3, 4])] "1.290994"
-    VARIANCE [Wholes(&[1, 2, 3, 4])] "1.666667"
-    VARIANCE [Wholes(&[1])] "TooFew"
-    MEDIAN [Wholes(&[1, 2, 3, 10])] "2.5"
-    MEAN [Wholes(&[1, 2])] "1.5"
-    SUM [Wholes(&[])] "0"
-    MIN [Wholes(&[])] "TooFew"
-    RANDOM [Whole(10)] "5"
-    RANDOM [Whole(0)] "0"
-    RANDOM_FLOAT [True] "WrongType"
-    SQRT [Whole(-1)] "Domain"
-    PLUS [Whole(9_000_000_000_000), Whole(1)] "Overflow"
-    PLUS [Whole(1), True] "WrongType"
-    NOT [Whole(1)] "WrongType"
-    AND [True, Whole(1)] "WrongType"
-    SCALE_COLOR [Whole(15), Whole(1), Whole(0), Whole(4)] "12.5"
-};
-
-const LISTS: &[Row] = rows! {
-    SENTENCE [Wholes(&[1, 2]), Whole(3)] "[1 2 3]"
-    MODES [Wholes(&[1, 2, 2, 3, 3])] "[2 3]"
-    REMOVE_DUPLICATES [Wholes(&[2, 1, 2])] "[2 1]"
-    REMOVE [Whole(2), Wholes(&[2, 1, 2])] "[1]"
-    SORT [Wholes(&[3, 1, 2])] "[1 2 3]"
-    REVERSE [Wholes(&[3, 1, 2])] "[2 1 3]"
-    SHUFFLE [Wholes(&[0, 1, 2])] "[2 1 0]"
-    RANGE [Whole(2), Whole(8), Whole(3)] "[2 5]"
-    RANGE [Whole(2_000_000)] "TooLarge"
-    RANGE [Whole(1), Whole(2), Whole(0)] "Domain"
-    POSITION [Whole(3), Wholes(&[1, 2])] "false"
-    SUBLIST [Wholes(&[1, 2, 3]), Whole(1), Whole(2)] "[2]"
-    SUBLIST [Wholes(&[1, 2, 3]), Whole(1), Whole(4)] "OutOfList"
-    REPLACE_ITEM [Whole(0), Wholes(&[1, 2]), Whole(3)] "[3 2]"
-    REPLACE_ITEM [Whole(-1), Wholes(&[1, 2]), Whole(3)] "OutOfList"
-    ITEM [Whole(2), Wholes(&[1, 2])] "OutOfList"
-    FIRST [Wholes(&[])] "OutOfList"
-    LAST [Wholes(&[1, 2])] "2"
-    BUT_FIRST [Wholes(&[1])] "[]"
-    FPUT [True, Wholes(&[])] "[true]"
-    LPUT [True, Whole(1)] "WrongType"
-    LENGTH [Wholes(&[0, 0])] "2"
-    EMPTY [Wholes(&[])] "true"
-    EQUAL [Deep(200), Deep(200)] "true"
-    LENGTH [Deep(200)] "1"
-    LIST [Deep(200)] "TooLarge"
-    FPUT [Deep(200), Wholes(&[])] "TooLarge"
-};
-
-const TEXTS: &[Row] = rows! {
-    SUBSTRING [Text("hello"), Whole(1), Whole(3)] "\"el\""
-    SUBSTRING [Text("é€𝄞a"), Whole(1), Whole(3)] "\"€𝄞\""
-    ITEM [Whole(3), Text("é€𝄞a")] "\"a\""
-    REVERSE [Text("é€𝄞a")] "\"a𝄞€é\""
-    POSITION [Text("a"), Text("é€𝄞a")] "3"
-    MEMBER [Text("€𝄞"), Text("é€𝄞a")] "true"
-    MEMBER [Whole(1), Text("1")] "false"
-    REMOVE [Text("aa"), Text("baaac")] "\"bac\""
-    REMOVE_ITEM [Whole(1), Text("é€a")] "\"éa\""
-    REPLACE_ITEM [Whole(1), Text("abc"), Text("")] "\"ac\""
-    LENGTH [Text("é€𝄞a")] "4"
-    EMPTY [Text("")] "true"
-    WORD [Text("a"), Whole(1)] "\"a1\""
-    BUT_LAST [Text("")] "OutOfList"
-    FIRST [Whole(1)] "WrongType"
-    LESS [Text("a"), Text("b")] "true"
-    LESS [Text("a"), Whole(1)] "WrongType"
-    IS_STRING [Text("")] "true"
-};
-
-const AGENTS: &[Row] = rows! {
-    POSITION [DeadTurtle, Agents] "0"
-    REMOVE [Patch, Agents] "[nobody nobody]"
-    REMOVE_DUPLICATES [Agents] "[nobody ]"
-    SORT [Agents] "[]"
-    SORT [Patch] "WrongType"
-    MEMBER [DeadTurtle, Agents] "true"
-    IS_AGENT [DeadTurtle] "false"
-    IS_PATCH [Patch] "true"
-    LESS [DeadTurtle, Patch] "WrongType"
-};
-
 #[test]
 fn words_of_numbers(rt: HostRuntime) -> Result<(), Fail> {
-    rows_hold(&rt, rt.alloc(), NUMBERS)
+    rows_hold(&rt, rt.alloc(), rows::NUMBERS)
+}
+
+#[test]
+fn words_of_truths_and_kinds(rt: HostRuntime) -> Result<(), Fail> {
+    rows_hold(&rt, rt.alloc(), rows::TRUTHS)
 }
 
 #[test]
 fn words_of_lists(rt: HostRuntime) -> Result<(), Fail> {
-    rows_hold(&rt, rt.alloc(), LISTS)
+    rows_hold(&rt, rt.alloc(), rows::LISTS)?;
+    rows_hold(&rt, rt.alloc(), rows::PLACES)?;
+    rows_hold(&rt, rt.alloc(), rows::SEARCHES)
 }
 
 #[test]
 fn words_of_texts(rt: HostRuntime) -> Result<(), Fail> {
-    rows_hold(&rt, rt.alloc(), TEXTS)
+    rows_hold(&rt, rt.alloc(), rows::TEXTS)?;
+    rows_hold(&rt, rt.alloc(), rows::ENDS)
+}
+
+#[test]
+fn words_of_statistics_colors_and_draws(rt: HostRuntime) -> Result<(), Fail> {
+    rows_hold(&rt, rt.alloc(), rows::STATISTICS)
 }
 
 #[test]
 fn dead_agents_are_nobody(rt: HostRuntime) -> Result<(), Fail> {
-    rows_hold(&rt, rt.alloc(), AGENTS)
+    rows_hold(&rt, rt.alloc(), rows::AGENTS)
 }
 
-/// What the words answer one after another, each of the answer before it.
-fn chained(alloc: Global, codes: &[u16], first: Value) -> Result<Value, Fail> {
-    let mut value = first;
-    for code in codes {
-        let mut inputs = Items::empty(alloc);
-        inputs.push(alloc, value)?;
-        value = answer(alloc, *code, inputs.as_slice())?;
+/// What a step answers of the answer before it, which stands between its inputs.
+fn stepped(alloc: Global, step: &Step, value: Value) -> Result<Value, Fail> {
+    let mut inputs = Items::empty(alloc);
+    for one in step.before {
+        let given = value_of(alloc, *one)?;
+        inputs.push(alloc, given)?;
+    }
+    inputs.push(alloc, value)?;
+    for one in step.after {
+        let given = value_of(alloc, *one)?;
+        inputs.push(alloc, given)?;
+    }
+    Ok(answer(alloc, step.code, inputs.as_slice())?)
+}
+
+/// What the steps answer one after another.
+fn chained(alloc: Global, first: Given, steps: &[Step]) -> Result<Value, Fail> {
+    let mut value = value_of(alloc, first)?;
+    for step in steps {
+        value = stepped(alloc, step, value)?;
     }
     Ok(value)
 }
 
-const ALL_OF_A_LIST: &[u16] = &[
-    codes::RANGE,
-    codes::REVERSE,
-    codes::SHUFFLE,
-    codes::SORT,
-    codes::BUT_FIRST,
-    codes::BUT_LAST,
-    codes::LIST,
-    codes::FIRST,
-    codes::SENTENCE,
-    codes::MAX,
-];
+fn chains_hold(rt: &impl Abort, alloc: Global, first: Given, chains: &[Chain]) -> Result<(), Fail> {
+    every_value_fits_no_life();
+    for chain in chains {
+        let answer = chained(alloc, first, chain.steps)?;
+        let printed = text(alloc, &answer, true, &NoLife)?;
+        assert_eq!(rt; printed.as_bytes(), chain.answer.as_bytes());
+    }
+    Ok(())
+}
+
+#[test]
+fn deep_lists_are_answered(rt: HostRuntime) -> Result<(), Fail> {
+    chains_hold(&rt, rt.alloc(), Given::Deep(200), rows::DEEP_LISTS)
+}
 
 #[test]
 fn long_lists_are_answered(rt: HostRuntime) -> Result<(), Fail> {
-    every_value_fits_no_life();
-    let alloc = rt.alloc();
-    let greatest = chained(alloc, ALL_OF_A_LIST, value_of(alloc, Whole(100_000))?)?;
-    let printed = text(alloc, &greatest, true, &NoLife)?;
-    assert_eq!(rt; printed.as_bytes(), "99998".as_bytes());
-    Ok(())
+    chains_hold(&rt, rt.alloc(), Given::Below(100_000), rows::LONG_LISTS)
+}
+
+#[test]
+fn long_lists_have_answers(rt: HostRuntime) -> Result<(), Fail> {
+    chains_hold(&rt, rt.alloc(), Given::Below(100_000), rows::LONG_ANSWERS)
+}
+
+#[test]
+fn long_texts_are_answered(rt: HostRuntime) -> Result<(), Fail> {
+    chains_hold(&rt, rt.alloc(), Given::Accents(100_000), rows::LONG_TEXTS)
 }

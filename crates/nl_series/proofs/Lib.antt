@@ -1,10 +1,12 @@
 pub mod Ascents
+pub mod Bounds
 pub mod Characters
 pub mod Cuts
 pub mod Digesting
 pub mod Elsewhere
 pub mod FirstPlaces
 pub mod Joins
+pub mod Numbers
 pub mod OccurrenceLemmas
 pub mod Onces
 pub mod Pieces

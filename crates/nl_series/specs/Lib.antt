@@ -8,3 +8,5 @@ pub mod Texts
 pub mod Searches
 pub mod Sorts
 pub mod Ranges
+pub mod Statistics
+pub mod StatisticLaws

@@ -1,6 +1,8 @@
-//! What the words of lists and texts make of each other. These functions do nothing: the contract of each is a law.
+//! What the words of lists and texts make of each other, and what statistics say of numbers. These functions do nothing: the contract of each is a law.
 ghost use Rattle.nl_series.specs.Laws.{ListsTurnBack, SentencesAddUp, PartsStayElsewhere, SearchesFindTheFirst, ItemsAreFound, CharactersMakeTheText, SortsPermute, RangesAreAsLong};
+ghost use Rattle.nl_series.specs.StatisticLaws.{MinIsLeast, MaxIsGreatest, MeanLiesBetween};
 
+use nl_fixed::number_laws::quotients_are_rounded;
 use nl_value::laws::{all_values_have_an_order, equality_is_an_equivalence};
 
 /// A list turned twice is itself, and a part of a list away from a place is the same with another item at the place.
@@ -34,3 +36,16 @@ pub fn sorts_permute()
 pub fn ranges_are_as_long()
     ensures { RangesAreAsLong }
 {}
+
+/// `min` is a number of the list that none is below, and `max` one that none is above.
+pub fn extremes_are_members()
+    ensures least { MinIsLeast }
+    ensures greatest { MaxIsGreatest }
+{}
+
+/// The mean lies between them.
+pub fn mean_lies_between()
+    ensures { MeanLiesBetween }
+{
+    quotients_are_rounded();
+}

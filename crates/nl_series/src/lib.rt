@@ -12,6 +12,7 @@ pub mod ranges;
 pub mod repeats;
 pub mod searches;
 pub mod sorts;
+pub mod statistics;
 pub mod texts;
 
 pub use fail::ListFail;

@@ -1,6 +1,6 @@
 -- What statistics say of the numbers of a list: laws above the definitions.
 use Rattle.std.specs.Prelude.{◌≡◌, ℕ, ℤ, ◌≤ℤ◌, Some, Ok, List, slice_get}
-use Rattle.nl_listops.specs.Statistics.{least_of, greatest_of, mean_of}
+use Rattle.nl_series.specs.Statistics.{least_of, greatest_of, mean_of}
 
 -- a number of the list that none is below, and one that none is above
 pub record IsLeast (ns : List ℤ) (least : ℤ) : Type 0 where

@@ -2,10 +2,10 @@ use Rattle.std.proofs.Common.{◌∙◌, ◌++◌, ◌∷◌, [], sym, ap, map, 
 use Rattle.std.proofs.lemmas.List.{append-nil}
 use Rattle.std.specs.List.{cons_option}
 use Rattle.nl_value.specs.Views.{plain}
-use Rattle.nl_listops.specs.Statistics.{numbers_among}
-use Rattle.nl_listops.proofs.Listed.{among_more}
-use Rattle.nl_listops.proofs.statistics.numbers_among.Goals as goal
-use Rattle.nl_listops.proofs.statistics.numbers_among.Goals.{in-Some+in_ok-push, in_default}
+use Rattle.nl_series.specs.Statistics.{numbers_among}
+use Rattle.nl_series.proofs.Numbers.{among_more}
+use Rattle.nl_series.proofs.statistics.numbers_among.Goals as goal
+use Rattle.nl_series.proofs.statistics.numbers_among.Goals.{in-Some+in_ok-push, in_default}
 
 pub loop-value-preserved : goal.loop-value-preserved
 loop-value-preserved c =

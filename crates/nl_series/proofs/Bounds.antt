@@ -10,8 +10,8 @@ use Rattle.nl_fixed.specs.Numbers.{one, in_range, as_number, and_next, sum_of, q
 use Rattle.nl_fixed.specs.NumberLaws.{IsNearest, RoundedIsNearest}
 use Rattle.nl_series.specs.Outcomes.{Outcome, and_then, numbered}
 use Rattle.nl_series.specs.Lists.{counted}
-use Rattle.nl_listops.specs.Statistics.{lesser, larger, sum_from, total_of, divided_among, mean_of}
-use Rattle.nl_listops.specs.Laws.{IsLeast, IsGreatest, MinIsLeast, MaxIsGreatest, MeanLiesBetween}
+use Rattle.nl_series.specs.Statistics.{lesser, larger, sum_from, total_of, divided_among, mean_of}
+use Rattle.nl_series.specs.StatisticLaws.{IsLeast, IsGreatest, MinIsLeast, MaxIsGreatest, MeanLiesBetween}
 
 -- ---- one number picked of two, along a list
 

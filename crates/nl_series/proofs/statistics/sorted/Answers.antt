@@ -1,8 +1,8 @@
 use Rattle.std.proofs.Common.{ℤ}
 use Rattle.std.specs.Cmp.{IsStrictWeakOrder, int_cmp_total}
 use Rattle.std.proofs.lemmas.List.Sorted.{ranks_by}
-use Rattle.nl_listops.specs.Statistics.{is_below}
-use Rattle.nl_listops.proofs.statistics.sorted.Goals as goal
+use Rattle.nl_series.specs.Statistics.{is_below}
+use Rattle.nl_series.proofs.statistics.sorted.Goals as goal
 
 pub returns : goal.returns
 returns c =
