@@ -15,6 +15,9 @@ use nl_fixed::{Names, NoMemory, Span, Str};
 use nl_words::{Kinds, ROWS, Role, base_words};
 use std::alloc::Global;
 
+// Lets go of a thing by one call: a program that ends inside of a function is walked there, list by list.
+fn let_go<T: Drop>(_thing: T) {}
+
 fn declared(alloc: Global, procedures: Procedures, index: NamedWords) -> Declared
     requires { index ≡ counted procedure_term 0 procedures }
     ensures { result ≡ declaring procedures }
@@ -177,74 +180,132 @@ fn going_program(alloc: Global) -> Result<Program, NoMemory>
     Ok(program)
 }
 
-// A breed is appended, with its names.
-#[test]
-fn breed_is_appended(rt: HostRuntime) {
-    let alloc = rt.alloc();
-    let mut breeds = Breeds::empty(alloc);
-    let Ok(plural) = Str::of(alloc, b"foxes") else {
-        panic!(rt);
-    };
-    let Ok(singular) = Str::of(alloc, b"fox") else {
-        panic!(rt);
-    };
-    let breed = Breed {
+fn foxes(alloc: Global) -> Result<Breed, NoMemory> {
+    let plural = Str::of(alloc, b"foxes")?;
+    let singular = Str::of(alloc, b"fox")?;
+    Ok(Breed {
         plural,
         singular,
         link: false,
         directed: false,
         own: Names::empty(alloc),
-    };
-    assert!(rt; breeds.push(alloc, breed).is_ok());
-    assert!(rt; breeds.as_slice().len() == 1);
-    assert!(rt; breeds.as_slice()[0].singular.as_bytes() == b"fox".as_slice());
+    })
+}
+
+// The one breed of the list is called so.
+fn is_only(breeds: &Breeds, singular: &[u8]) -> bool {
+    match breeds.as_slice().get(0) {
+        Some(breed) => { breeds.as_slice().len() == 1 && breed.singular.as_bytes() == singular }
+        None => false,
+    }
+}
+
+fn is_appended(alloc: Global) -> Result<bool, NoMemory> {
+    let mut breeds = Breeds::empty(alloc);
+    let breed = foxes(alloc)?;
+    breeds.push(alloc, breed)?;
+    let is_there = is_only(&breeds, b"fox");
+    let_go(breeds);
+    Ok(is_there)
+}
+
+// A breed is appended, with its names.
+#[test]
+fn breed_is_appended(rt: HostRuntime) {
+    assert!(rt; matches!(is_appended(rt.alloc()), Ok(true)));
+}
+
+fn is_base(program: &Program, name: &[u8], code: u16) -> bool {
+    match program.what(name) {
+        Some(What::Base(found)) => found == code,
+        _ => false,
+    }
+}
+
+fn has_built_in_words(program: &Program) -> bool {
+    is_base(program, b"!=", 0)
+        && is_base(program, b"ask", 15)
+        && is_base(program, b"yellow", 333)
+        && program.what(b"as").is_none()
+        && program.what(b"go").is_none()
+}
+
+fn has_the_globals_of_a_run(program: &Program) -> bool {
+    program.global(b"behaviorspace-run-number") == Some(0)
+        && program.global(b"behaviorspace-experiment-name") == Some(1)
+        && program.global(b"color").is_none()
+        && program.global(b"go").is_none()
+}
+
+fn has_no_body(program: &Program) -> bool {
+    program.body(0).is_none() && program.kinds(0).is_none()
+}
+
+// What a program that declares nothing answers: its words, its globals, its bodies.
+fn bare_answers(alloc: Global) -> Result<(bool, bool, bool), NoMemory> {
+    let program = bare_program(alloc)?;
+    let words = has_built_in_words(&program);
+    let globals = has_the_globals_of_a_run(&program);
+    let bodies = has_no_body(&program);
+    let_go(program);
+    Ok((words, globals, bodies))
 }
 
 // A model that declares nothing has its built-in words, and no bodies.
 #[test]
 fn bare_model_has_the_built_in_words(rt: HostRuntime) {
-    let Ok(program) = bare_program(rt.alloc()) else {
+    let Ok((words, globals, bodies)) = bare_answers(rt.alloc()) else {
         panic!(rt);
     };
-    assert!(rt; matches!(program.what(b"!="), Some(What::Base(0))));
-    assert!(rt; matches!(program.what(b"ask"), Some(What::Base(15))));
-    assert!(rt; matches!(program.what(b"yellow"), Some(What::Base(333))));
-    assert!(rt; program.what(b"as").is_none());
-    assert!(rt; program.what(b"go").is_none());
-    assert!(rt; program.global(b"behaviorspace-run-number") == Some(0));
-    assert!(rt; program.global(b"behaviorspace-experiment-name") == Some(1));
-    assert!(rt; program.global(b"color").is_none());
-    assert!(rt; program.global(b"go").is_none());
-    assert!(rt; program.body(0).is_none());
-    assert!(rt; program.kinds(0).is_none());
+    assert!(rt; words);
+    assert!(rt; globals);
+    assert!(rt; bodies);
+}
+
+fn has_the_procedure(program: &Program) -> bool {
+    matches!(program.what(b"go"), Some(What::Procedure(0)))
+        && is_base(program, b"color", 50)
+        && program.declared().procedures.as_slice().len() == 1
+}
+
+fn is_without_parts(body: &Tree) -> bool {
+    matches!(body.label(), Label::Commands)
+        && body.span() == Span { start: 6, len: 3 }
+        && body.len() == 0
+        && body.part(0).is_none()
+}
+
+fn has_the_one_body(program: &Program) -> bool {
+    match program.body(0) {
+        Some(body) => is_without_parts(body) && program.body(1).is_none(),
+        None => false,
+    }
+}
+
+fn is_run_by_all(program: &Program) -> bool {
+    match program.kinds(0) {
+        Some(kinds) => kinds.observer && kinds.turtle && kinds.patch && kinds.link,
+        None => false,
+    }
+}
+
+// What a program of one procedure answers: its words, its body, and who may run it.
+fn going_answers(alloc: Global) -> Result<(bool, bool, bool), NoMemory> {
+    let program = going_program(alloc)?;
+    let words = has_the_procedure(&program);
+    let body = has_the_one_body(&program);
+    let kinds = is_run_by_all(&program);
+    let_go(program);
+    Ok((words, body, kinds))
 }
 
 // `to go end` has one body without parts, which all kinds may run.
 #[test]
 fn procedure_has_its_body_and_kinds(rt: HostRuntime) {
-    let Ok(program) = going_program(rt.alloc()) else {
+    let Ok((words, body, kinds)) = going_answers(rt.alloc()) else {
         panic!(rt);
     };
-    assert!(rt; matches!(program.what(b"go"), Some(What::Procedure(0))));
-    assert!(rt; matches!(program.what(b"color"), Some(What::Base(50))));
-    let Some(body) = program.body(0) else {
-        panic!(rt);
-    };
-    assert!(rt; matches!(body.label(), Label::Commands));
-    assert!(rt; body.span() == Span { start: 6, len: 3 });
-    assert!(rt; body.len() == 0);
-    assert!(rt; body.part(0).is_none());
-    assert!(rt; program.body(1).is_none());
-    assert!(rt;
-        matches!(
-            program.kinds(0),
-            Some(Kinds {
-                observer: true,
-                turtle: true,
-                patch: true,
-                link: true
-            })
-        )
-    );
-    assert!(rt; program.declared().procedures.as_slice().len() == 1);
+    assert!(rt; words);
+    assert!(rt; body);
+    assert!(rt; kinds);
 }
