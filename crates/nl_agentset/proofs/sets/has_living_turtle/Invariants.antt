@@ -1,0 +1,7 @@
+use Rattle.std.proofs.Common.{◌≡◌, take, false}
+use Rattle.std.specs.List.{list_any}
+use Rattle.nl_agents.specs.Changes.{turtle_lives}
+use Rattle.nl_agentset.proofs.sets.has_living_turtle.Given as goal
+
+abbrev pub invariant-loop-number : goal.invariant-loop-number
+invariant-loop-number g l = list_any (turtle_lives (g.S.Store.world l.store).rest) (take l.number-index l.numbers) ≡ false

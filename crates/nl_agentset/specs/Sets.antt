@@ -1,0 +1,210 @@
+-- Sets, their members, and agents by what they are called.
+-- A set that a word makes of others lists its members, so it never grows; the sets of all agents and of breeds stay what they are.
+use Rattle.std.specs.Prelude.{ℕ, ℤ, pos, ◌*ℤ◌, ◌==◌, ◌&&◌, ◌||◌, not, Bool, true, false, if◌then◌else◌, List, [], ◌∷◌, ◌++◌, filter, find, length, Option, Some, None, option_map, Ok, Err}
+use Rattle.std.specs.Ordering.{int_eq}
+use Rattle.nl_fixed.specs.Numbers.{one, is_whole}
+use Rattle.nl_value.specs.Nouns.{Serials}
+use Rattle.nl_value.specs.Living.{same_kind}
+use Rattle.nl_value.specs.Sets.{set_kind}
+use Rattle.nl_value.specs.Plain.{Plain, Plains, PlainNumber, PlainTruth, PlainWords, PlainItems, PlainTurtle, PlainPatch, PlainLink, PlainNobody, PlainSet, no_items, item_then}
+use Rattle.nl_value.specs.declared.sets.AgentKind.{AgentKind}
+use Rattle.nl_value.specs.declared.sets.AgentKind.TheVariants as kind
+use Rattle.nl_value.specs.declared.sets.AgentSet.{AgentSet}
+use Rattle.nl_value.specs.declared.sets.AgentSet.TheVariants as set
+use Rattle.nl_grid.specs.Geometry.{patch_at, wrapped_point}
+use Rattle.nl_layout.specs.Nouns.{BreedNumber}
+use Rattle.nl_agents.specs.World.{Rest}
+use Rattle.nl_agents.specs.Changes.{turtle_of, link_of, turtle_lives, link_lives}
+use Rattle.nl_agents.specs.Members.{members_of, is_listed}
+use Rattle.nl_agents.specs.Names.{who_of}
+use Rattle.nl_agents.specs.declared.agents.Turtle as the_turtle
+use Rattle.nl_agents.specs.declared.agents.Link as the_link
+use Rattle.nl_agents.specs.declared.agents.Owner.{Owner}
+use Rattle.nl_agents.specs.declared.agents.Owner.TheVariants as owner
+use Rattle.nl_agentset.specs.declared.fail.QueryFail.TheVariants.{WrongType}
+use Rattle.nl_agentset.specs.declared.words.Whole.{Whole}
+use Rattle.nl_agentset.specs.declared.words.Whole.TheVariants as whole
+use Rattle.nl_agentset.specs.declared.words.LookUp.{LookUp}
+use Rattle.nl_agentset.specs.declared.words.LookUp.TheVariants as look_up
+use Rattle.nl_agentset.specs.declared.words.OfBreed.{OfBreed}
+use Rattle.nl_agentset.specs.declared.words.OfBreed.TheVariants as of_breed
+use Rattle.nl_agentset.specs.declared.words.OfSet.{OfSet}
+use Rattle.nl_agentset.specs.declared.words.OfSet.TheVariants as of_set
+use Rattle.nl_agentset.specs.Inputs.{value_at, number_at, set_at}
+use Rattle.nl_agentset.specs.Outcomes.{Outcome, and_then}
+
+-- ---- agents as values, and sets that list their members
+
+-- an agent of a kind, by its number
+abbrev pub agent_value : AgentKind → ℕ → Plain
+agent_value kind.Turtle number = PlainTurtle number
+agent_value kind.Patch number = PlainPatch number
+agent_value kind.Link number = PlainLink number
+
+abbrev pub agent_or_nobody : AgentKind → Option ℕ → Plain
+agent_or_nobody which None = PlainNobody
+agent_or_nobody which (Some number) = agent_value which number
+
+-- the set that lists agents of a kind
+abbrev pub listed : AgentKind → Serials → AgentSet
+listed kind.Turtle numbers = set.SomeTurtles numbers
+listed kind.Patch numbers = set.SomePatches numbers
+listed kind.Link numbers = set.SomeLinks numbers
+
+abbrev pub listed_value : AgentKind → Serials → Plain
+listed_value which numbers = PlainSet (listed which numbers)
+
+-- all agents of a kind
+abbrev pub all_of : AgentKind → AgentSet
+all_of kind.Turtle = set.Turtles
+all_of kind.Patch = set.Patches
+all_of kind.Link = set.Links
+
+-- ---- breeds: a word without a breed is of all, one that a breed makes is of those of the breed
+
+abbrev pub is_of : Option BreedNumber → BreedNumber → Bool
+is_of None own = true
+is_of (Some breed) own = own == breed
+
+-- ---- sets without inputs
+
+abbrev pub turtles_of : Option BreedNumber → AgentSet
+turtles_of None = set.Turtles
+turtles_of (Some breed) = set.Breed breed
+
+abbrev pub links_of : Option BreedNumber → AgentSet
+links_of None = set.Links
+links_of (Some breed) = set.LinkBreed breed
+
+abbrev pub whole_set : Whole → Option BreedNumber → AgentSet
+whole_set whole.Turtles breed = turtles_of breed
+whole_set whole.Patches breed = set.Patches
+whole_set whole.Links breed = links_of breed
+whole_set whole.NoTurtles breed = set.SomeTurtles []
+whole_set whole.NoPatches breed = set.SomePatches []
+whole_set whole.NoLinks breed = set.SomeLinks []
+
+-- ---- agents by what they are called
+
+-- the turtle of a serial is called by the number
+abbrev pub is_called : Rest → ℤ → ℕ → Bool
+is_called r number serial = int_eq (pos (who_of r serial) *ℤ pos one) number
+
+abbrev pub whole_or_wrong : ℤ → Outcome ℤ
+whole_or_wrong number = if is_whole number then Ok number else Err WrongType
+
+-- the turtle that is called by a number
+abbrev pub turtle_named : Rest → ℤ → Option the_turtle.Turtle
+turtle_named r number = find (λ t. is_called r number t.serial) r.turtles
+
+-- the turtle, or nobody where there is none; one of another breed than the word's is WrongType
+abbrev pub bred_or_wrong : Option BreedNumber → Option the_turtle.Turtle → Outcome Plain
+bred_or_wrong breed None = Ok PlainNobody
+bred_or_wrong breed (Some t) = if is_of breed t.breed then Ok (PlainTurtle t.serial) else Err WrongType
+
+abbrev pub turtle_called : Rest → Option BreedNumber → ℤ → Outcome Plain
+turtle_called r breed number = and_then (whole_or_wrong number) (λ n. bred_or_wrong breed (turtle_named r n))
+
+-- the patch at a point of the world, or nobody
+abbrev pub patch_called : Rest → ℤ → ℤ → Plain
+patch_called r x y = agent_or_nobody kind.Patch (option_map (patch_at r.shape) (wrapped_point r.shape x y))
+
+-- the breed of a word, or that of agents of no breed
+abbrev pub breed_or_none : Option BreedNumber → BreedNumber
+breed_or_none None = 0
+breed_or_none (Some breed) = breed
+
+-- the link is of the breed and leads from the first turtle to the second, or either way round where it has no direction
+abbrev pub is_between : BreedNumber → ℕ → ℕ → the_link.Link → Bool
+is_between breed first second l =
+    (l.breed == breed)
+    && (((l.end1 == first) && (l.end2 == second)) || (not l.directed && (l.end1 == second) && (l.end2 == first)))
+
+abbrev pub link_between : Rest → BreedNumber → Option the_turtle.Turtle → Option the_turtle.Turtle → Option the_link.Link
+link_between r breed None second = None
+link_between r breed (Some first) None = None
+link_between r breed (Some first) (Some second) = find (is_between breed first.serial second.serial) r.links
+
+-- the link of the word's breed, or of none, between the turtles that are called so, or nobody where there is none; no two links of one
+-- breed join two turtles the same way
+abbrev pub link_called : Rest → Option BreedNumber → ℤ → ℤ → Outcome Plain
+link_called r breed first second =
+    and_then (whole_or_wrong first) (λ a. and_then (whole_or_wrong second) (λ b.
+    Ok (agent_or_nobody kind.Link (option_map (λ l. l.serial) (link_between r (breed_or_none breed) (turtle_named r a) (turtle_named r b))))))
+
+abbrev pub looked_up : Rest → LookUp → Option BreedNumber → List Plain → Outcome Plain
+looked_up r look_up.Turtle breed inputs = and_then (number_at inputs 0) (turtle_called r breed)
+looked_up r look_up.Patch breed inputs = and_then (number_at inputs 0) (λ x. and_then (number_at inputs 1) (λ y. Ok (patch_called r x y)))
+looked_up r look_up.Link breed inputs = and_then (number_at inputs 0) (λ first. and_then (number_at inputs 1) (link_called r breed first))
+
+-- ---- tests of a breed: a dead agent is of none
+
+abbrev pub turtle_passes : (the_turtle.Turtle → Bool) → Option the_turtle.Turtle → Bool
+turtle_passes test None = false
+turtle_passes test (Some t) = test t
+
+abbrev pub link_passes : (the_link.Link → Bool) → Option the_link.Link → Bool
+link_passes test None = false
+link_passes test (Some l) = test l
+
+abbrev pub is_of_breed_value : Rest → OfBreed → Option BreedNumber → Plain → Bool
+is_of_breed_value r of_breed.Turtle breed (PlainTurtle serial) = turtle_passes (λ t. is_of breed t.breed) (turtle_of serial r)
+is_of_breed_value r of_breed.Link breed (PlainLink serial) = link_passes (λ l. is_of breed l.breed) (link_of serial r)
+is_of_breed_value r which breed value = false
+
+abbrev pub breed_tested : Rest → OfBreed → Option BreedNumber → List Plain → Outcome Plain
+breed_tested r which breed inputs = and_then (value_at inputs 0) (λ value. Ok (PlainTruth (is_of_breed_value r which breed value)))
+
+-- ---- words of a set alone
+
+-- the caller is the agent of this kind and number
+abbrev pub is_caller : Owner → AgentKind → ℕ → Bool
+is_caller (owner.Turtle serial) kind.Turtle number = number == serial
+is_caller (owner.Patch patch) kind.Patch number = number == patch
+is_caller (owner.Link serial) kind.Link number = number == serial
+is_caller caller which number = false
+
+-- all members but the caller
+abbrev pub others : Rest → Owner → AgentSet → Serials
+others r caller agents = filter (λ number. not (is_caller caller (set_kind agents) number)) (members_of r agents)
+
+abbrev pub has_members : Serials → Bool
+has_members [] = false
+has_members (n ∷ ns) = true
+
+abbrev pub of_agents : Rest → Owner → OfSet → AgentSet → Plain
+of_agents r caller of_set.Other agents = listed_value (set_kind agents) (others r caller agents)
+of_agents r caller of_set.Count agents = PlainNumber (pos (length (members_of r agents)) *ℤ pos one)
+of_agents r caller of_set.Any agents = PlainTruth (has_members (members_of r agents))
+
+abbrev pub set_told : Rest → Owner → OfSet → List Plain → Outcome Plain
+set_told r caller which inputs = and_then (set_at inputs 0) (λ agents. Ok (of_agents r caller which agents))
+
+-- ---- unions
+
+-- an agent of the kind that lives, a dead one, which is nobody, or one of another kind
+abbrev pub one_united : AgentKind → AgentKind → Bool → ℕ → Outcome Serials
+one_united wanted own lives number = if not lives then Ok [] else if same_kind wanted own then Ok (number ∷ []) else Err WrongType
+
+-- the numbers of the agents in a value of agents, sets and lists of them at any depth, nobody passed over
+abbrev mutual
+  pub united : Rest → AgentKind → Plain → Outcome Serials
+  united r wanted (PlainTurtle serial) = one_united wanted kind.Turtle (turtle_lives r serial) serial
+  united r wanted (PlainPatch patch) = one_united wanted kind.Patch true patch
+  united r wanted (PlainLink serial) = one_united wanted kind.Link (link_lives r serial) serial
+  united r wanted PlainNobody = Ok []
+  united r wanted (PlainSet agents) = if same_kind wanted (set_kind agents) then Ok (members_of r agents) else Err WrongType
+  united r wanted (PlainItems items) = all_united r wanted items
+  united r wanted (PlainNumber count) = Err WrongType
+  united r wanted (PlainTruth truth) = Err WrongType
+  united r wanted (PlainWords bytes) = Err WrongType
+
+  pub all_united : Rest → AgentKind → Plains → Outcome Serials
+  all_united r wanted no_items = Ok []
+  all_united r wanted (item_then first rest) =
+      and_then (united r wanted first) (λ some. and_then (all_united r wanted rest) (λ more. Ok (some ++ more)))
+
+-- the union: those of all agents of the kind that stand in one of the values, each once and ascending
+abbrev pub union_of : Rest → AgentKind → Plains → Outcome Plain
+union_of r wanted values =
+    and_then (all_united r wanted values) (λ numbers. Ok (listed_value wanted (filter (is_listed numbers) (members_of r (all_of wanted)))))
