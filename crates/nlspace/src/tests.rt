@@ -1,14 +1,11 @@
 //! The whole program, and each stage of it, over files and sinks in memory.
 
 mod asking;
-mod births;
 mod bodies;
-mod broods;
 mod calls;
 mod climbs;
 mod command;
 mod context;
-mod crowds;
 mod exchanges;
 mod fields;
 mod fire;
