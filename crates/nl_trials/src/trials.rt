@@ -6,7 +6,7 @@ ghost use Rattle.std.specs.List.{list_any};
 ghost use Rattle.nl_grid.specs.Geometry.{IsPointOf};
 ghost use Rattle.nl_agents.specs.Changes.{TurtleLives, OwnerLives, joins, link_of};
 ghost use Rattle.nl_agents.specs.Members.{all_links};
-ghost use Rattle.nlspace.specs.Trials.{joined};
+ghost use Rattle.nl_trials.specs.Trials.{joined};
 
 use nl_agents::{Layout, Owner, Steps, Store};
 use nl_fixed::Num;
@@ -19,11 +19,11 @@ use std::process::Abort;
 use std::sync::ledger::{Blank, Ledger};
 
 /// A point, each coordinate in tenths.
-pub(crate) type Place = (i64, i64);
+pub type Place = (i64, i64);
 
 /// A call of a store.
 #[derive(Clone, Copy, Debug)]
-pub(crate) enum Step {
+pub enum Step {
     /// A turtle of a breed is born at a place, of a parent or of none, and has the serial.
     Bear(u32, Place, Option<u64>, u64),
     /// None of the breed is born there, since the store is full.
@@ -50,7 +50,7 @@ pub(crate) enum Step {
 
 /// What a store is asked, with the answer.
 #[derive(Clone, Copy, Debug)]
-pub(crate) enum Look {
+pub enum Look {
     Turtles(&'static [u64]),
     OfBreed(u32, &'static [u64]),
     /// The turtles on the patch of a place.
@@ -71,7 +71,7 @@ pub(crate) enum Look {
 
 /// What a variable holds.
 #[derive(Clone, Copy, Debug)]
-pub(crate) enum Wanted {
+pub enum Wanted {
     Number(i64),
     Truth(bool),
     Words(&'static str),
@@ -80,16 +80,16 @@ pub(crate) enum Wanted {
 }
 
 /// The number of so many tenths.
-pub(crate) fn tenths(count: i64) -> Option<Num> {
+pub fn tenths(count: i64) -> Option<Num> {
     Num::new(count.checked_mul(100_000)?)
 }
 
 /// Two stores with the layout that they were made with, and the program of that. What is said of a store is said of the first.
 #[derive(Drop)]
-pub(crate) struct Tried<S: Store> {
-    pub(crate) store: S,
-    pub(crate) aside: S,
-    pub(crate) layout: Layout,
+pub struct Tried<S: Store> {
+    pub store: S,
+    pub aside: S,
+    pub layout: Layout,
     program: Program,
     ghost known: { layout ≡ (S.world store).rest.layout },
     ghost known_aside: { layout ≡ (S.world aside).rest.layout },
@@ -97,12 +97,12 @@ pub(crate) struct Tried<S: Store> {
 
 impl<S: Store> Tried<S> {
     /// Stores of five by five patches around the origin that go on in x behind their sides. None at want of memory.
-    pub(crate) fn new(alloc: Global, program: Program) -> Option<Tried<S>> {
+    pub fn new(alloc: Global, program: Program) -> Option<Tried<S>> {
         Tried::of(alloc, program, Shape::new(-2, 2, -2, 2, true, false)?)
     }
 
     /// Stores of a shape. None at want of memory.
-    pub(crate) fn of(alloc: Global, program: Program, shape: Shape) -> Option<Tried<S>> {
+    pub fn of(alloc: Global, program: Program, shape: Shape) -> Option<Tried<S>> {
         let layout = Layout::of(alloc, &program).ok()?;
         let store = S::new(alloc, &layout, shape).ok()?;
         let aside = S::new(alloc, &layout, shape).ok()?;
@@ -115,12 +115,12 @@ impl<S: Store> Tried<S> {
     }
 
     // The slot of a variable.
-    pub(crate) fn slot(&self, name: &str) -> Option<u32> {
+    pub fn slot(&self, name: &str) -> Option<u32> {
         let what = self.program.what(name.as_bytes())?;
         self.layout.slot(what)
     }
 
-    pub(crate) fn point(&self, place: Place) -> Option<Point>
+    pub fn point(&self, place: Place) -> Option<Point>
         ensures { IfSome result (λ at. IsPointOf (S.world self.now.store).rest.shape at) }
     {
         let x = tenths(place.0)?;
@@ -128,7 +128,7 @@ impl<S: Store> Tried<S> {
         self.store.shape().wrap(x, y)
     }
 
-    pub(crate) fn parent_lives(&self, parent: Option<u64>) -> bool
+    pub fn parent_lives(&self, parent: Option<u64>) -> bool
         ensures { IsTrue result → IfSome parent (λ serial. TurtleLives serial (S.world self.now.store)) }
     {
         match parent {
@@ -137,7 +137,7 @@ impl<S: Store> Tried<S> {
         }
     }
 
-    pub(crate) fn owner_lives(&self, owner: Owner) -> bool
+    pub fn owner_lives(&self, owner: Owner) -> bool
         ensures { IsTrue result → OwnerLives owner (S.world self.now.store) }
     {
         match owner {
@@ -179,14 +179,7 @@ impl<S: Store> Tried<S> {
     }
 
     // Whether a link of the breed joins the two the same way already; also where memory is wanted.
-    pub(crate) fn is_tied(
-        &self,
-        alloc: Global,
-        breed: u32,
-        directed: bool,
-        end1: u64,
-        end2: u64,
-    ) -> bool
+    pub fn is_tied(&self, alloc: Global, breed: u32, directed: bool, end1: u64, end2: u64) -> bool
         ensures { result ≡ false → list_any (joins breed directed end1 end2) (S.world self.now.store).rest.links ≡ false }
     {
         let Some(links) = self.all_links::<Brand>(alloc, Blank::new(1)) else {
@@ -219,15 +212,10 @@ fn ask<S: Store>(rt: &impl Abort, alloc: Global, tried: &Tried<S>, looks: &[Look
 }
 
 /// Calls, and what the store answers after them.
-pub(crate) type Scene = (&'static [Step], &'static [Look]);
+pub type Scene = (&'static [Step], &'static [Look]);
 
 /// Plays the scenes on the store.
-pub(crate) fn proceed<S: Store>(
-    rt: &impl Abort,
-    alloc: Global,
-    tried: &mut Tried<S>,
-    scenes: &[Scene],
-) {
+pub fn proceed<S: Store>(rt: &impl Abort, alloc: Global, tried: &mut Tried<S>, scenes: &[Scene]) {
     for (steps, looks) in scenes {
         play(rt, alloc, tried, steps);
         ask(rt, alloc, tried, looks);
@@ -235,7 +223,7 @@ pub(crate) fn proceed<S: Store>(
 }
 
 /// A new store on which the scenes are played.
-pub(crate) fn played<S: Store>(
+pub fn played<S: Store>(
     rt: &impl Abort,
     alloc: Global,
     program: Program,

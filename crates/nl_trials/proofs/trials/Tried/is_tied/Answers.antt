@@ -2,9 +2,9 @@ use Rattle.std.proofs.Common.{◌≡◌, ℕ, List, false, length, ap, sym, ◌�
 use Rattle.std.specs.List.{list_any}
 use Rattle.std.proofs.lemmas.List.{take_all}
 use Rattle.nl_agents.specs.Changes.{link_of}
-use Rattle.nlspace.specs.Trials.{joined}
-use Rattle.nlspace.proofs.Joining.{any_joined}
-use Rattle.nlspace.proofs.tests.trials.Tried.is_tied.Goals as goal
+use Rattle.nl_trials.specs.Trials.{joined}
+use Rattle.nl_trials.proofs.Joining.{any_joined}
+use Rattle.nl_trials.proofs.trials.Tried.is_tied.Goals as goal
 
 pub returns : goal.returns
 returns g c =

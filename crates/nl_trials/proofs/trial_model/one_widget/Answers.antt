@@ -1,5 +1,5 @@
-use Rattle.nlspace.proofs.Widgets.{speed_is_a_widget}
-use Rattle.nlspace.proofs.tests.trial_model.one_widget.Goals as goal
+use Rattle.nl_trials.proofs.Widgets.{speed_is_a_widget}
+use Rattle.nl_trials.proofs.trial_model.one_widget.Goals as goal
 
 pub returns : goal.returns
 returns c = rw (c.in_ok-push.ensures.ok, c.empty-names.ensures, c.in_ok-name.ensures.ok) speed_is_a_widget

@@ -1,9 +1,9 @@
 //! Links and clears of stores. Each table runs over every store that there is.
 
-use crate::tests::stores::assert_scenes;
-use crate::tests::trial_model::{FOXES, OWLS, ROPES, WIRES};
-use crate::tests::trials::{Look, Scene, Step, Wanted};
+use crate::stores::assert_scenes;
 use nl_agents::Owner;
+use nl_trials::trial_model::{FOXES, OWLS, ROPES, WIRES};
+use nl_trials::trials::{Look, Scene, Step, Wanted};
 
 const HERE: (i64, i64) = (0, 0);
 

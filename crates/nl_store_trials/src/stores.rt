@@ -2,10 +2,10 @@
 //!
 //! Each table runs over every store that there is. Coordinates and numbers are in tenths.
 
-use crate::tests::trial_model::{FOXES, OWLS, ROPES, WIRES, program};
-use crate::tests::trials::{Look, Scene, Step, Tried, Wanted, played};
 use nl_agents::Owner;
 use nl_plain::Plain;
+use nl_trials::trial_model::{FOXES, OWLS, ROPES, WIRES, program};
+use nl_trials::trials::{Look, Scene, Step, Tried, Wanted, played};
 use std::alloc::Global;
 use std::process::Abort;
 

@@ -4,12 +4,12 @@ ghost use Rattle.nl_value.specs.Views.{plain};
 ghost use Rattle.nl_grid.specs.Geometry.{patches_of};
 ghost use Rattle.nl_agents.specs.Standing.{MayHold};
 
-use crate::tests::trial_model::program;
-use crate::tests::trials::{Scene, Step, Tried, proceed};
 use nl_agents::{HEADING, Owner, Store};
 use nl_fixed::{Num, Str};
 use nl_grid::Shape;
 use nl_motion::{MoveFault, place};
+use nl_trials::trial_model::program;
+use nl_trials::trials::{Scene, Step, Tried, proceed};
 use nl_value::{Items, Value};
 use std::alloc::Global;
 use std::process::Abort;

@@ -2,9 +2,7 @@
 //!
 //! Numbers are in millionths.
 
-use crate::tests::fields::{
-    BOX, Field, Other, Others, Sides, WIDE, fill, fill_with, ground, is_field,
-};
+use crate::fields::{BOX, Field, Other, Others, Sides, WIDE, fill, fill_with, ground, is_field};
 use nl_agents::Store;
 use nl_fixed::Num;
 use nl_motion::{MoveFault, diffuse};

@@ -1,7 +1,7 @@
 //! Calls of stores under trial, each made only where its conditions hold.
 
-use crate::tests::asking::is_wanted;
-use crate::tests::trials::{Place, Step, Tried, Wanted, tenths};
+use crate::asking::is_wanted;
+use crate::trials::{Place, Step, Tried, Wanted, tenths};
 use nl_agents::{BearFail, Owner, Store};
 use nl_value::Value;
 use std::alloc::Global;
@@ -119,7 +119,7 @@ impl<S: Store> Tried<S> {
     }
 
     /// Makes the call where its conditions hold. False where they don't, and where the store answers otherwise than the step says.
-    pub(crate) fn play(&mut self, alloc: Global, step: Step) -> bool {
+    pub fn play(&mut self, alloc: Global, step: Step) -> bool {
         match step {
             Step::Bear(breed, place, parent, serial) => {
                 self.born(alloc, breed, place, parent) == Some(Ok(serial))

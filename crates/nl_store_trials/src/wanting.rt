@@ -2,10 +2,10 @@
 //!
 //! With ample memory each call is made. Where `rt try --test --fail-alloc` has one allocation fail, the call was made whole or not at all.
 
-use crate::tests::trial_model::{FOXES, OWLS, ROPES, WIRES, program};
-use crate::tests::trials::{Look, Step, Tried, Wanted};
 use nl_agents::{Owner, Store};
 use nl_plain::Plain;
+use nl_trials::trial_model::{FOXES, OWLS, ROPES, WIRES, program};
+use nl_trials::trials::{Look, Step, Tried, Wanted};
 use std::alloc::Global;
 use std::process::Abort;
 
@@ -57,21 +57,19 @@ const TRIALS: &[Trial] = &[
     (Step::Copy, BEFORE),
 ];
 
-impl<S: Store> Tried<S> {
-    fn plays(&mut self, alloc: Global, steps: &[Step]) -> bool {
-        for step in steps {
-            if !self.play(alloc, *step) {
-                return false;
-            }
+fn plays<S: Store>(tried: &mut Tried<S>, alloc: Global, steps: &[Step]) -> bool {
+    for step in steps {
+        if !tried.play(alloc, *step) {
+            return false;
         }
-        true
     }
+    true
 }
 
 // A store with two turtles and a link. None at want of memory.
 fn begun<S: Store>(alloc: Global) -> Option<Tried<S>> {
     let mut tried = Tried::new(alloc, program(alloc)?)?;
-    if !tried.plays(alloc, FIRST) {
+    if !plays(&mut tried, alloc, FIRST) {
         return None;
     }
     Some(tried)

@@ -9,7 +9,7 @@ use Rattle.nl_agents.specs.Members.{all_links}
 use Rattle.nl_agents.specs.Standing.{IsWorld}
 use Rattle.nl_agents.specs.declared.agents.Link.{Link}
 use Rattle.nl_agents.proofs.LivingMembers.{found_passing}
-use Rattle.nlspace.specs.Trials.{joined}
+use Rattle.nl_trials.specs.Trials.{joined}
 
 abbrev some : {X : Type 0} → List X → Bool
 some [] = false

@@ -1,7 +1,7 @@
 //! What stores under trial are asked.
 ghost use Rattle.std.specs.Prelude.{◌≡◌};
 
-use crate::tests::trials::{Look, Place, Tried, Wanted, tenths};
+use crate::trials::{Look, Place, Tried, Wanted, tenths};
 use nl_agents::{Owner, Steps, Store};
 use nl_value::{Serials, Value};
 use std::alloc::Global;
@@ -10,7 +10,7 @@ use std::sync::ledger::{Blank, Ledger};
 
 /// A list that a store gives.
 #[derive(Clone, Copy)]
-pub(crate) enum Listed {
+pub enum Listed {
     Turtles,
     OfBreed(u32),
     On(Place),
@@ -98,7 +98,7 @@ impl<S: Store> Tried<S> {
     }
 
     /// Whether the store gives the answer.
-    pub(crate) fn answers(&self, alloc: Global, look: Look) -> bool {
+    pub fn answers(&self, alloc: Global, look: Look) -> bool {
         match look {
             Look::Turtles(wanted) => {
                 self.store.turtle_count() == wanted.len()
@@ -127,7 +127,7 @@ impl<S: Store> Tried<S> {
 }
 
 /// Whether a variable holds this.
-pub(crate) fn is_wanted(value: Option<&Value>, wanted: Wanted) -> bool {
+pub fn is_wanted(value: Option<&Value>, wanted: Wanted) -> bool {
     match (value, wanted) {
         (Some(Value::Number(number)), Wanted::Number(count)) => Some(*number) == tenths(count),
         (Some(Value::Truth(truth)), Wanted::Truth(other)) => *truth == other,

@@ -1,136 +1,56 @@
 //! Agents and sets of stores as values: their text, equality and order. Each table runs over every store that there is.
-ghost use Rattle.std.specs.Prelude.{◌≡◌, ◌<◌, ◌∷◌, [], IfSome, IsTrue};
-ghost use Rattle.nl_value.specs.Living.{fits};
-ghost use Rattle.nl_value.specs.Views.{plain};
-ghost use Rattle.nl_agents.specs.Names.{living_of, set_fits};
 
-use crate::tests::trial_model::{FOXES, OWLS, ROPES, WIRES, program};
-use crate::tests::trials::{Look, Scene, Step, Tried, played};
 use nl_agents::{Store, View};
 use nl_plain::Plain;
+use nl_trials::Tried;
+use nl_trials::naming::Named;
+use nl_trials::trial_model::{FOXES, OWLS, ROPES, WIRES, program};
+use nl_trials::trials::{Look, Scene, Step, played};
 use nl_value::equality::same;
 use nl_value::order::before;
 use nl_value::texts::text;
-use nl_value::{AgentSet, Serials, Value};
 use std::alloc::Global;
 use std::process::Abort;
 
-// An agent or a set.
-#[derive(Clone, Copy, Debug)]
-enum Named {
-    Nobody,
-    Turtle(u64),
-    Patch(u32),
-    Link(u64),
-    Turtles,
-    Patches,
-    Links,
-    Breed(u32),
-    LinkBreed(u32),
-    /// Two by their serials or numbers, the lower one first.
-    SomeTurtles(u64, u64),
-    SomePatches(u64, u64),
-    SomeLinks(u64, u64),
+fn prints<S: Store>(tried: &Tried<S>, alloc: Global, named: Named, wanted: &str) -> bool {
+    let Some(value) = tried.value_of(alloc, named) else {
+        return false;
+    };
+    match text(
+        alloc,
+        &value,
+        false,
+        &View::new(&tried.store, &tried.layout),
+    ) {
+        Ok(text) => text.as_bytes() == wanted.as_bytes(),
+        Err(_) => false,
+    }
 }
 
-fn pair(alloc: Global, first: u64, second: u64) -> Option<Serials>
-    requires { first < second }
-    ensures { IfSome result (λ pair. pair ≡ first ∷ second ∷ []) }
-{
-    let mut numbers = Serials::empty(alloc);
-    numbers.push(alloc, first).ok()?;
-    numbers.push(alloc, second).ok()?;
-    Some(numbers)
+// Whether two values are the same. None where one doesn't fit, and at want of memory.
+fn compared<S: Store>(
+    tried: &Tried<S>,
+    alloc: Global,
+    first: Named,
+    second: Named,
+) -> Option<bool> {
+    let first = tried.value_of(alloc, first)?;
+    let second = tried.value_of(alloc, second)?;
+    match same(
+        alloc,
+        &first,
+        &second,
+        &View::new(&tried.store, &tried.layout),
+    ) {
+        Ok(same) => Some(same),
+        Err(_) => None,
+    }
 }
 
-impl<S: Store> Tried<S> {
-    fn listed_set(&self, alloc: Global, named: Named) -> Option<AgentSet>
-        ensures { IfSome result (λ set. IsTrue (set_fits (S.world self.now.store).rest set)) }
-    {
-        match named {
-            Named::SomeTurtles(first, second) if first < second => {
-                Some(AgentSet::SomeTurtles(pair(alloc, first, second)?))
-            }
-            Named::SomeLinks(first, second) if first < second => {
-                Some(AgentSet::SomeLinks(pair(alloc, first, second)?))
-            }
-            Named::SomePatches(first, second) if first < second => {
-                let patches = u64::from(self.store.shape().patches());
-                if second >= patches {
-                    return None;
-                }
-                Some(AgentSet::SomePatches(pair(alloc, first, second)?))
-            }
-            _ => None,
-        }
-    }
-
-    fn set_of(&self, alloc: Global, named: Named) -> Option<AgentSet>
-        ensures { IfSome result (λ set. IsTrue (set_fits (S.world self.now.store).rest set)) }
-    {
-        match named {
-            Named::Turtles => Some(AgentSet::Turtles),
-            Named::Patches => Some(AgentSet::Patches),
-            Named::Links => Some(AgentSet::Links),
-            Named::Breed(breed) if self.layout.is_turtle_breed(breed) => {
-                Some(AgentSet::Breed(breed))
-            }
-            Named::LinkBreed(breed) if self.layout.is_link_breed(breed) => {
-                Some(AgentSet::LinkBreed(breed))
-            }
-            listed => self.listed_set(alloc, listed),
-        }
-    }
-
-    // None where it doesn't fit the store, and at want of memory.
-    fn value_of(&self, alloc: Global, named: Named) -> Option<Value>
-        ensures { IfSome result (λ value. IsTrue (fits (living_of (S.world self.now.store).rest) (plain value))) }
-    {
-        match named {
-            Named::Nobody => Some(Value::Nobody),
-            Named::Turtle(turtle) => Some(Value::Turtle(turtle)),
-            Named::Link(link) => Some(Value::Link(link)),
-            Named::Patch(patch) => {
-                if patch < self.store.shape().patches() {
-                    Some(Value::Patch(patch))
-                } else {
-                    None
-                }
-            }
-            set => Some(Value::Set(self.set_of(alloc, set)?)),
-        }
-    }
-
-    fn prints(&self, alloc: Global, named: Named, wanted: &str) -> bool {
-        let Some(value) = self.value_of(alloc, named) else {
-            return false;
-        };
-        match text(alloc, &value, false, &View::new(&self.store, &self.layout)) {
-            Ok(text) => text.as_bytes() == wanted.as_bytes(),
-            Err(_) => false,
-        }
-    }
-
-    // Whether two values are the same. None where one doesn't fit, and at want of memory.
-    fn compared(&self, alloc: Global, first: Named, second: Named) -> Option<bool> {
-        let first = self.value_of(alloc, first)?;
-        let second = self.value_of(alloc, second)?;
-        match same(
-            alloc,
-            &first,
-            &second,
-            &View::new(&self.store, &self.layout),
-        ) {
-            Ok(same) => Some(same),
-            Err(_) => None,
-        }
-    }
-
-    fn ordered(&self, alloc: Global, first: Named, second: Named) -> Option<bool> {
-        let first = self.value_of(alloc, first)?;
-        let second = self.value_of(alloc, second)?;
-        before(&first, &second, &View::new(&self.store, &self.layout))
-    }
+fn ordered<S: Store>(tried: &Tried<S>, alloc: Global, first: Named, second: Named) -> Option<bool> {
+    let first = tried.value_of(alloc, first)?;
+    let second = tried.value_of(alloc, second)?;
+    before(&first, &second, &View::new(&tried.store, &tried.layout))
 }
 
 // Who numbers begin anew behind a clear: turtle 2 is called 0. The owl is dead, and with it its rope.
@@ -193,7 +113,7 @@ const TEXTS: &[(Named, &str)] = &[
 fn assert_texts<S: Store>(rt: &impl Abort, alloc: Global) {
     let tried = started::<S>(rt, alloc);
     for (named, wanted) in TEXTS {
-        assert!(rt; tried.prints(alloc, *named, wanted), "{named:?}");
+        assert!(rt; prints(&tried, alloc, *named, wanted), "{named:?}");
     }
 }
 
@@ -226,7 +146,7 @@ fn assert_same<S: Store>(rt: &impl Abort, alloc: Global) {
     let tried = started::<S>(rt, alloc);
     for (first, second, wanted) in SAME {
         assert!(rt;
-            tried.compared(alloc, *first, *second) == Some(*wanted),
+            compared(&tried, alloc, *first, *second) == Some(*wanted),
             "{first:?} and {second:?}"
         );
     }
@@ -258,7 +178,7 @@ fn assert_ordered<S: Store>(rt: &impl Abort, alloc: Global) {
     let tried = started::<S>(rt, alloc);
     for (first, second, wanted) in ORDERED {
         assert!(rt;
-            tried.ordered(alloc, *first, *second) == *wanted,
+            ordered(&tried, alloc, *first, *second) == *wanted,
             "{first:?} and {second:?}"
         );
     }

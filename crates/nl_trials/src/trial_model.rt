@@ -16,13 +16,13 @@ undirected-link-breed [ ropes rope ] turtles-own [ age ] foxes-own [ den shared 
 patches-own [ p ] links-own [ w ] wires-own [ v ]";
 
 /// The breeds of the model, in the order of its text; 0 is no breed.
-pub(crate) const FOXES: u32 = 1;
+pub const FOXES: u32 = 1;
 
-pub(crate) const OWLS: u32 = 2;
+pub const OWLS: u32 = 2;
 
-pub(crate) const WIRES: u32 = 3;
+pub const WIRES: u32 = 3;
 
-pub(crate) const ROPES: u32 = 4;
+pub const ROPES: u32 = 4;
 
 fn one_widget(alloc: Global) -> Result<Names, NoMemory>
     ensures { IfOk result AreWidgets }
@@ -34,7 +34,7 @@ fn one_widget(alloc: Global) -> Result<Names, NoMemory>
 }
 
 /// The program of the model. None at want of memory.
-pub(crate) fn program(alloc: Global) -> Option<Program> {
+pub fn program(alloc: Global) -> Option<Program> {
     let tokens = scan(alloc, MODEL).ok()?;
     let widgets = one_widget(alloc).ok()?;
     match declare(alloc, &Source::new(MODEL, tokens.as_slice()), widgets) {

@@ -1,8 +1,8 @@
 use Rattle.std.proofs.Common.{◌≡◌, take, false}
 use Rattle.std.specs.List.{list_any}
 use Rattle.nl_agents.specs.Changes.{link_of}
-use Rattle.nlspace.specs.Trials.{joined}
-use Rattle.nlspace.proofs.tests.trials.Tried.is_tied.Given as goal
+use Rattle.nl_trials.specs.Trials.{joined}
+use Rattle.nl_trials.proofs.trials.Tried.is_tied.Given as goal
 
 abbrev pub ghosts-all_links : goal.ghosts-all_links
 ghosts-all_links g a = record { name = a.blank.name; parts = a.blank.parts }

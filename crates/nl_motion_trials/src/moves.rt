@@ -2,7 +2,7 @@
 //!
 //! Numbers and coordinates are in millionths.
 
-use crate::tests::fields::{BOX, Sides, Spot, TURTLE, WIDE, ground, jump, stands};
+use crate::fields::{BOX, Sides, Spot, TURTLE, WIDE, ground, jump, stands};
 use nl_agents::{HEADING, Owner, Store};
 use nl_fixed::Num;
 use nl_motion::{MoveFault, step};

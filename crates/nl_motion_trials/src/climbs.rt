@@ -2,7 +2,7 @@
 //!
 //! Numbers and coordinates are in millionths.
 
-use crate::tests::fields::{
+use crate::fields::{
     Field, Other, Others, Sides, Spot, TURTLE, WIDE, fill, fill_with, ground, heads, is_field,
     jump, stands,
 };
