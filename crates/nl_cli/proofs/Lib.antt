@@ -7,7 +7,6 @@ pub mod Keys
 pub mod Items
 pub mod Costs
 pub mod PutSteps
-pub mod LineText
 pub mod Reading
 pub mod CourseSteps
 pub mod GatherSteps

@@ -19,7 +19,7 @@ use Rattle.nl_cli.specs.Words.{Paths, paths_of, path_of}
 use Rattle.nl_cli.specs.ModelForm.{Verdict, IsVerdict}
 use Rattle.nl_cli.specs.ExperimentFile.{experiment_says}
 use Rattle.nl_cli.specs.Course.{row_of}
-use Rattle.nl_cli.specs.TableText.{header_text, row_text}
+use Rattle.nl_cli.specs.TableText.{table_header, row_text}
 
 -- the bytes of each file that the form names, where it is there
 abbrev pub Found : Type 0
@@ -56,7 +56,7 @@ rows_text number job = row_text number (row_of job.model job.fields.steps job.fi
 
 -- the table of a job: the header, and the rows of its one run
 abbrev pub table_text : Paths → Job → List ℕ
-table_text paths job = header_text paths.model job.fields.name ++ rows_text 1 job
+table_text paths job = table_header paths.model job.fields.name ++ rows_text 1 job
 
 -- pieces, one after another
 abbrev pub joined_text : List (List ℕ) → List ℕ

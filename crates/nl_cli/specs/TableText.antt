@@ -1,60 +1,32 @@
--- The bytes of the table.
-use Rattle.std.specs.Prelude.{ℕ, ◌==◌, List, [], ◌∷◌, ◌++◌, codes, if◌then◌else◌, Option, Some, None}
+-- The bytes of the table of a model of the form.
+use Rattle.std.specs.Prelude.{ℕ, ℤ, pos, neg_ℤ, List, [], ◌∷◌, codes, Option, Some, None}
 use Rattle.std.specs.Fmt.{decimal}
-use Rattle.csv.specs.declared.writer.QuoteStyle.TheVariants as style
-use Rattle.csv.specs.declared.writer.WriterBuilder.{WriterBuilder}
-use Rattle.csv.specs.Writing.{default_writer, with_style}
+use Rattle.nl_fixed.specs.Nouns.{Bytes, Names}
+use Rattle.nl_table.specs.Lines.{line_text}
+use Rattle.nl_table.specs.Header.{header_text}
 use Rattle.nl_cli.specs.declared.running.RunEnd.{RunEnd}
 use Rattle.nl_cli.specs.declared.running.Row.{Row}
 
--- a text with each quote doubled
-abbrev pub doubled : List ℕ → List ℕ
-doubled [] = []
-doubled (byte ∷ rest) = if byte == 34 then 34 ∷ byte ∷ doubled rest else byte ∷ doubled rest
+-- the bounds of the world
+abbrev pub bounds_of_form : List ℤ
+bounds_of_form = neg_ℤ (pos 16) ∷ pos 16 ∷ neg_ℤ (pos 16) ∷ pos 16 ∷ []
 
--- a cell between quotes
-abbrev pub cell_text : List ℕ → List ℕ
-cell_text cell = 34 ∷ doubled cell ++ 34 ∷ []
+abbrev pub metrics_of_form : Names
+metrics_of_form = codes "count turtles" ∷ []
 
--- each cell with a comma before it
-abbrev pub further_cells : List (List ℕ) → List ℕ
-further_cells [] = []
-further_cells (cell ∷ cells) = 44 ∷ cell_text cell ++ further_cells cells
-
--- the cells of a line, parted by commas, and a line end; a line has a cell at least
-abbrev pub line_text : List (List ℕ) → List ℕ
-line_text [] = []
-line_text (cell ∷ cells) = cell_text cell ++ further_cells cells ++ 10 ∷ []
-
--- how the crate `csv` is told to write lines
-abbrev pub always_quoted : WriterBuilder
-always_quoted = with_style default_writer style.Always
-
--- lines, one after another
-abbrev pub lines_text : List (List (List ℕ)) → List ℕ
-lines_text [] = []
-lines_text (cells ∷ lines) = line_text cells ++ lines_text lines
-
--- title, model, experiment, the names and the values of the bounds of the world, and the columns
-unfoldable pub header_text : List ℕ → List ℕ → List ℕ
-header_text model name = lines_text (
-    (codes "BehaviorSpace results (fixed-point profile)" ∷ [])
-    ∷ (model ∷ [])
-    ∷ (name ∷ [])
-    ∷ (codes "min-pxcor" ∷ codes "max-pxcor" ∷ codes "min-pycor" ∷ codes "max-pycor" ∷ [])
-    ∷ (codes "-16" ∷ codes "16" ∷ codes "-16" ∷ codes "16" ∷ [])
-    ∷ (codes "[run number]" ∷ codes "[step]" ∷ codes "count turtles" ∷ codes "[end]" ∷ [])
-    ∷ [])
+-- the header, by the names of the model and the experiment: nothing is varied
+abbrev pub table_header : Bytes → Bytes → Bytes
+table_header model name = header_text model name bounds_of_form [] metrics_of_form
 
 -- the cell of a metric: its number, or nothing where the run ended before it was measured
-abbrev pub metric_text : Option ℕ → List ℕ
+abbrev pub metric_text : Option ℕ → Bytes
 metric_text (Some value) = decimal value
 metric_text None = []
 
-abbrev pub end_text : RunEnd → List ℕ
+abbrev pub end_text : RunEnd → Bytes
 end_text RunEnd.Steps = codes "steps"
 end_text RunEnd.Budget = codes "budget"
 
 -- the row of a run: its number, the count of steps, the metric and the end
-unfoldable pub row_text : ℕ → Row → List ℕ
+unfoldable pub row_text : ℕ → Row → Bytes
 row_text number row = line_text (decimal number ∷ decimal row.step ∷ metric_text row.turtles ∷ end_text row.end ∷ [])

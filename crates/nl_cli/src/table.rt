@@ -1,10 +1,9 @@
 //! The table is put piece by piece: its header, and the rows of each run.
-ghost use Rattle.std.specs.Prelude.{◌≡◌, ◌∷◌, ◌++◌, [], map, length, ◌<◌, IfOk, OnOk};
+ghost use Rattle.std.specs.Prelude.{◌≡◌, ◌++◌, IfOk};
 ghost use Rattle.std.specs.Fmt.{decimal};
-ghost use Rattle.csv.specs.Writing.{row_text as csv_text};
 ghost use Rattle.nl_cli.specs.Outcome.{given};
 ghost use Rattle.nl_cli.specs.inner.Stages.{IsSmall, Puts};
-ghost use Rattle.nl_cli.specs.TableText.{always_quoted, end_text, header_text, line_text, lines_text, metric_text, row_text};
+ghost use Rattle.nl_cli.specs.TableText.{end_text, metric_text, metrics_of_form, row_text, table_header};
 ghost use Rattle.nl_cli.specs.Answer.{rows_text, table_text};
 ghost use Rattle.nl_cli.specs.Words.{paths_in};
 
@@ -12,70 +11,32 @@ use crate::ends::End;
 use crate::job::Job;
 use crate::running::{Row, RunEnd, run_form};
 use crate::words::Paths;
-use csv::{QuoteStyle, WriterBuilder};
-use nl_fixed::{NoMemory, Str};
+use nl_fixed::{Names, NoMemory, Str};
 use nl_outer::{Sink, WriteFail};
+use nl_table::{Record, header};
 use std::alloc::Global;
 
-// The bytes of one record, as the crate `csv` writes them.
-fn record_bytes(alloc: Global, cells: &[&[u8]]) -> Result<Vec<u8>, NoMemory>
-    ensures { IfOk result (λ bytes.
-        bytes.items ≡ csv_text always_quoted (map (λ cell. cell.now) cells.now)) }
+// The bounds of the world of a model of the form.
+const BOUNDS: [i64; 4] = [-16, 16, -16, 16];
+
+// What is measured of a run of the form.
+fn metrics(alloc: Global) -> Result<Names, NoMemory>
+    ensures { IfOk result (λ names. names ≡ metrics_of_form) }
 {
-    let mut writer = WriterBuilder::new()
-        .quote_style(QuoteStyle::Always)
-        .from_writer(Vec::new(alloc));
-    if writer.write_fields(cells).is_err() {
-        return Err(NoMemory);
-    }
-    match writer.into_inner() {
-        Ok(bytes) => Ok(bytes),
-        Err(_) => Err(NoMemory),
-    }
+    let mut names = Names::empty(alloc);
+    let name = Str::of(alloc, b"count turtles")?;
+    names.push(alloc, name)?;
+    Ok(names)
 }
 
-// The line of these cells, of which there is one at least.
-fn line(alloc: Global, cells: &[&[u8]]) -> Result<Str, NoMemory>
-    requires { 0 < length cells.now }
-    ensures { IfOk result (λ line. line ≡ line_text (map (λ cell. cell.now) cells.now)) }
+// The header of a table of the form, which varies nothing.
+fn header_of_form(alloc: Global, model: &str, name: &Str) -> Result<Str, NoMemory>
+    ensures { IfOk result (λ header. header ≡ table_header model.now name.now) }
 {
-    let bytes = record_bytes(alloc, cells)?;
-    Ok(Str::of_vec(bytes))
-}
-
-// Appends the line of these cells.
-fn add_line(alloc: Global, text: &mut Str, cells: &[&[u8]]) -> Result<(), NoMemory>
-    requires { 0 < length cells.now }
-    ensures { OnOk result (text.new ≡ text.old ++ line_text (map (λ cell. cell.now) cells.now)) }
-{
-    let line = line(alloc, cells)?;
-    text.append(alloc, line.as_bytes())
-}
-
-// The header of a table.
-fn header(alloc: Global, model: &[u8], name: &[u8]) -> Result<Str, NoMemory>
-    ensures { IfOk result (λ header. header ≡ header_text model.now name.now) }
-{
-    let mut text = Str::of_vec(Vec::new(alloc));
-    add_line(
-        alloc,
-        &mut text,
-        &[b"BehaviorSpace results (fixed-point profile)"],
-    )?;
-    add_line(alloc, &mut text, &[model])?;
-    add_line(alloc, &mut text, &[name])?;
-    add_line(
-        alloc,
-        &mut text,
-        &[b"min-pxcor", b"max-pxcor", b"min-pycor", b"max-pycor"],
-    )?;
-    add_line(alloc, &mut text, &[b"-16", b"16", b"-16", b"16"])?;
-    add_line(
-        alloc,
-        &mut text,
-        &[b"[run number]", b"[step]", b"count turtles", b"[end]"],
-    )?;
-    Ok(text)
+    let variables = Names::empty(alloc);
+    let metrics = metrics(alloc)?;
+    let header = header(alloc, model, name, BOUNDS, &variables, &metrics)?;
+    Ok(header)
 }
 
 // The text of a metric, empty where nothing was measured.
@@ -112,15 +73,13 @@ fn run_row(alloc: Global, number: u64, row: &Row) -> Result<Str, NoMemory>
     let number = decimal_text(alloc, number)?;
     let step = decimal_text(alloc, row.step)?;
     let turtles = metric(alloc, row.turtles)?;
-    line(
-        alloc,
-        &[
-            number.as_bytes(),
-            step.as_bytes(),
-            turtles.as_bytes(),
-            end_word(row.end),
-        ],
-    )
+    let mut record = Record::empty(alloc);
+    record.push(number.as_bytes())?;
+    record.push(step.as_bytes())?;
+    record.push(turtles.as_bytes())?;
+    record.push(end_word(row.end))?;
+    let line = record.text(alloc)?;
+    Ok(line)
 }
 
 fn put<O: Sink>(out: &mut O, piece: &[u8]) -> Result<(), End>
@@ -134,10 +93,10 @@ fn put<O: Sink>(out: &mut O, piece: &[u8]) -> Result<(), End>
 
 #[tactic(auto, using(crate::proofs::PutSteps::put_steps))]
 fn put_header<O: Sink>(alloc: Global, model: &str, name: &Str, out: &mut O) -> Result<(), End>
-    ensures { Puts (header_text model.now name.now)
+    ensures { Puts (table_header model.now name.now)
         (given O.faults O.written out.old out.new) result }
 {
-    match header(alloc, model.as_bytes(), name.as_bytes()) {
+    match header_of_form(alloc, model, name) {
         Ok(header) => put(out, header.as_bytes()),
         Err(NoMemory) => Err(End::Memory),
     }

@@ -1,0 +1,11 @@
+//! The text of a table: its header, and lines of cells.
+#![tactic(auto)]
+
+pub mod headers;
+pub mod laws;
+pub mod lines;
+#[cfg(test)]
+mod tests;
+
+pub use headers::header;
+pub use lines::{Record, line};
