@@ -19,9 +19,10 @@ use Rattle.nl_agents.specs.Standing.{IsWorld}
 use Rattle.nl_agents.specs.declared.agents.Turtle.{Turtle}
 use Rattle.nl_layout.proofs.Ascending.{rest_ascends, first_is_below}
 use Rattle.nl_agents.proofs.LivingMembers.{turtle_found}
-use Rattle.nl_agentset.specs.declared.fail.QueryFail.TheVariants.{WrongType}
-use Rattle.nl_agentset.specs.Outcomes.{and_then}
-use Rattle.nl_agentset.specs.Sets.{is_called, is_of, turtle_named, bred_or_wrong, turtle_called}
+use Rattle.nl_query.specs.declared.fail.QueryFail.TheVariants.{WrongType}
+use Rattle.nl_query.specs.Outcomes.{and_then}
+use Rattle.nl_query.specs.Agents.{is_of}
+use Rattle.nl_agentset.specs.Sets.{is_called, turtle_named, bred_or_wrong, turtle_called}
 
 module _ (r : Rest) (number : ℤ) where
   abbrev called : Turtle → Bool

@@ -18,8 +18,8 @@ use Rattle.nl_agents.specs.declared.agents.Turtle as the_turtle
 use Rattle.nl_agents.specs.declared.agents.Link as the_link
 use Rattle.nl_agents.specs.declared.agents.Owner.{Owner}
 use Rattle.nl_agents.specs.declared.agents.Owner.TheVariants as owner
-use Rattle.nl_agentset.specs.declared.fail.QueryFail.TheVariants.{WrongType, NoAgent, OutOfWorld, SamePoint, Overflow, Domain, TooFew}
-use Rattle.nl_agentset.specs.Outcomes.{Outcome, outcome_map}
+use Rattle.nl_query.specs.declared.fail.QueryFail.TheVariants.{WrongType, NoAgent, OutOfWorld, SamePoint, Overflow, Domain, TooFew}
+use Rattle.nl_query.specs.Outcomes.{Outcome, outcome_map}
 use Rattle.nl_agentset.specs.Queries.{queried}
 
 -- ---- the world

@@ -1,6 +1,5 @@
 pub mod Called
 mod Examples
-pub mod Fitting
 pub mod Found
 pub mod Inside
 pub mod Linked

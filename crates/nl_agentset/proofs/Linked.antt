@@ -8,9 +8,10 @@ use Rattle.nl_agents.specs.Members.{links_where}
 use Rattle.nl_agents.specs.Standing.{IsWorld}
 use Rattle.nl_agents.specs.declared.agents.Turtle as the_turtle
 use Rattle.nl_agents.specs.declared.agents.Link as the_link
-use Rattle.nl_agentset.specs.declared.words.Side.{Side}
+use Rattle.nl_query.specs.declared.words.Side.{Side}
 use Rattle.nl_agentset.specs.Links.{is_link_at, other_end_of, is_link_to, links_at}
-use Rattle.nl_agentset.specs.Sets.{link_passes, is_between, link_between}
+use Rattle.nl_query.specs.Agents.{link_passes}
+use Rattle.nl_agentset.specs.Sets.{is_between, link_between}
 use Rattle.nl_agentset.proofs.Found.{links_kept, same_links}
 
 twice : (a b c : Bool) → (a && (a && b && c)) ≡ (a && b && c)

@@ -19,12 +19,13 @@ use Rattle.nl_agents.specs.Standing.{IsWorld, IsLinkOf}
 use Rattle.nl_agents.specs.declared.agents.Turtle as the_turtle
 use Rattle.nl_agents.specs.declared.agents.Link as the_link
 use Rattle.nl_layout.proofs.Ascending.{has_filter, same_ascending}
-use Rattle.nl_agentset.specs.declared.words.Side.{Side}
+use Rattle.nl_query.specs.declared.words.Side.{Side}
 use Rattle.nl_agentset.specs.Links.{other_end_of, is_link_at, is_link_to, links_at, is_neighbor, neighbors_at, neighbor_told, neighbor_tested, least_of, link_told, link_found}
-use Rattle.nl_agentset.specs.Inputs.{agent_at}
-use Rattle.nl_agentset.specs.Outcomes.{and_then}
-use Rattle.nl_agentset.specs.Sets.{link_passes, has_members, agent_or_nobody}
-use Rattle.nl_agentset.specs.inner.Walks.{SameNumbers}
+use Rattle.nl_query.specs.Inputs.{agent_at}
+use Rattle.nl_query.specs.Outcomes.{and_then}
+use Rattle.nl_query.specs.Agents.{link_passes, agent_or_nobody}
+use Rattle.nl_agentset.specs.Sets.{has_members}
+use Rattle.nl_query.specs.Orders.{SameNumbers}
 use Rattle.nl_agentset.proofs.Found.{any_number, any_link}
 use Rattle.nl_agentset.proofs.Linked.{links_lead_to}
 

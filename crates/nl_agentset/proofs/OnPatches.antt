@@ -18,8 +18,8 @@ use Rattle.nl_layout.proofs.Ascending.{same_ascending}
 use Rattle.nl_agents.proofs.LivingMembers.{passing_ascend}
 use Rattle.nl_members.proofs.Boxes.{each_has}
 use Rattle.nl_agentset.specs.Places.{turtles_on}
-use Rattle.nl_agentset.specs.Sets.{is_of, turtle_passes}
-use Rattle.nl_agentset.specs.inner.Walks.{SameNumbers}
+use Rattle.nl_query.specs.Agents.{is_of, turtle_passes}
+use Rattle.nl_query.specs.Orders.{SameNumbers}
 use Rattle.nl_agentset.proofs.Found.{turtles_kept, same_turtles}
 
 turned : (a b : ℕ) → (a == b) ≡ (b == a)

@@ -23,10 +23,11 @@ use Rattle.nl_agents.specs.declared.agents.Turtle.{Turtle}
 use Rattle.nl_agents.specs.declared.agents.Link.{Link}
 use Rattle.nl_layout.proofs.Ascending.{has_filter, has_range, same_ascending}
 use Rattle.nl_agents.proofs.LivingMembers.{found_passing, members_ascend}
-use Rattle.nl_agentset.specs.Outcomes.{Outcome, and_then}
-use Rattle.nl_agentset.specs.declared.fail.QueryFail.TheVariants.{WrongType}
-use Rattle.nl_agentset.specs.Sets.{turtle_passes, link_passes, one_united, united, all_united, all_of, union_of, listed_value}
-use Rattle.nl_agentset.specs.inner.Walks.{SameNumbers}
+use Rattle.nl_query.specs.Outcomes.{Outcome, and_then}
+use Rattle.nl_query.specs.declared.fail.QueryFail.TheVariants.{WrongType}
+use Rattle.nl_query.specs.Agents.{turtle_passes, link_passes, listed_value}
+use Rattle.nl_agentset.specs.Sets.{one_united, united, all_united, all_of, union_of}
+use Rattle.nl_query.specs.Orders.{SameNumbers}
 use Rattle.nl_agentset.proofs.Uniting.{behind}
 
 -- ---- agents of one kind, by their serials

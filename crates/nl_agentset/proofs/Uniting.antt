@@ -7,8 +7,8 @@ use Rattle.nl_value.specs.Views.{plain}
 use Rattle.nl_value.specs.declared.values.Value.{Value}
 use Rattle.nl_value.specs.declared.sets.AgentKind.{AgentKind}
 use Rattle.nl_agents.specs.World.{Rest}
-use Rattle.nl_agentset.specs.declared.fail.QueryFail.{QueryFail}
-use Rattle.nl_agentset.specs.Outcomes.{Outcome, and_then, outcome_map}
+use Rattle.nl_query.specs.declared.fail.QueryFail.{QueryFail}
+use Rattle.nl_query.specs.Outcomes.{Outcome, and_then, outcome_map}
 use Rattle.nl_agentset.specs.Sets.{united, all_united}
 
 -- numbers, and behind them those of an outcome

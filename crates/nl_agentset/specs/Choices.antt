@@ -8,12 +8,12 @@ use Rattle.nl_value.specs.declared.sets.AgentSet.{AgentSet}
 use Rattle.nl_draw.specs.Stream.{shuffled, chosen}
 use Rattle.nl_agents.specs.World.{Rest}
 use Rattle.nl_agents.specs.Members.{members_of, is_listed}
-use Rattle.nl_agentset.specs.declared.fail.QueryFail.TheVariants.{WrongType, TooFew, Domain}
-use Rattle.nl_agentset.specs.declared.words.Choice.{Choice}
-use Rattle.nl_agentset.specs.declared.words.Choice.TheVariants.{OneOf, NOf, UpToNOf}
-use Rattle.nl_agentset.specs.Inputs.{value_at, number_at}
-use Rattle.nl_agentset.specs.Outcomes.{Outcome, and_then, outcome_map}
-use Rattle.nl_agentset.specs.Sets.{agent_or_nobody, listed_value}
+use Rattle.nl_query.specs.declared.fail.QueryFail.TheVariants.{WrongType, TooFew, Domain}
+use Rattle.nl_query.specs.declared.words.Choice.{Choice}
+use Rattle.nl_query.specs.declared.words.Choice.TheVariants.{OneOf, NOf, UpToNOf}
+use Rattle.nl_query.specs.Inputs.{value_at, number_at}
+use Rattle.nl_query.specs.Outcomes.{Outcome, and_then, outcome_map}
+use Rattle.nl_query.specs.Agents.{agent_or_nobody, listed_value}
 
 -- ---- one
 

@@ -1,10 +1,7 @@
 pub mod Choices
-pub mod Inputs
 pub mod Links
-pub mod Outcomes
 pub mod Places
 pub mod Queries
 pub mod Reads
 pub mod Sets
-pub mod Words
 pub mod inner

@@ -13,16 +13,16 @@ use Rattle.nl_agents.specs.Names.{living_of}
 use Rattle.nl_agents.specs.declared.agents.Link as the_link
 use Rattle.nl_agents.specs.declared.agents.Owner.{Owner}
 use Rattle.nl_agents.specs.declared.agents.Owner.TheVariants as owner
-use Rattle.nl_agentset.specs.declared.fail.QueryFail.TheVariants.{WrongType}
-use Rattle.nl_agentset.specs.declared.words.Side.{Side}
-use Rattle.nl_agentset.specs.declared.words.Side.TheVariants as side
-use Rattle.nl_agentset.specs.declared.words.OfEnds.{OfEnds}
-use Rattle.nl_agentset.specs.declared.words.OfEnds.TheVariants as of_ends
-use Rattle.nl_agentset.specs.declared.words.Measure.TheVariants as measure
-use Rattle.nl_agentset.specs.Inputs.{agent_at, point_of}
-use Rattle.nl_agentset.specs.Outcomes.{Outcome, and_then}
+use Rattle.nl_query.specs.declared.fail.QueryFail.TheVariants.{WrongType}
+use Rattle.nl_query.specs.declared.words.Side.{Side}
+use Rattle.nl_query.specs.declared.words.Side.TheVariants as side
+use Rattle.nl_query.specs.declared.words.OfEnds.{OfEnds}
+use Rattle.nl_query.specs.declared.words.OfEnds.TheVariants as of_ends
+use Rattle.nl_query.specs.declared.words.Measure.TheVariants as measure
+use Rattle.nl_query.specs.Agents.{point_of, is_of, listed_value, agent_or_nobody}
+use Rattle.nl_query.specs.Inputs.{agent_at}
+use Rattle.nl_query.specs.Outcomes.{Outcome, and_then}
 use Rattle.nl_agentset.specs.Places.{measured}
-use Rattle.nl_agentset.specs.Sets.{is_of, listed_value, agent_or_nobody}
 
 -- ---- links of a turtle
 

@@ -2,24 +2,22 @@
 -- in their order. A query changes nothing but the stream, and that only where it chooses.
 use Rattle.std.specs.Prelude.{ℕ, Bool, true, Option, Some, None, Ok, Err, List}
 use Rattle.nl_value.specs.Plain.{Plain, PlainSet, plains}
-use Rattle.nl_value.specs.Views.{plain}
-use Rattle.nl_value.specs.declared.values.Value.{Value}
 use Rattle.nl_words.specs.Row.{Code}
 use Rattle.nl_layout.specs.Nouns.{BreedNumber}
 use Rattle.nl_layout.specs.Layouts.{is_turtle_breed, is_link_breed}
 use Rattle.nl_agents.specs.World.{Rest}
 use Rattle.nl_layout.specs.declared.layout.Layout.{Layout}
 use Rattle.nl_agents.specs.declared.agents.Owner.{Owner}
-use Rattle.nl_agentset.specs.declared.fail.QueryFail.TheVariants.{WrongType}
-use Rattle.nl_agentset.specs.declared.words.QueryWord.{QueryWord}
-use Rattle.nl_agentset.specs.declared.words.QueryWord.TheVariants as word
-use Rattle.nl_agentset.specs.declared.words.Whole.TheVariants as whole
+use Rattle.nl_query.specs.declared.fail.QueryFail.TheVariants.{WrongType}
+use Rattle.nl_query.specs.declared.words.QueryWord.{QueryWord}
+use Rattle.nl_query.specs.declared.words.QueryWord.TheVariants as word
+use Rattle.nl_query.specs.declared.words.Whole.TheVariants as whole
 use Rattle.nl_agentset.specs.Choices.{chosen_by}
 use Rattle.nl_agentset.specs.Links.{own_links, own_neighbors, neighbor_tested, link_found, ends_told}
-use Rattle.nl_agentset.specs.Outcomes.{Outcome, outcome_map, Gives}
+use Rattle.nl_query.specs.Outcomes.{Outcome, outcome_map}
 use Rattle.nl_agentset.specs.Places.{standing_by, patches_around, one_patch, faced, measured_to, measured_to_xy}
 use Rattle.nl_agentset.specs.Sets.{whole_set, looked_up, breed_tested, set_told, union_of}
-use Rattle.nl_agentset.specs.Words.{query_word}
+use Rattle.nl_query.specs.Words.{query_word}
 
 -- what a query answers that draws nothing
 abbrev pub told : Rest → Option BreedNumber → Owner → QueryWord → List Plain → Outcome Plain
@@ -53,10 +51,6 @@ answer_by r breed caller (Some which) inputs state = query_answer r breed caller
 
 abbrev pub queried : Rest → Code → Option BreedNumber → Owner → List Plain → ℕ → Outcome (Plain × ℕ)
 queried r code breed caller inputs state = answer_by r breed caller (query_word code) inputs state
-
--- what a call gives, and the state that it leaves the stream in, are the outcome, unless it wants memory
-abbrev pub Answers : Outcome Value → ℕ → Outcome (Plain × ℕ) → Type 0
-Answers result state outcome = Gives (outcome_map (λ value. (plain value, state)) result) outcome
 
 -- ---- breeds
 

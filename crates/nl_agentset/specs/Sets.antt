@@ -21,52 +21,26 @@ use Rattle.nl_agents.specs.declared.agents.Turtle as the_turtle
 use Rattle.nl_agents.specs.declared.agents.Link as the_link
 use Rattle.nl_agents.specs.declared.agents.Owner.{Owner}
 use Rattle.nl_agents.specs.declared.agents.Owner.TheVariants as owner
-use Rattle.nl_agentset.specs.declared.fail.QueryFail.TheVariants.{WrongType}
-use Rattle.nl_agentset.specs.declared.words.Whole.{Whole}
-use Rattle.nl_agentset.specs.declared.words.Whole.TheVariants as whole
-use Rattle.nl_agentset.specs.declared.words.LookUp.{LookUp}
-use Rattle.nl_agentset.specs.declared.words.LookUp.TheVariants as look_up
-use Rattle.nl_agentset.specs.declared.words.OfBreed.{OfBreed}
-use Rattle.nl_agentset.specs.declared.words.OfBreed.TheVariants as of_breed
-use Rattle.nl_agentset.specs.declared.words.OfSet.{OfSet}
-use Rattle.nl_agentset.specs.declared.words.OfSet.TheVariants as of_set
-use Rattle.nl_agentset.specs.Inputs.{value_at, number_at, set_at}
-use Rattle.nl_agentset.specs.Outcomes.{Outcome, and_then}
+use Rattle.nl_query.specs.declared.fail.QueryFail.TheVariants.{WrongType}
+use Rattle.nl_query.specs.declared.words.Whole.{Whole}
+use Rattle.nl_query.specs.declared.words.Whole.TheVariants as whole
+use Rattle.nl_query.specs.declared.words.LookUp.{LookUp}
+use Rattle.nl_query.specs.declared.words.LookUp.TheVariants as look_up
+use Rattle.nl_query.specs.declared.words.OfBreed.{OfBreed}
+use Rattle.nl_query.specs.declared.words.OfBreed.TheVariants as of_breed
+use Rattle.nl_query.specs.declared.words.OfSet.{OfSet}
+use Rattle.nl_query.specs.declared.words.OfSet.TheVariants as of_set
+use Rattle.nl_query.specs.Agents.{agent_or_nobody, listed_value, is_of, breed_or_none, turtle_passes, link_passes}
+use Rattle.nl_query.specs.Inputs.{value_at, number_at, set_at}
+use Rattle.nl_query.specs.Outcomes.{Outcome, and_then}
 
--- ---- agents as values, and sets that list their members
-
--- an agent of a kind, by its number
-abbrev pub agent_value : AgentKind → ℕ → Plain
-agent_value kind.Turtle number = PlainTurtle number
-agent_value kind.Patch number = PlainPatch number
-agent_value kind.Link number = PlainLink number
-
-abbrev pub agent_or_nobody : AgentKind → Option ℕ → Plain
-agent_or_nobody which None = PlainNobody
-agent_or_nobody which (Some number) = agent_value which number
-
--- the set that lists agents of a kind
-abbrev pub listed : AgentKind → Serials → AgentSet
-listed kind.Turtle numbers = set.SomeTurtles numbers
-listed kind.Patch numbers = set.SomePatches numbers
-listed kind.Link numbers = set.SomeLinks numbers
-
-abbrev pub listed_value : AgentKind → Serials → Plain
-listed_value which numbers = PlainSet (listed which numbers)
+-- ---- sets without inputs
 
 -- all agents of a kind
 abbrev pub all_of : AgentKind → AgentSet
 all_of kind.Turtle = set.Turtles
 all_of kind.Patch = set.Patches
 all_of kind.Link = set.Links
-
--- ---- breeds: a word without a breed is of all, one that a breed makes is of those of the breed
-
-abbrev pub is_of : Option BreedNumber → BreedNumber → Bool
-is_of None own = true
-is_of (Some breed) own = own == breed
-
--- ---- sets without inputs
 
 abbrev pub turtles_of : Option BreedNumber → AgentSet
 turtles_of None = set.Turtles
@@ -109,11 +83,6 @@ turtle_called r breed number = and_then (whole_or_wrong number) (λ n. bred_or_w
 abbrev pub patch_called : Rest → ℤ → ℤ → Plain
 patch_called r x y = agent_or_nobody kind.Patch (option_map (patch_at r.shape) (wrapped_point r.shape x y))
 
--- the breed of a word, or that of agents of no breed
-abbrev pub breed_or_none : Option BreedNumber → BreedNumber
-breed_or_none None = 0
-breed_or_none (Some breed) = breed
-
 -- the link is of the breed and leads from the first turtle to the second, or either way round where it has no direction
 abbrev pub is_between : BreedNumber → ℕ → ℕ → the_link.Link → Bool
 is_between breed first second l =
@@ -138,14 +107,6 @@ looked_up r look_up.Patch breed inputs = and_then (number_at inputs 0) (λ x. an
 looked_up r look_up.Link breed inputs = and_then (number_at inputs 0) (λ first. and_then (number_at inputs 1) (link_called r breed first))
 
 -- ---- tests of a breed: a dead agent is of none
-
-abbrev pub turtle_passes : (the_turtle.Turtle → Bool) → Option the_turtle.Turtle → Bool
-turtle_passes test None = false
-turtle_passes test (Some t) = test t
-
-abbrev pub link_passes : (the_link.Link → Bool) → Option the_link.Link → Bool
-link_passes test None = false
-link_passes test (Some l) = test l
 
 abbrev pub is_of_breed_value : Rest → OfBreed → Option BreedNumber → Plain → Bool
 is_of_breed_value r of_breed.Turtle breed (PlainTurtle serial) = turtle_passes (λ t. is_of breed t.breed) (turtle_of serial r)

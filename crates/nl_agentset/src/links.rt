@@ -4,33 +4,31 @@ ghost use Rattle.nl_value.specs.Views.{plain};
 ghost use Rattle.nl_agents.specs.Changes.{OwnerLives, TurtleLives, LinkLives, link_of};
 ghost use Rattle.nl_agents.specs.Members.{links_where};
 ghost use Rattle.nl_agents.specs.Names.{living_of};
-ghost use Rattle.nl_agentset.specs.Inputs.{inputs_fit};
+ghost use Rattle.nl_query.specs.Inputs.{inputs_fit};
 ghost use Rattle.nl_agentset.specs.Links.{leads, is_link_at, other_end_of, is_link_to, links_at, neighbors_at, is_least, least_of, own_links, own_neighbors, neighbor_tested, link_found};
-ghost use Rattle.nl_agentset.specs.Outcomes.{Gives, outcome_map};
-ghost use Rattle.nl_agentset.specs.Sets.{link_passes};
+ghost use Rattle.nl_query.specs.Outcomes.{Gives, outcome_map};
+ghost use Rattle.nl_query.specs.Agents.{link_passes};
 
-use crate::agents::{agent_or_nobody, is_of};
-use crate::fail::QueryFail;
-use crate::inputs::agent_at;
-use crate::orders::in_order;
-use crate::words::Side;
 use nl_agents::view::View;
 use nl_agents::{Owner, Steps, Store};
 use nl_fixed::NoMemory;
+use nl_query::agents::{agent_or_nobody, is_of};
+use nl_query::fail::QueryFail;
+use nl_query::inputs::agent_at;
+use nl_query::orders::in_order;
+use nl_query::words::Side;
 use nl_value::{AgentKind, AgentSet, Life, Serials, Value};
 use std::alloc::Global;
 use std::sync::ledger::Ledger;
 
-impl Side {
-    /// Whether a link with these ends leads to the turtle, or from it; one without a direction does both.
-    fn leads(self, turtle: u64, directed: bool, end1: u64, end2: u64) -> bool
-        ensures { result ≡ leads self turtle directed end1 end2 }
-    {
-        match self {
-            Side::Any => true,
-            Side::In => !directed || end2 == turtle,
-            Side::Out => !directed || end1 == turtle,
-        }
+/// Whether a link with these ends leads to the turtle, or from it; one without a direction does both.
+fn leads(which: Side, turtle: u64, directed: bool, end1: u64, end2: u64) -> bool
+    ensures { result ≡ leads which turtle directed end1 end2 }
+{
+    match which {
+        Side::Any => true,
+        Side::In => !directed || end2 == turtle,
+        Side::Out => !directed || end1 == turtle,
     }
 }
 
@@ -43,7 +41,7 @@ fn is_link_at<S: Store>(side: Side, breed: Option<u32>, turtle: u64, link: u64, 
     let (end1, end2) = store.ends(link);
     let (own, directed) = store.link_breed(link);
     let has_end = end1 == turtle || end2 == turtle;
-    has_end && is_of(breed, own) && side.leads(turtle, directed, end1, end2)
+    has_end && is_of(breed, own) && leads(side, turtle, directed, end1, end2)
 }
 
 /// The links of a list that are of the word's breed and side.
@@ -224,98 +222,96 @@ fn least_of<S: Store>(list: &Serials, view: &View<S>) -> Option<u64>
 
 // ---- the words
 
-impl Side {
-    /// `my-links` and its kin.
-    pub fn links<S: Store, L: Ledger>(
-        self,
-        alloc: Global,
-        breed: Option<u32>,
-        caller: Owner,
-        store: &S,
-        steps: &mut Steps<L>,
-    ) -> Result<Value, QueryFail>
-        requires { OwnerLives caller (S.world store.now) }
-        ensures { let r = (S.world store.now).rest in
-            Gives (outcome_map plain result) (own_links r self breed caller) }
-    {
-        let Owner::Turtle(turtle) = caller else {
-            return Err(QueryFail::WrongType);
-        };
-        let links = links_at(alloc, self, breed, turtle, store, steps)?;
-        Ok(Value::Set(AgentSet::SomeLinks(links)))
-    }
+/// `my-links` and its kin.
+pub fn own_links<S: Store, L: Ledger>(
+    alloc: Global,
+    which: Side,
+    breed: Option<u32>,
+    caller: Owner,
+    store: &S,
+    steps: &mut Steps<L>,
+) -> Result<Value, QueryFail>
+    requires { OwnerLives caller (S.world store.now) }
+    ensures { let r = (S.world store.now).rest in
+        Gives (outcome_map plain result) (own_links r which breed caller) }
+{
+    let Owner::Turtle(turtle) = caller else {
+        return Err(QueryFail::WrongType);
+    };
+    let links = links_at(alloc, which, breed, turtle, store, steps)?;
+    Ok(Value::Set(AgentSet::SomeLinks(links)))
+}
 
-    /// `link-neighbors` and its kin.
-    pub fn neighbors<S: Store, L: Ledger>(
-        self,
-        alloc: Global,
-        breed: Option<u32>,
-        caller: Owner,
-        store: &S,
-        steps: &mut Steps<L>,
-    ) -> Result<Value, QueryFail>
-        requires { OwnerLives caller (S.world store.now) }
-        ensures { let r = (S.world store.now).rest in
-            Gives (outcome_map plain result) (own_neighbors r self breed caller) }
-    {
-        let Owner::Turtle(turtle) = caller else {
-            return Err(QueryFail::WrongType);
-        };
-        let turtles = neighbors_at(alloc, self, breed, turtle, store, steps)?;
-        Ok(Value::Set(AgentSet::SomeTurtles(turtles)))
-    }
+/// `link-neighbors` and its kin.
+pub fn own_neighbors<S: Store, L: Ledger>(
+    alloc: Global,
+    which: Side,
+    breed: Option<u32>,
+    caller: Owner,
+    store: &S,
+    steps: &mut Steps<L>,
+) -> Result<Value, QueryFail>
+    requires { OwnerLives caller (S.world store.now) }
+    ensures { let r = (S.world store.now).rest in
+        Gives (outcome_map plain result) (own_neighbors r which breed caller) }
+{
+    let Owner::Turtle(turtle) = caller else {
+        return Err(QueryFail::WrongType);
+    };
+    let turtles = neighbors_at(alloc, which, breed, turtle, store, steps)?;
+    Ok(Value::Set(AgentSet::SomeTurtles(turtles)))
+}
 
-    /// `link-neighbor?` and its kin.
-    pub fn tests<S: Store, L: Ledger>(
-        self,
-        alloc: Global,
-        breed: Option<u32>,
-        caller: Owner,
-        inputs: &[Value],
-        store: &S,
-        steps: &mut Steps<L>,
-    ) -> Result<Value, QueryFail>
-        requires fit { IsTrue (inputs_fit (S.world store.now).rest (map plain inputs.now)) }
-        requires lives { OwnerLives caller (S.world store.now) }
-        ensures { let r = (S.world store.now).rest in
-            Gives (outcome_map plain result) (neighbor_tested r self breed caller (map plain inputs.now)) }
-    {
-        let Owner::Turtle(turtle) = caller else {
-            return Err(QueryFail::WrongType);
-        };
-        match agent_at(inputs, 0, store)? {
-            Owner::Turtle(other) => {
-                let links = links_to(alloc, self, breed, turtle, other, store, steps)?;
-                Ok(Value::Truth(!links.is_empty()))
-            }
-            _ => Ok(Value::Truth(false)),
+/// `link-neighbor?` and its kin.
+pub fn neighbor_tested<S: Store, L: Ledger>(
+    alloc: Global,
+    which: Side,
+    breed: Option<u32>,
+    caller: Owner,
+    inputs: &[Value],
+    store: &S,
+    steps: &mut Steps<L>,
+) -> Result<Value, QueryFail>
+    requires fit { IsTrue (inputs_fit (S.world store.now).rest (map plain inputs.now)) }
+    requires lives { OwnerLives caller (S.world store.now) }
+    ensures { let r = (S.world store.now).rest in
+        Gives (outcome_map plain result) (neighbor_tested r which breed caller (map plain inputs.now)) }
+{
+    let Owner::Turtle(turtle) = caller else {
+        return Err(QueryFail::WrongType);
+    };
+    match agent_at(inputs, 0, store)? {
+        Owner::Turtle(other) => {
+            let links = links_to(alloc, which, breed, turtle, other, store, steps)?;
+            Ok(Value::Truth(!links.is_empty()))
         }
+        _ => Ok(Value::Truth(false)),
     }
+}
 
-    /// `link-with` and its kin.
-    pub fn link<S: Store, L: Ledger>(
-        self,
-        alloc: Global,
-        breed: Option<u32>,
-        caller: Owner,
-        inputs: &[Value],
-        view: &View<S>,
-        steps: &mut Steps<L>,
-    ) -> Result<Value, QueryFail>
-        requires fit { IsTrue (inputs_fit (S.world view.now.store.now).rest (map plain inputs.now)) }
-        requires lives { OwnerLives caller (S.world view.now.store.now) }
-        ensures { let r = (S.world view.now.store.now).rest in
-            Gives (outcome_map plain result) (link_found r self breed caller (map plain inputs.now)) }
-    {
-        let Owner::Turtle(turtle) = caller else {
-            return Err(QueryFail::WrongType);
-        };
-        match agent_at(inputs, 0, view.store)? {
-            Owner::Turtle(other) => {
-                let links = links_to(alloc, self, breed, turtle, other, view.store, steps)?;
-                Ok(agent_or_nobody(AgentKind::Link, least_of(&links, view)))
-            }
-            _ => Ok(Value::Nobody),
+/// `link-with` and its kin.
+pub fn link_found<S: Store, L: Ledger>(
+    alloc: Global,
+    which: Side,
+    breed: Option<u32>,
+    caller: Owner,
+    inputs: &[Value],
+    view: &View<S>,
+    steps: &mut Steps<L>,
+) -> Result<Value, QueryFail>
+    requires fit { IsTrue (inputs_fit (S.world view.now.store.now).rest (map plain inputs.now)) }
+    requires lives { OwnerLives caller (S.world view.now.store.now) }
+    ensures { let r = (S.world view.now.store.now).rest in
+        Gives (outcome_map plain result) (link_found r which breed caller (map plain inputs.now)) }
+{
+    let Owner::Turtle(turtle) = caller else {
+        return Err(QueryFail::WrongType);
+    };
+    match agent_at(inputs, 0, view.store)? {
+        Owner::Turtle(other) => {
+            let links = links_to(alloc, which, breed, turtle, other, view.store, steps)?;
+            Ok(agent_or_nobody(AgentKind::Link, least_of(&links, view)))
         }
+        _ => Ok(Value::Nobody),
     }
 }

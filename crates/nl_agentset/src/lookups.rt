@@ -3,17 +3,18 @@ ghost use Rattle.std.specs.Prelude.{◌≡◌, ◌≤◌, ◌<◌, ◌+◌, map,
 ghost use Rattle.nl_fixed.specs.Numbers.{whole_limit};
 ghost use Rattle.nl_value.specs.Views.{plain};
 ghost use Rattle.nl_agents.specs.Changes.{turtle_of, link_of, TurtleLives, LinkLives};
-ghost use Rattle.nl_agentset.specs.Inputs.{inputs_fit};
-ghost use Rattle.nl_agentset.specs.Outcomes.{Gives, outcome_map};
+ghost use Rattle.nl_query.specs.Inputs.{inputs_fit};
+ghost use Rattle.nl_query.specs.Outcomes.{Gives, outcome_map};
 ghost use Rattle.nl_agentset.specs.inner.Walks.{whole_from_zero};
-ghost use Rattle.nl_agentset.specs.Sets.{turtle_named, bred_or_wrong, turtle_called, patch_called, breed_or_none, is_between, link_between, link_called, looked_up, is_of_breed_value, breed_tested, link_passes};
+ghost use Rattle.nl_query.specs.Agents.{breed_or_none, link_passes};
+ghost use Rattle.nl_agentset.specs.Sets.{turtle_named, bred_or_wrong, turtle_called, patch_called, is_between, link_between, link_called, looked_up, is_of_breed_value, breed_tested};
 
-use crate::agents::{agent_or_nobody, is_link_of, is_of, is_turtle_of};
-use crate::fail::QueryFail;
-use crate::inputs::{number_at, value_at};
-use crate::words::{LookUp, OfBreed};
 use nl_agents::{Steps, Store};
 use nl_fixed::{NoMemory, Num};
+use nl_query::agents::{agent_or_nobody, breed_or_none, is_link_of, is_of, is_turtle_of};
+use nl_query::fail::QueryFail;
+use nl_query::inputs::{number_at, value_at};
+use nl_query::words::{LookUp, OfBreed};
 use nl_value::{AgentKind, Serials, Value};
 use std::alloc::Global;
 use std::sync::ledger::Ledger;
@@ -138,15 +139,6 @@ fn link_between<S: Store, L: Ledger>(
     Ok(first_between(&links, breed, first, second, store))
 }
 
-fn breed_or_none(breed: Option<u32>) -> u32
-    ensures { result ≡ breed_or_none breed }
-{
-    match breed {
-        None => 0,
-        Some(breed) => breed,
-    }
-}
-
 /// The link between the turtles that are called by two whole numbers, or nobody.
 fn link_called<S: Store, L: Ledger>(
     alloc: Global,
@@ -166,57 +158,53 @@ fn link_called<S: Store, L: Ledger>(
     Ok(agent_or_nobody(AgentKind::Link, found))
 }
 
-impl LookUp {
-    /// What the word answers.
-    pub fn answer<S: Store, L: Ledger>(
-        self,
-        alloc: Global,
-        breed: Option<u32>,
-        inputs: &[Value],
-        store: &S,
-        steps: &mut Steps<L>,
-    ) -> Result<Value, QueryFail>
-        ensures { let r = (S.world store.now).rest in
-            Gives (outcome_map plain result) (looked_up r self breed (map plain inputs.now)) }
-    {
-        let first = number_at(inputs, 0)?;
-        match self {
-            LookUp::Turtle => turtle_called(first, breed, store),
-            LookUp::Patch => {
-                let second = number_at(inputs, 1)?;
-                Ok(patch_called(first, second, store))
-            }
-            LookUp::Link => {
-                let second = number_at(inputs, 1)?;
-                link_called(alloc, breed, first, second, store, steps)
-            }
+/// `turtle`, `patch`, `link` and the forms of breeds.
+pub fn looked_up<S: Store, L: Ledger>(
+    alloc: Global,
+    which: LookUp,
+    breed: Option<u32>,
+    inputs: &[Value],
+    store: &S,
+    steps: &mut Steps<L>,
+) -> Result<Value, QueryFail>
+    ensures { let r = (S.world store.now).rest in
+        Gives (outcome_map plain result) (looked_up r which breed (map plain inputs.now)) }
+{
+    let first = number_at(inputs, 0)?;
+    match which {
+        LookUp::Turtle => turtle_called(first, breed, store),
+        LookUp::Patch => {
+            let second = number_at(inputs, 1)?;
+            Ok(patch_called(first, second, store))
+        }
+        LookUp::Link => {
+            let second = number_at(inputs, 1)?;
+            link_called(alloc, breed, first, second, store, steps)
         }
     }
 }
 
-impl OfBreed {
-    /// Whether a value is a living agent of the breed.
-    fn tests<S: Store>(self, breed: Option<u32>, value: &Value, store: &S) -> bool
-        ensures { result ≡ is_of_breed_value (S.world store.now).rest self breed (plain value.now) }
-    {
-        match (self, value) {
-            (OfBreed::Turtle, Value::Turtle(turtle)) => is_turtle_of(*turtle, breed, store),
-            (OfBreed::Link, Value::Link(link)) => is_link_of(*link, breed, store),
-            _ => false,
-        }
+/// Whether a value is a living agent of the breed.
+fn is_of_breed_value<S: Store>(which: OfBreed, breed: Option<u32>, value: &Value, store: &S) -> bool
+    ensures { result ≡ is_of_breed_value (S.world store.now).rest which breed (plain value.now) }
+{
+    match (which, value) {
+        (OfBreed::Turtle, Value::Turtle(turtle)) => is_turtle_of(*turtle, breed, store),
+        (OfBreed::Link, Value::Link(link)) => is_link_of(*link, breed, store),
+        _ => false,
     }
+}
 
-    /// What the word answers.
-    pub fn answer<S: Store>(
-        self,
-        breed: Option<u32>,
-        inputs: &[Value],
-        store: &S,
-    ) -> Result<Value, QueryFail>
-        ensures { let r = (S.world store.now).rest in
-            outcome_map plain result ≡ breed_tested r self breed (map plain inputs.now) }
-    {
-        let value = value_at(inputs, 0)?;
-        Ok(Value::Truth(self.tests(breed, value, store)))
-    }
+/// `is-turtle?`, `is-link?` and the forms of breeds.
+pub fn breed_tested<S: Store>(
+    which: OfBreed,
+    breed: Option<u32>,
+    inputs: &[Value],
+    store: &S,
+) -> Result<Value, QueryFail>
+    ensures { let r = (S.world store.now).rest in
+        outcome_map plain result ≡ breed_tested r which breed (map plain inputs.now) }
+{
+    let value = value_at(inputs, 0)?;
+    Ok(Value::Truth(is_of_breed_value(which, breed, value, store)))
 }

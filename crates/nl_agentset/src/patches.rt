@@ -3,17 +3,17 @@ ghost use Rattle.std.specs.Prelude.{◌≡◌, ◌<◌, map, IfOk, IfSome};
 ghost use Rattle.nl_value.specs.Views.{plain};
 ghost use Rattle.nl_grid.specs.Geometry.{patches_of, FindsPointOf};
 ghost use Rattle.nl_agents.specs.Changes.{OwnerLives};
-ghost use Rattle.nl_agentset.specs.Outcomes.{outcome_map, summed};
+ghost use Rattle.nl_query.specs.Outcomes.{outcome_map, summed};
 ghost use Rattle.nl_agentset.specs.Places.{patch_found, patch_beside, patch_ahead, patches_around, patch_reached, one_patch, faced, turned_by, turned_ahead};
 
-use crate::agents::{heading_in, own_patch, place_of};
-use crate::fail::QueryFail;
-use crate::inputs::number_at;
-use crate::orders::of_patches;
-use crate::words::{Around, Facing, PatchBy};
 use nl_agents::{Owner, Store};
 use nl_fixed::{NoMemory, Num, NumFault};
 use nl_grid::{Point, Shape};
+use nl_query::agents::{heading_in, own_patch, place_of};
+use nl_query::fail::QueryFail;
+use nl_query::inputs::number_at;
+use nl_query::orders::of_patches;
+use nl_query::words::{Around, Facing, PatchBy};
 use nl_value::{AgentSet, Value};
 use std::alloc::Global;
 
@@ -65,34 +65,32 @@ fn patch_ahead<S: Store>(
     patch_found(shape.ahead(at, heading, distance), &shape)
 }
 
-impl Around {
-    /// The patches around the caller.
-    pub fn answer<S: Store>(
-        self,
-        alloc: Global,
-        caller: Owner,
-        store: &S,
-    ) -> Result<Value, NoMemory>
-        requires { OwnerLives caller (S.world store.now) }
-        ensures { let r = (S.world store.now).rest in
-            IfOk result (λ value. plain value ≡ patches_around r caller self) }
-    {
-        let shape = store.shape();
-        let patch = own_patch(caller, store);
-        let numbers = match self {
-            Around::Neighbors => {
-                let mut out = [0; 8];
-                let count = shape.neighbors(patch, &mut out);
-                of_patches(alloc, &out[..count])?
-            }
-            Around::Neighbors4 => {
-                let mut out = [0; 4];
-                let count = shape.neighbors4(patch, &mut out);
-                of_patches(alloc, &out[..count])?
-            }
-        };
-        Ok(Value::Set(AgentSet::SomePatches(numbers)))
-    }
+/// `neighbors` and `neighbors4`: the patches around the caller.
+pub fn patches_around<S: Store>(
+    alloc: Global,
+    which: Around,
+    caller: Owner,
+    store: &S,
+) -> Result<Value, NoMemory>
+    requires { OwnerLives caller (S.world store.now) }
+    ensures { let r = (S.world store.now).rest in
+        IfOk result (λ value. plain value ≡ patches_around r caller which) }
+{
+    let shape = store.shape();
+    let patch = own_patch(caller, store);
+    let numbers = match which {
+        Around::Neighbors => {
+            let mut out = [0; 8];
+            let count = shape.neighbors(patch, &mut out);
+            of_patches(alloc, &out[..count])?
+        }
+        Around::Neighbors4 => {
+            let mut out = [0; 4];
+            let count = shape.neighbors4(patch, &mut out);
+            of_patches(alloc, &out[..count])?
+        }
+    };
+    Ok(Value::Set(AgentSet::SomePatches(numbers)))
 }
 
 /// The caller's heading, turned to the left or to the right.
@@ -109,53 +107,51 @@ fn turned<S: Store>(caller: Owner, to_left: bool, angle: Num, store: &S) -> Resu
     turned.map_err(|_| QueryFail::Overflow)
 }
 
-impl PatchBy {
-    /// The patch of the word, where it isn't outside.
-    fn reached<S: Store>(
-        self,
-        caller: Owner,
-        inputs: &[Value],
-        store: &S,
-    ) -> Result<Option<u32>, QueryFail>
-        requires { OwnerLives caller (S.world store.now) }
-        ensures { result ≡ patch_reached (S.world store.now).rest caller self (map plain inputs.now) }
-    {
-        match self {
-            PatchBy::Here => Ok(Some(own_patch(caller, store))),
-            PatchBy::At => {
-                let dx = number_at(inputs, 0)?;
-                let dy = number_at(inputs, 1)?;
-                patch_beside(caller, dx, dy, store)
-            }
-            PatchBy::Ahead => {
-                let distance = number_at(inputs, 0)?;
-                patch_ahead(caller, heading_in(caller, store), distance, store)
-            }
-            PatchBy::LeftAndAhead => turned_ahead(caller, true, inputs, store),
-            PatchBy::RightAndAhead => turned_ahead(caller, false, inputs, store),
-            PatchBy::HeadingAndDistance => {
-                let heading = number_at(inputs, 0)?;
-                let distance = number_at(inputs, 1)?;
-                patch_ahead(caller, heading, distance, store)
-            }
+/// The patch of the word, where it isn't outside.
+fn patch_reached<S: Store>(
+    which: PatchBy,
+    caller: Owner,
+    inputs: &[Value],
+    store: &S,
+) -> Result<Option<u32>, QueryFail>
+    requires { OwnerLives caller (S.world store.now) }
+    ensures { result ≡ patch_reached (S.world store.now).rest caller which (map plain inputs.now) }
+{
+    match which {
+        PatchBy::Here => Ok(Some(own_patch(caller, store))),
+        PatchBy::At => {
+            let dx = number_at(inputs, 0)?;
+            let dy = number_at(inputs, 1)?;
+            patch_beside(caller, dx, dy, store)
+        }
+        PatchBy::Ahead => {
+            let distance = number_at(inputs, 0)?;
+            patch_ahead(caller, heading_in(caller, store), distance, store)
+        }
+        PatchBy::LeftAndAhead => turned_ahead(caller, true, inputs, store),
+        PatchBy::RightAndAhead => turned_ahead(caller, false, inputs, store),
+        PatchBy::HeadingAndDistance => {
+            let heading = number_at(inputs, 0)?;
+            let distance = number_at(inputs, 1)?;
+            patch_ahead(caller, heading, distance, store)
         }
     }
+}
 
-    /// What the word answers: nobody outside.
-    pub fn answer<S: Store>(
-        self,
-        caller: Owner,
-        inputs: &[Value],
-        store: &S,
-    ) -> Result<Value, QueryFail>
-        requires { OwnerLives caller (S.world store.now) }
-        ensures { let r = (S.world store.now).rest in
-            outcome_map plain result ≡ one_patch r caller self (map plain inputs.now) }
-    {
-        match self.reached(caller, inputs, store)? {
-            Some(patch) => Ok(Value::Patch(patch)),
-            None => Ok(Value::Nobody),
-        }
+/// `patch-here` and its kin: nobody outside.
+pub fn one_patch<S: Store>(
+    which: PatchBy,
+    caller: Owner,
+    inputs: &[Value],
+    store: &S,
+) -> Result<Value, QueryFail>
+    requires { OwnerLives caller (S.world store.now) }
+    ensures { let r = (S.world store.now).rest in
+        outcome_map plain result ≡ one_patch r caller which (map plain inputs.now) }
+{
+    match patch_reached(which, caller, inputs, store)? {
+        Some(patch) => Ok(Value::Patch(patch)),
+        None => Ok(Value::Nobody),
     }
 }
 
@@ -175,27 +171,25 @@ fn turned_ahead<S: Store>(
     patch_ahead(caller, heading, distance, store)
 }
 
-impl Facing {
-    /// What the word answers.
-    pub fn answer<S: Store>(
-        self,
-        caller: Owner,
-        inputs: &[Value],
-        store: &S,
-    ) -> Result<Value, QueryFail>
-        requires { OwnerLives caller (S.world store.now) }
-        ensures { let r = (S.world store.now).rest in
-            outcome_map plain result ≡ faced r caller self (map plain inputs.now) }
-    {
-        let heading = heading_in(caller, store);
-        match self {
-            Facing::CanMove => {
-                let distance = number_at(inputs, 0)?;
-                let found = patch_ahead(caller, heading, distance, store)?;
-                Ok(Value::Truth(found.is_some()))
-            }
-            Facing::Dx => Ok(Value::Number(heading.sin())),
-            Facing::Dy => Ok(Value::Number(heading.cos())),
+/// `can-move?`, `dx` and `dy`.
+pub fn faced<S: Store>(
+    which: Facing,
+    caller: Owner,
+    inputs: &[Value],
+    store: &S,
+) -> Result<Value, QueryFail>
+    requires { OwnerLives caller (S.world store.now) }
+    ensures { let r = (S.world store.now).rest in
+        outcome_map plain result ≡ faced r caller which (map plain inputs.now) }
+{
+    let heading = heading_in(caller, store);
+    match which {
+        Facing::CanMove => {
+            let distance = number_at(inputs, 0)?;
+            let found = patch_ahead(caller, heading, distance, store)?;
+            Ok(Value::Truth(found.is_some()))
         }
+        Facing::Dx => Ok(Value::Number(heading.sin())),
+        Facing::Dy => Ok(Value::Number(heading.cos())),
     }
 }

@@ -9,18 +9,18 @@ ghost use Rattle.nl_value.specs.declared.sets.AgentSet.TheVariants as the_set;
 ghost use Rattle.nl_agents.specs.Changes.{turtle_lives, link_lives};
 ghost use Rattle.nl_agents.specs.Members.{members_of, most_reads};
 ghost use Rattle.nl_agents.specs.Names.{set_fits};
-ghost use Rattle.nl_agentset.specs.Inputs.{inputs_fit, set_at};
-ghost use Rattle.nl_agentset.specs.Outcomes.{Gives, outcome_map};
+ghost use Rattle.nl_query.specs.Inputs.{inputs_fit, set_at};
+ghost use Rattle.nl_query.specs.Outcomes.{Gives, outcome_map};
 ghost use Rattle.nl_agentset.specs.Reads.{count_reads, set_reads, AreFew};
 ghost use Rattle.nl_agentset.specs.Sets.{turtles_of, links_of, whole_set, is_caller, others, has_members, of_agents, set_told};
 
-use crate::agents::listed;
-use crate::fail::QueryFail;
-use crate::inputs::set_at;
-use crate::words::{OfSet, Whole};
 use nl_agents::{Owner, Steps, Store};
 use nl_fixed::{NoMemory, Num};
 use nl_members::living;
+use nl_query::agents::listed;
+use nl_query::fail::QueryFail;
+use nl_query::inputs::set_at;
+use nl_query::words::{OfSet, Whole};
 use nl_value::{AgentKind, AgentSet, Serials, Value};
 use std::alloc::Global;
 use std::sync::ledger::Ledger;
@@ -45,19 +45,17 @@ fn links_of(breed: Option<u32>) -> AgentSet
     }
 }
 
-impl Whole {
-    /// The set of the word.
-    pub fn set(self, alloc: Global, breed: Option<u32>) -> AgentSet
-        ensures { result ≡ whole_set self breed }
-    {
-        match self {
-            Whole::Turtles => turtles_of(breed),
-            Whole::Patches => AgentSet::Patches,
-            Whole::Links => links_of(breed),
-            Whole::NoTurtles => AgentSet::SomeTurtles(Serials::empty(alloc)),
-            Whole::NoPatches => AgentSet::SomePatches(Serials::empty(alloc)),
-            Whole::NoLinks => AgentSet::SomeLinks(Serials::empty(alloc)),
-        }
+/// `turtles`, `patches`, `links` and the sets without members.
+pub fn whole_set(alloc: Global, which: Whole, breed: Option<u32>) -> AgentSet
+    ensures { result ≡ whole_set which breed }
+{
+    match which {
+        Whole::Turtles => turtles_of(breed),
+        Whole::Patches => AgentSet::Patches,
+        Whole::Links => links_of(breed),
+        Whole::NoTurtles => AgentSet::SomeTurtles(Serials::empty(alloc)),
+        Whole::NoPatches => AgentSet::SomePatches(Serials::empty(alloc)),
+        Whole::NoLinks => AgentSet::SomeLinks(Serials::empty(alloc)),
     }
 }
 
@@ -195,56 +193,54 @@ fn whole(count: usize) -> Num
     Num::whole(count as i64).unwrap()
 }
 
-impl OfSet {
-    /// What the word makes of a set.
-    fn of<S: Store, L: Ledger>(
-        self,
-        alloc: Global,
-        caller: Owner,
-        set: &AgentSet,
-        store: &S,
-        steps: &mut Steps<L>,
-    ) -> Result<Value, NoMemory>
-        requires { IsTrue (set_fits (S.world store.now).rest set.now) }
-        ensures value { let r = (S.world store.now).rest in
-            IfOk result (λ value. plain value ≡ of_agents r caller self set.now) }
-        ensures reads { steps.new ≤ steps.old + set_reads (S.world store.now).rest self set.now }
-    {
-        // What the number's range rests on: the store stands for a world.
-        let _stands = store.shape();
-        match self {
-            OfSet::Other => {
-                let rest = others(alloc, caller, set, store, steps)?;
-                Ok(Value::Set(listed(set.kind(), rest)))
-            }
-            OfSet::Count => {
-                let many = count(alloc, set, store, steps)?;
-                Ok(Value::Number(whole(many)))
-            }
-            OfSet::Any => {
-                let some = has_members(alloc, set, store, steps)?;
-                Ok(Value::Truth(some))
-            }
+/// What the word makes of a set.
+fn of_agents<S: Store, L: Ledger>(
+    alloc: Global,
+    which: OfSet,
+    caller: Owner,
+    set: &AgentSet,
+    store: &S,
+    steps: &mut Steps<L>,
+) -> Result<Value, NoMemory>
+    requires { IsTrue (set_fits (S.world store.now).rest set.now) }
+    ensures value { let r = (S.world store.now).rest in
+        IfOk result (λ value. plain value ≡ of_agents r caller which set.now) }
+    ensures reads { steps.new ≤ steps.old + set_reads (S.world store.now).rest which set.now }
+{
+    // What the number's range rests on: the store stands for a world.
+    let _stands = store.shape();
+    match which {
+        OfSet::Other => {
+            let rest = others(alloc, caller, set, store, steps)?;
+            Ok(Value::Set(listed(set.kind(), rest)))
+        }
+        OfSet::Count => {
+            let many = count(alloc, set, store, steps)?;
+            Ok(Value::Number(whole(many)))
+        }
+        OfSet::Any => {
+            let some = has_members(alloc, set, store, steps)?;
+            Ok(Value::Truth(some))
         }
     }
+}
 
-    /// What the word answers.
-    pub fn answer<S: Store, L: Ledger>(
-        self,
-        alloc: Global,
-        caller: Owner,
-        inputs: &[Value],
-        store: &S,
-        steps: &mut Steps<L>,
-    ) -> Result<Value, QueryFail>
-        requires { IsTrue (inputs_fit (S.world store.now).rest (map plain inputs.now)) }
-        ensures answer { let r = (S.world store.now).rest in
-            Gives (outcome_map plain result) (set_told r caller self (map plain inputs.now)) }
-        ensures reads { let r = (S.world store.now).rest in
-            let most = option_map (set_reads r self) (result_ok (set_at (map plain inputs.now) 0)) in
-            AreFew most steps.old steps.new }
-    {
-        let set = set_at(inputs, 0, store)?;
-        Ok(self.of(alloc, caller, set, store, steps)?)
-    }
+/// `other`, `count` and `any?`.
+pub fn set_told<S: Store, L: Ledger>(
+    alloc: Global,
+    which: OfSet,
+    caller: Owner,
+    inputs: &[Value],
+    store: &S,
+    steps: &mut Steps<L>,
+) -> Result<Value, QueryFail>
+    requires { IsTrue (inputs_fit (S.world store.now).rest (map plain inputs.now)) }
+    ensures answer { let r = (S.world store.now).rest in
+        Gives (outcome_map plain result) (set_told r caller which (map plain inputs.now)) }
+    ensures reads { let r = (S.world store.now).rest in
+        let most = option_map (set_reads r which) (result_ok (set_at (map plain inputs.now) 0)) in
+        AreFew most steps.old steps.new }
+{
+    let set = set_at(inputs, 0, store)?;
+    Ok(of_agents(alloc, which, caller, set, store, steps)?)
 }

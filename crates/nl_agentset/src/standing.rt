@@ -7,29 +7,29 @@ ghost use Rattle.nl_value.specs.declared.sets.AgentKind.TheVariants as the_kind;
 ghost use Rattle.nl_grid.specs.Geometry.{patches_of};
 ghost use Rattle.nl_agents.specs.Changes.{OwnerLives, TurtleLives, turtle_of};
 ghost use Rattle.nl_agents.specs.declared.agents.Owner.TheVariants as owner;
-ghost use Rattle.nl_agentset.specs.declared.words.Standing.TheVariants as standing;
+ghost use Rattle.nl_query.specs.declared.words.Standing.TheVariants as standing;
 ghost use Rattle.nl_agents.specs.Members.{members_of, turtles_where, is_on};
 ghost use Rattle.nl_agents.specs.Names.{set_fits};
 ghost use Rattle.nl_agents.specs.Standing.{fits_rest};
 ghost use Rattle.nl_members.specs.Near.{stands_where, members_where};
-ghost use Rattle.nl_agentset.specs.Inputs.{inputs_fit};
-ghost use Rattle.nl_agentset.specs.Outcomes.{Gives, outcome_map};
-ghost use Rattle.nl_agentset.specs.Places.{own_patch, turtles_on, bred_on, some_patch, patches_under, patches_of_agent, patches_of_value, offset_in, as_offset, offsets_in, patches_at, is_on_one, standing_by};
+ghost use Rattle.nl_query.specs.Inputs.{inputs_fit};
+ghost use Rattle.nl_query.specs.Outcomes.{Gives, outcome_map};
+ghost use Rattle.nl_query.specs.Agents.{own_patch, is_of, turtle_passes};
+ghost use Rattle.nl_agentset.specs.Places.{turtles_on, bred_on, some_patch, patches_under, patches_of_agent, patches_of_value, offset_in, as_offset, offsets_in, patches_at, is_on_one, standing_by};
 ghost use Rattle.nl_agentset.specs.Reads.{patch_reads, standing_reads, AreFew};
-ghost use Rattle.nl_agentset.specs.Sets.{is_of, turtle_passes};
 
-use crate::agents::{heading_in, is_turtle_of, listed, own_patch, place_of};
-use crate::fail::QueryFail;
-use crate::inputs::{
-    as_agent, as_list, as_number, fitting_at, list_at, number_at, standing_at, standing_set,
-    standing_set_at,
-};
-use crate::orders::in_order;
 use crate::patches::patch_beside;
-use crate::words::Standing;
 use nl_agents::{Owner, Steps, Store};
 use nl_fixed::{NoMemory, Num};
 use nl_members::{in_cone, in_radius, living};
+use nl_query::agents::{heading_in, is_turtle_of, listed, own_patch, place_of};
+use nl_query::fail::QueryFail;
+use nl_query::inputs::{
+    as_agent, as_list, as_number, fitting_at, list_at, number_at, standing_at, standing_set,
+    standing_set_at,
+};
+use nl_query::orders::in_order;
+use nl_query::words::Standing;
 use nl_value::{AgentKind, AgentSet, Serials, Value};
 use std::alloc::Global;
 use std::sync::ledger::Ledger;
@@ -465,31 +465,29 @@ fn in_sight<S: Store, L: Ledger>(
     Ok(Value::Set(listed(set.kind(), members)))
 }
 
-impl Standing {
-    /// What the word answers.
-    pub fn answer<S: Store, L: Ledger>(
-        self,
-        alloc: Global,
-        breed: Option<u32>,
-        caller: Owner,
-        inputs: &[Value],
-        store: &S,
-        steps: &mut Steps<L>,
-    ) -> Result<Value, QueryFail>
-        requires fit { IsTrue (inputs_fit (S.world store.now).rest (map plain inputs.now)) }
-        requires lives { OwnerLives caller (S.world store.now) }
-        ensures answer { let r = (S.world store.now).rest in
-            Gives (outcome_map plain result) (standing_by r breed caller self (map plain inputs.now)) }
-        ensures reads { let r = (S.world store.now).rest in
-            AreFew (standing_reads r caller self (map plain inputs.now)) steps.old steps.new }
-    {
-        match self {
-            Standing::On => on(alloc, breed, inputs, store, steps),
-            Standing::Here => Ok(here(alloc, breed, caller, store, steps)?),
-            Standing::At => at(alloc, breed, caller, inputs, store, steps),
-            Standing::AtPoints => at_points(alloc, caller, inputs, store, steps),
-            Standing::InRadius => within(alloc, caller, inputs, store, steps),
-            Standing::InCone => in_sight(alloc, caller, inputs, store, steps),
-        }
+/// `turtles-on`, `turtles-here`, `turtles-at` and the forms of breeds, `at-points`, `in-radius` and `in-cone`.
+pub fn standing_by<S: Store, L: Ledger>(
+    alloc: Global,
+    which: Standing,
+    breed: Option<u32>,
+    caller: Owner,
+    inputs: &[Value],
+    store: &S,
+    steps: &mut Steps<L>,
+) -> Result<Value, QueryFail>
+    requires fit { IsTrue (inputs_fit (S.world store.now).rest (map plain inputs.now)) }
+    requires lives { OwnerLives caller (S.world store.now) }
+    ensures answer { let r = (S.world store.now).rest in
+        Gives (outcome_map plain result) (standing_by r breed caller which (map plain inputs.now)) }
+    ensures reads { let r = (S.world store.now).rest in
+        AreFew (standing_reads r caller which (map plain inputs.now)) steps.old steps.new }
+{
+    match which {
+        Standing::On => on(alloc, breed, inputs, store, steps),
+        Standing::Here => Ok(here(alloc, breed, caller, store, steps)?),
+        Standing::At => at(alloc, breed, caller, inputs, store, steps),
+        Standing::AtPoints => at_points(alloc, caller, inputs, store, steps),
+        Standing::InRadius => within(alloc, caller, inputs, store, steps),
+        Standing::InCone => in_sight(alloc, caller, inputs, store, steps),
     }
 }

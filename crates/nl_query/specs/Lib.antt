@@ -1,0 +1,5 @@
+pub mod Agents
+pub mod Inputs
+pub mod Orders
+pub mod Outcomes
+pub mod Words
