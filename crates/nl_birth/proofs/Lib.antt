@@ -1,6 +1,7 @@
 pub mod Appended
 pub mod BirthExamples
 pub mod Counting
+pub mod Keeping
 pub mod Looking
 pub mod Numbers
 pub mod Partners

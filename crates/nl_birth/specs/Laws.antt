@@ -11,7 +11,7 @@ use Rattle.nl_layout.specs.Layouts.{has_slot, turtle_owns}
 use Rattle.nl_layout.specs.declared.layout.Layout.{Layout}
 use Rattle.nl_agents.specs.declared.agents.Owner.TheVariants as owner
 use Rattle.nl_agents.specs.World.{World}
-use Rattle.nl_agents.specs.Changes.{turtle_of, value_of, AreTurtlesFull, AreLinksFull}
+use Rattle.nl_agents.specs.Changes.{turtle_of, link_of, value_of, AreTurtlesFull, AreLinksFull}
 use Rattle.nl_agents.specs.Standing.{IsWorld}
 use Rattle.nl_agents.specs.declared.agents.Turtle.{Turtle}
 use Rattle.nl_agents.specs.declared.agents.Link.{Link}
@@ -22,6 +22,7 @@ use Rattle.nl_birth.specs.Looks.{drawn_looks, heading_in_order, looks_in_order}
 use Rattle.nl_birth.specs.Births.{Scene, turtle_room, drawn_births, ordered_births, origin, hatchings, place_of}
 use Rattle.nl_birth.specs.Links.{has_direction, first_end, second_end, tied_to_all, link_room, linked}
 use Rattle.nl_birth.specs.Outcomes.{Made}
+use Rattle.nl_birth.specs.Keeping.{Keeps}
 
 -- ---- births
 
@@ -130,3 +131,19 @@ abbrev pub LinkRoomEndsWhereFull : Type 0
 LinkRoomEndsWhereFull =
     (way : Way) (breed : BreedNumber) (caller : ℕ) (targets : Serials) (w : World) →
     AreLinksFull (tied_to_all way breed caller targets w) ↔ (link_room w ≤ length targets)
+
+-- ---- what is kept
+
+-- a turtle that lived before lives on, and is as it was
+abbrev pub TurtlesLiveOn : Type 0
+TurtlesLiveOn =
+    (serial : ℕ) (t : Turtle) (w now : World) → Keeps w now → turtle_of serial w.rest ≡ Some t → turtle_of serial now.rest ≡ Some t
+
+-- and so does a link
+abbrev pub LinksLiveOn : Type 0
+LinksLiveOn =
+    (serial : ℕ) (l : Link) (w now : World) → Keeps w now → link_of serial w.rest ≡ Some l → link_of serial now.rest ≡ Some l
+
+-- what is kept by one call and then by another is kept by both
+abbrev pub KeepingGoesOn : Type 0
+KeepingGoesOn = (w now later : World) → Keeps w now → Keeps now later → Keeps w later

@@ -1,4 +1,5 @@
 pub mod Births
+pub mod Keeping
 pub mod Laws
 pub mod Links
 pub mod Looks

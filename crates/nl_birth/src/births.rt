@@ -11,6 +11,7 @@ ghost use Rattle.nl_agents.specs.Changes.{TurtleLives, AreTurtlesFull};
 ghost use Rattle.nl_birth.specs.Looks.{drawn_looks, born_with};
 ghost use Rattle.nl_birth.specs.Births.{Scene, count_of, turtle_room, drawn_births, ordered_births, hatchings, turtles_born, creations, created, sproutings, sprouted, hatched, place_of, origin};
 ghost use Rattle.nl_birth.specs.Outcomes.{IsOutcome};
+ghost use Rattle.nl_birth.specs.Keeping.{Keeps};
 
 use crate::failing::BirthFail;
 use crate::looks::{Looks, draw_looks, dress, looks_in_order};
@@ -174,10 +175,11 @@ pub fn create<S: Store>(
     ordered: bool,
 ) -> Result<Serials, BirthFail>
     requires { IsTrue (is_turtle_breed (S.world store.old).rest.layout breed) }
-    ensures { let scene : Scene = record { world = S.world store.old; stream = stream.old } in
+    ensures outcome { let scene : Scene = record { world = S.world store.old; stream = stream.old } in
         let now : Scene = record { world = S.world store.new; stream = stream.new } in
         IsOutcome (created ordered breed count scene) (creations ordered breed (count_of count) scene)
         (min (count_of count) (turtle_room scene.world)) result now }
+    ensures keeps { Keeps (S.world store.old) (S.world store.new) }
 {
     let _shape = store.shape();
     let count = count_of(count);
@@ -200,10 +202,11 @@ pub fn sprout<S: Store>(
 ) -> Result<Serials, BirthFail>
     requires patch { patch < patches_of (S.world store.old).rest.shape }
     requires breed { IsTrue (is_turtle_breed (S.world store.old).rest.layout breed) }
-    ensures { let scene : Scene = record { world = S.world store.old; stream = stream.old } in
+    ensures outcome { let scene : Scene = record { world = S.world store.old; stream = stream.old } in
         let now : Scene = record { world = S.world store.new; stream = stream.new } in
         IsOutcome (sprouted patch breed count scene) (sproutings patch breed scene)
         (min (count_of count) (turtle_room scene.world)) result now }
+    ensures keeps { Keeps (S.world store.old) (S.world store.new) }
 {
     let at = store.shape().center(patch);
     bear_all_drawn(alloc, store, stream, breed, &at, count_of(count))
@@ -220,9 +223,10 @@ pub fn hatch<S: Store>(
 ) -> Result<Serials, BirthFail>
     requires parent { TurtleLives parent (S.world store.old) }
     requires breed { IsTrue (is_turtle_breed (S.world store.old).rest.layout breed) }
-    ensures { let w = S.world store.old in
+    ensures outcome { let w = S.world store.old in
         IsOutcome (hatched parent breed count w) (hatchings breed parent (place_of parent w) w)
         (min (count_of count) (turtle_room w)) result (S.world store.new) }
+    ensures keeps { Keeps (S.world store.old) (S.world store.new) }
 {
     let at = store.at(parent);
     bear_all_of(alloc, store, parent, &at, breed, count_of(count))

@@ -1,5 +1,5 @@
 //! Laws of births and of the making of links. These functions do nothing: the contract of each is a law.
-ghost use Rattle.nl_birth.specs.Laws.{DrawnBirthsAppend, OrderedBirthsAppend, HatchingsAppend, HatchedAreAlike, HeadingsAreBelowATurn, DrawnLooksStay, OrderedLooksStay, RoomEndsWhereFull, LinksAppend, MadeTwiceMakesNone, LowerEndIsFirst, LinkRoomEndsWhereFull};
+ghost use Rattle.nl_birth.specs.Laws.{DrawnBirthsAppend, OrderedBirthsAppend, HatchingsAppend, HatchedAreAlike, HeadingsAreBelowATurn, DrawnLooksStay, OrderedLooksStay, RoomEndsWhereFull, LinksAppend, MadeTwiceMakesNone, LowerEndIsFirst, LinkRoomEndsWhereFull, TurtlesLiveOn, LinksLiveOn, KeepingGoesOn};
 
 /// Turtles that are born are appended under the next serials, of their breed and where they are to stand, and nothing else is changed.
 pub fn births_append()
@@ -39,4 +39,11 @@ pub fn links_append()
 /// Making the same links again makes none.
 pub fn made_twice_makes_none()
     ensures { MadeTwiceMakesNone }
+{}
+
+/// Turtles and links that lived before others were made live on as they were, however many calls make others.
+pub fn who_lived_lives_on()
+    ensures turtles { TurtlesLiveOn }
+    ensures links { LinksLiveOn }
+    ensures goes_on { KeepingGoesOn }
 {}

@@ -11,6 +11,7 @@ ghost use Rattle.nl_agents.specs.Changes.{link_of, TurtleLives, LinkLives};
 ghost use Rattle.nl_agents.specs.Members.{is_listed};
 ghost use Rattle.nl_birth.specs.Links.{AreFree, wanted, is_of_other_kind, first_ties, links_made, link_room, linkings, linked, most_links};
 ghost use Rattle.nl_birth.specs.Outcomes.{IsOutcome};
+ghost use Rattle.nl_birth.specs.Keeping.{Keeps};
 ghost use Rattle.nl_birth.specs.inner.Partners.{other_end, partner, ArePartners};
 
 use crate::failing::BirthFail;
@@ -161,9 +162,10 @@ pub fn link<S: Store>(
     requires breed { IsTrue (is_link_breed (S.world store.old).rest.layout breed) }
     requires caller { TurtleLives caller (S.world store.old) }
     requires targets { All (λ target. TurtleLives target (S.world store.old)) targets.now }
-    ensures { let w = S.world store.old in
+    ensures outcome { let w = S.world store.old in
         IsOutcome (linked way breed caller targets.now w) (linkings way breed caller targets.now w)
         (most_links way breed caller targets.now w) result (S.world store.new) }
+    ensures keeps { Keeps (S.world store.old) (S.world store.new) }
 {
     if targets.contains(caller) {
         return Err(BirthFail::LinkFault);
