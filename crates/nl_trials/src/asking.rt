@@ -70,6 +70,14 @@ impl<S: Store> Tried<S> {
         }
     }
 
+    /// Whether a list has the serials from 0 on, so many.
+    pub fn counts_up(&self, alloc: Global, which: Listed, count: u64) -> bool {
+        match self.listed::<Brand>(alloc, Blank::new(1), which) {
+            Some(serials) => is_count(serials.as_slice(), count),
+            None => false,
+        }
+    }
+
     fn is_turtle(&self, turtle: u64, breed: u32, place: Place) -> bool {
         if !self.store.turtle_lives(turtle) {
             return false;
@@ -124,6 +132,16 @@ impl<S: Store> Tried<S> {
             Look::Holds(owner, name, wanted) => self.holds(owner, name, wanted),
         }
     }
+}
+
+// Whether these are the numbers from 0 on, so many.
+fn is_count(numbers: &[u64], count: u64) -> bool {
+    for (at, number) in numbers.iter().enumerate() {
+        if *number != at as u64 {
+            return false;
+        }
+    }
+    numbers.len() as u64 == count
 }
 
 /// Whether a variable holds this.
