@@ -1,30 +1,17 @@
--- The members of a set of patches are patches of the world.
-use Rattle.std.specs.Prelude.{◌≡◌, ◌<◌, All}
+-- The members of a set of turtles live.
+use Rattle.std.specs.Prelude.{◌≡◌, All}
 use Rattle.nl_value.specs.Sets.{set_kind}
 use Rattle.nl_value.specs.declared.sets.AgentKind.TheVariants as the_kind
 use Rattle.nl_value.specs.declared.sets.AgentSet.{AgentSet}
 use Rattle.nl_value.specs.declared.sets.AgentSet.TheVariants as the_set
-use Rattle.nl_grid.specs.Geometry.{patches_of}
-use Rattle.nl_agents.specs.World.{Rest, World}
+use Rattle.nl_agents.specs.World.{World}
 use Rattle.nl_agents.specs.Changes.{TurtleLives}
 use Rattle.nl_agents.specs.Members.{members_of, is_of_breed, is_listed}
 use Rattle.nl_agents.specs.Standing.{IsWorld}
 use Rattle.nl_agents.proofs.LivingMembers.{each_lives}
-use Rattle.nl_members.proofs.Regional.{patches_inside, all_inside}
 use Rattle.nl_agentset.proofs.Found.{turtles_live}
 use Rattle.nl_agents.specs.declared.agents.Turtle.{Turtle}
 
-pub patch_members : (r : Rest) (set : AgentSet) → set_kind set ≡ the_kind.Patch → All (λ patch. patch < patches_of r.shape) (members_of r set)
-patch_members r the_set.Patches is = all_inside r
-patch_members r (the_set.SomePatches numbers) is = patches_inside r (is_listed numbers)
-patch_members r the_set.Turtles is = cc
-patch_members r (the_set.Breed breed) is = cc
-patch_members r the_set.Links is = cc
-patch_members r (the_set.LinkBreed breed) is = cc
-patch_members r (the_set.SomeTurtles numbers) is = cc
-patch_members r (the_set.SomeLinks numbers) is = cc
-
--- and those of a set of turtles live
 pub turtle_members : (w : World) (set : AgentSet) → IsWorld w → set_kind set ≡ the_kind.Turtle → All (λ turtle. TurtleLives turtle w) (members_of w.rest set)
 turtle_members w the_set.Turtles world is = λ k z inside. each_lives (λ (t : Turtle). t.serial) w.rest.turtles k z inside
 turtle_members w (the_set.Breed breed) world is = turtles_live w (is_of_breed breed) world

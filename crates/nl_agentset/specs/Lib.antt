@@ -1,4 +1,4 @@
-pub mod Choices
+pub mod Laws
 pub mod Links
 pub mod Places
 pub mod Queries

@@ -12,7 +12,7 @@ use Rattle.nl_query.specs.declared.fail.QueryFail.TheVariants.{WrongType}
 use Rattle.nl_query.specs.declared.words.QueryWord.{QueryWord}
 use Rattle.nl_query.specs.declared.words.QueryWord.TheVariants as word
 use Rattle.nl_query.specs.declared.words.Whole.TheVariants as whole
-use Rattle.nl_agentset.specs.Choices.{chosen_by}
+use Rattle.nl_choice.specs.Choices.{chosen_by}
 use Rattle.nl_agentset.specs.Links.{own_links, own_neighbors, neighbor_tested, link_found, ends_told}
 use Rattle.nl_query.specs.Outcomes.{Outcome, outcome_map}
 use Rattle.nl_agentset.specs.Places.{standing_by, patches_around, one_patch, faced, measured_to, measured_to_xy}

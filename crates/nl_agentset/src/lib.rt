@@ -6,14 +6,17 @@
 //! changes the world: it has the store as a shared borrow.
 #![tactic(auto)]
 
+pub mod laws;
 pub mod links;
 pub mod lookups;
 pub mod measures;
 pub mod patches;
+pub mod queries;
 pub mod sets;
 pub mod standing;
 pub mod unions;
 
 pub use nl_members::{Walk, in_cone, in_radius, living, one_of, snapshot};
 pub use nl_query::{QueryFail, QueryWord, query_word};
+pub use queries::{answer, query};
 pub use unions::union_of;

@@ -6,7 +6,7 @@ use Rattle.nl_value.specs.Sets.{set_kind}
 use Rattle.nl_grid.specs.Geometry.{patches_of}
 use Rattle.nl_members.specs.Near.{stands_where}
 use Rattle.nl_agentset.specs.Places.{is_on_one}
-use Rattle.nl_agentset.proofs.Inside.{patch_members}
+use Rattle.nl_choice.proofs.Inside.{patch_members}
 use Rattle.nl_agentset.proofs.standing.members_on.Goals as goal
 
 pub is_on_one-requires : goal.is_on_one-requires

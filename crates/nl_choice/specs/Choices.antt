@@ -1,5 +1,5 @@
 -- Choices among the members of a set or the items of a list, and what they draw of the stream.
-use Rattle.std.specs.Prelude.{ℕ, ◌+◌, ℤ, pos, int_lt, unsigned_abs, Bool, if◌then◌else◌, List, [], ◌∷◌, length, take, Option, Some, None, Ok, Err}
+use Rattle.std.specs.Prelude.{ℕ, ◌+◌, ℤ, pos, int_lt, unsigned_abs, Bool, false, if◌then◌else◌, List, [], ◌∷◌, length, take, Option, Some, None, Ok, Err}
 use Rattle.std.specs.List.{range_with_len}
 use Rattle.nl_fixed.specs.Numbers.{whole_part}
 use Rattle.nl_value.specs.Sets.{set_kind}
@@ -50,7 +50,7 @@ some_of wanted xs state = (kept_from 0 (places_drawn wanted (length xs) state).0
 abbrev pub are_too_few : Choice → ℤ → ℕ → Bool
 are_too_few NOf number many = int_lt (pos many) (whole_part number)
 are_too_few OneOf number many = int_lt (pos many) (whole_part number)
-are_too_few UpToNOf number many = int_lt (pos 1) (pos 0)
+are_too_few UpToNOf number many = false
 
 -- how many are wanted, or why there can't be so many
 abbrev pub wanted_of : Choice → ℤ → ℕ → Outcome ℕ

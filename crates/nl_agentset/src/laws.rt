@@ -1,0 +1,29 @@
+//! What queries mean. These functions do nothing: the contract of each is a law.
+ghost use Rattle.nl_agentset.specs.Laws.{AnswersFit, OthersAreAllButTheCaller, AtTheRadiusIsWithin, UnionsAscend, NeighborsAreMutual, WaysAreOpposite, UndirectedLeadBothWays};
+
+/// What a query answers fits the world.
+pub fn answers_fit()
+    ensures { AnswersFit }
+{}
+
+/// Others are all members but the caller.
+pub fn others_are_all_but_the_caller()
+    ensures { OthersAreAllButTheCaller }
+{}
+
+/// What stands just as far away as the radius is within it.
+pub fn at_the_radius_is_within()
+    ensures { AtTheRadiusIsWithin }
+{}
+
+/// A union has each member once.
+pub fn unions_ascend()
+    ensures { UnionsAscend }
+{}
+
+/// Neighbors are mutual: by links of any direction, by links without one, and by links with one the other way.
+pub fn neighbors_are_mutual()
+    ensures any { NeighborsAreMutual }
+    ensures ways { WaysAreOpposite }
+    ensures undirected { UndirectedLeadBothWays }
+{}

@@ -1,0 +1,4 @@
+pub mod Choosing
+pub mod Counted
+pub mod Inside
+pub mod Places
