@@ -1,0 +1,5 @@
+pub mod Stage
+pub mod Fails
+pub mod Words
+pub mod Acts
+pub mod Performing
