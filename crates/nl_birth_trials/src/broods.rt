@@ -2,13 +2,13 @@
 //!
 //! Numbers and coordinates are in tenths.
 
-use crate::making::{Act, Answer, Call, NONE, act, acted, links};
+use crate::making::{Act, Answer, Call, NONE, act, acted, go_on, links};
 use nl_agents::Store;
 use nl_birth::{BirthFail, Way};
 use nl_plain::Plain;
 use nl_trials::Tried;
 use nl_trials::trial_model::{FOXES, OWLS};
-use nl_trials::trials::{Look, Place, Scene, Step, proceed};
+use nl_trials::trials::{Look, Place, Scene, Step};
 use std::alloc::Global;
 use std::process::Abort;
 
@@ -89,7 +89,7 @@ const TWO_SPROUT: &[Act] = &[(
 fn assert_full<S: Store>(rt: &impl Abort, alloc: Global) {
     let mut tried: Tried<S> = acted(rt, alloc, &[], FULL);
     assert!(rt; tried.store.turtle_count() == MOST_TURTLES);
-    proceed(rt, alloc, &mut tried, TWO_DIE);
+    go_on(rt, alloc, &mut tried, TWO_DIE);
     act(rt, alloc, &mut tried, TWO_SPROUT);
     assert!(rt; tried.store.turtle_count() == MOST_TURTLES);
 }

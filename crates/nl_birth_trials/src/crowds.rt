@@ -1,12 +1,13 @@
 //! Stores with as many turtles as may live, with many links of one turtle, and with many patches.
 
+use crate::making::{begun, go_on};
 use nl_agents::{Owner, Store};
 use nl_grid::Shape;
 use nl_plain::Plain;
 use nl_trials::Tried;
 use nl_trials::asking::Listed;
 use nl_trials::trial_model::{FOXES, OWLS, program};
-use nl_trials::trials::{Look, Scene, Step, Wanted, played, proceed};
+use nl_trials::trials::{Look, Scene, Step, Wanted};
 use std::alloc::Global;
 use std::process::Abort;
 
@@ -92,13 +93,10 @@ const FULL: &[Scene] = &[
 ];
 
 fn assert_full<S: Store>(rt: &impl Abort, alloc: Global) {
-    let Some(model) = program(alloc) else {
-        panic!(rt);
-    };
-    let mut tried: Tried<S> = played(rt, alloc, model, &[]);
+    let mut tried: Tried<S> = begun(rt, alloc, &[]);
     assert!(rt; bears(&mut tried, alloc, MOST_TURTLES - 1));
     assert!(rt; finds(&tried, alloc, MOST_TURTLES - 1));
-    proceed(rt, alloc, &mut tried, FULL);
+    go_on(rt, alloc, &mut tried, FULL);
 }
 
 #[test]
@@ -109,10 +107,7 @@ fn two_hundred_thousand_turtles_may_live(rt: HostRuntime) {
 const CROWD: u64 = 10_000;
 
 fn assert_copied<S: Store>(rt: &impl Abort, alloc: Global) {
-    let Some(model) = program(alloc) else {
-        panic!(rt);
-    };
-    let mut tried: Tried<S> = played(rt, alloc, model, &[]);
+    let mut tried: Tried<S> = begun(rt, alloc, &[]);
     assert!(rt; bears(&mut tried, alloc, CROWD));
     assert!(rt; lists_foxes(&tried, alloc, CROWD));
     assert!(rt; copies(&mut tried, alloc));
@@ -136,16 +131,13 @@ const HUB_DIES: &[Scene] = &[(
 )];
 
 fn assert_star<S: Store>(rt: &impl Abort, alloc: Global) {
-    let Some(model) = program(alloc) else {
-        panic!(rt);
-    };
-    let mut tried: Tried<S> = played(rt, alloc, model, &[]);
+    let mut tried: Tried<S> = begun(rt, alloc, &[]);
     assert!(rt; bears(&mut tried, alloc, SPOKES + 1));
     assert!(rt; ties(&mut tried, alloc, SPOKES));
     assert!(rt; lists_spokes(&tried, alloc, SPOKES));
     assert!(rt; copies(&mut tried, alloc));
     assert!(rt; lists_spokes(&tried, alloc, SPOKES));
-    proceed(rt, alloc, &mut tried, HUB_DIES);
+    go_on(rt, alloc, &mut tried, HUB_DIES);
 }
 
 #[test]
@@ -180,7 +172,7 @@ fn assert_wide<S: Store>(rt: &impl Abort, alloc: Global) {
     let Some(mut tried) = Tried::<S>::of(alloc, model, shape) else {
         panic!(rt);
     };
-    proceed(rt, alloc, &mut tried, FAR);
+    go_on(rt, alloc, &mut tried, FAR);
 }
 
 #[test]

@@ -10,7 +10,7 @@ use nl_draw::Stream;
 use nl_plain::Plain;
 use nl_trials::Tried;
 use nl_trials::trial_model::program;
-use nl_trials::trials::{Look, Place, Step, played, proceed, tenths};
+use nl_trials::trials::{Look, Place, Scene, Step, played, proceed, tenths};
 use nl_value::Serials;
 use std::alloc::Global;
 use std::process::Abort;
@@ -199,6 +199,29 @@ pub(crate) fn makes<S: Store>(
     }
 }
 
+/// Plays the scenes on the store.
+pub(crate) fn go_on<S: Store>(
+    rt: &impl Abort,
+    alloc: Global,
+    tried: &mut Tried<S>,
+    scenes: &[Scene],
+) {
+    if let Some(wrong) = proceed(alloc, tried, scenes) {
+        panic!(rt; "{wrong:?}");
+    }
+}
+
+/// A new store on which the scenes are played.
+pub(crate) fn begun<S: Store>(rt: &impl Abort, alloc: Global, scenes: &[Scene]) -> Tried<S> {
+    let Some(model) = program(alloc) else {
+        panic!(rt);
+    };
+    match played(alloc, model, scenes) {
+        Ok(tried) => tried,
+        Err(wrong) => panic!(rt; "{wrong:?}"),
+    }
+}
+
 /// Makes the calls, one after the other, with what is drawn from the seed 42.
 pub(crate) fn act<S: Store>(rt: &impl Abort, alloc: Global, tried: &mut Tried<S>, acts: &[Act]) {
     let mut stream = Stream::new(42);
@@ -207,7 +230,7 @@ pub(crate) fn act<S: Store>(rt: &impl Abort, alloc: Global, tried: &mut Tried<S>
             makes(tried, alloc, &mut stream, *call, *answer),
             "{call:?}"
         );
-        proceed(rt, alloc, tried, &[(&[], looks)]);
+        go_on(rt, alloc, tried, &[(&[], looks)]);
     }
 }
 
@@ -218,10 +241,7 @@ pub(crate) fn acted<S: Store>(
     steps: &'static [Step],
     acts: &[Act],
 ) -> Tried<S> {
-    let Some(model) = program(alloc) else {
-        panic!(rt);
-    };
-    let mut tried: Tried<S> = played(rt, alloc, model, &[(steps, &[])]);
+    let mut tried: Tried<S> = begun(rt, alloc, &[(steps, &[])]);
     act(rt, alloc, &mut tried, acts);
     tried
 }

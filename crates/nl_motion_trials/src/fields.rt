@@ -61,7 +61,9 @@ pub(crate) fn ground<S: Store>(rt: &impl Abort, alloc: Global, sides: Sides) -> 
     let Some(mut tried) = Tried::<S>::of(alloc, model, shape) else {
         panic!(rt);
     };
-    proceed(rt, alloc, &mut tried, BIRTH);
+    if let Some(wrong) = proceed(alloc, &mut tried, BIRTH) {
+        panic!(rt; "{wrong:?}");
+    }
     let Some(slot) = tried.slot("p") else {
         panic!(rt);
     };

@@ -5,7 +5,7 @@
 use nl_agents::Owner;
 use nl_plain::Plain;
 use nl_trials::trial_model::{FOXES, OWLS, ROPES, WIRES, program};
-use nl_trials::trials::{Look, Scene, Step, Tried, Wanted, played};
+use nl_trials::trials::{Look, Scene, Step, Wanted, played};
 use std::alloc::Global;
 use std::process::Abort;
 
@@ -14,7 +14,9 @@ pub(crate) fn assert_scenes(rt: &impl Abort, alloc: Global, scenes: &[Scene]) {
     let Some(model) = program(alloc) else {
         panic!(rt);
     };
-    let _plain: Tried<Plain> = played(rt, alloc, model, scenes);
+    if let Err(wrong) = played::<Plain>(alloc, model, scenes) {
+        panic!(rt; "{wrong:?}");
+    }
 }
 
 const HERE: (i64, i64) = (0, 0);

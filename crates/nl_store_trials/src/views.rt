@@ -84,7 +84,10 @@ fn started<S: Store>(rt: &impl Abort, alloc: Global) -> Tried<S> {
     let Some(model) = program(alloc) else {
         panic!(rt);
     };
-    played(rt, alloc, model, WORLD)
+    match played(alloc, model, WORLD) {
+        Ok(tried) => tried,
+        Err(wrong) => panic!(rt; "{wrong:?}"),
+    }
 }
 
 const TEXTS: &[(Named, &str)] = &[

@@ -15,7 +15,6 @@ use nl_tree::Program;
 use nl_value::Serials;
 use std::alloc::Global;
 use std::marker::Brand;
-use std::process::Abort;
 use std::sync::ledger::{Blank, Ledger};
 
 /// A point, each coordinate in tenths.
@@ -197,41 +196,62 @@ impl<S: Store> Tried<S> {
     }
 }
 
-// Makes the calls, one after the other.
-fn play<S: Store>(rt: &impl Abort, alloc: Global, tried: &mut Tried<S>, steps: &[Step]) {
-    for step in steps {
-        assert!(rt; tried.play(alloc, *step), "{step:?}");
-    }
+/// Where a store came out otherwise than it was told.
+#[derive(Clone, Copy, Debug)]
+pub enum Wrong {
+    Step(Step),
+    Look(Look),
+    /// Memory was refused for the store.
+    NoMemory,
 }
 
-// Asks the store all of this.
-fn ask<S: Store>(rt: &impl Abort, alloc: Global, tried: &Tried<S>, looks: &[Look]) {
-    for look in looks {
-        assert!(rt; tried.answers(alloc, *look), "{look:?}");
+// Makes the calls, one after the other, up to the first that comes out otherwise.
+fn play<S: Store>(alloc: Global, tried: &mut Tried<S>, steps: &[Step]) -> Option<Wrong> {
+    for step in steps {
+        if !tried.play(alloc, *step) {
+            return Some(Wrong::Step(*step));
+        }
     }
+    None
+}
+
+// Asks the store all of this, up to the first answer that is another one.
+fn ask<S: Store>(alloc: Global, tried: &Tried<S>, looks: &[Look]) -> Option<Wrong> {
+    for look in looks {
+        if !tried.answers(alloc, *look) {
+            return Some(Wrong::Look(*look));
+        }
+    }
+    None
 }
 
 /// Calls, and what the store answers after them.
 pub type Scene = (&'static [Step], &'static [Look]);
 
-/// Plays the scenes on the store.
-pub fn proceed<S: Store>(rt: &impl Abort, alloc: Global, tried: &mut Tried<S>, scenes: &[Scene]) {
+/// Plays the scenes on the store, up to the first call or answer that comes out otherwise than it is told.
+pub fn proceed<S: Store>(alloc: Global, tried: &mut Tried<S>, scenes: &[Scene]) -> Option<Wrong> {
     for (steps, looks) in scenes {
-        play(rt, alloc, tried, steps);
-        ask(rt, alloc, tried, looks);
+        if let Some(wrong) = play(alloc, tried, steps) {
+            return Some(wrong);
+        }
+        if let Some(wrong) = ask(alloc, tried, looks) {
+            return Some(wrong);
+        }
     }
+    None
 }
 
 /// A new store on which the scenes are played.
 pub fn played<S: Store>(
-    rt: &impl Abort,
     alloc: Global,
     program: Program,
     scenes: &[Scene],
-) -> Tried<S> {
+) -> Result<Tried<S>, Wrong> {
     let Some(mut tried) = Tried::<S>::new(alloc, program) else {
-        panic!(rt);
+        return Err(Wrong::NoMemory);
     };
-    proceed(rt, alloc, &mut tried, scenes);
-    tried
+    match proceed(alloc, &mut tried, scenes) {
+        None => Ok(tried),
+        Some(wrong) => Err(wrong),
+    }
 }
