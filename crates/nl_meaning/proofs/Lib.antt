@@ -1,0 +1,5 @@
+pub mod Samples
+pub mod Examples
+pub mod AgentExamples
+pub mod CaseExamples
+pub mod RowExamples

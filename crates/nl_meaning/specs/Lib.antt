@@ -1,0 +1,10 @@
+pub mod State
+pub mod Running
+pub mod Acting
+pub mod Variables
+pub mod Blocks
+pub mod Calls
+pub mod Steps
+pub mod Walks
+pub mod Makings
+pub mod Meaning

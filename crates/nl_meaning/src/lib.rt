@@ -1,0 +1,2 @@
+//! What a text means. No code: only definitions, in `specs/`.
+#![tactic(auto)]
