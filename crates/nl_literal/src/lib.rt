@@ -1,0 +1,9 @@
+//! Values that are written down in an experiment: one literal of NetLogo, or a whole number.
+#![tactic(auto)]
+
+pub mod literals;
+mod nested;
+#[cfg(test)]
+mod tests;
+
+pub use literals::{literal, number, whole};
