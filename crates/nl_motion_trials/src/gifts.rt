@@ -340,15 +340,35 @@ const NO_NUMBERS: &[(Others, Gift)] = &[
     ),
 ];
 
-fn give_none<S: Store>(rt: &impl Abort, alloc: Global) {
-    for (others, gift) in NO_NUMBERS {
-        give::<S>(rt, alloc, WIDE, others, gift);
+// In worlds of one patch, and of one patch and one above it.
+const ALONE_WITHOUT: &[(Others, Gift)] = &[(
+    &[(0, 0, Other::List)],
+    (&[], ALL, true, Err(MoveFault::WrongType), &[]),
+)];
+
+const ABOVE_WITHOUT: &[(Others, Gift)] = &[
+    (
+        &[(0, 1, Other::Text)],
+        (EIGHT, ALL, false, Err(MoveFault::WrongType), EIGHT),
+    ),
+    (
+        &[(0, 0, Other::Text), (0, 1, Other::Truth)],
+        (&[], HALF, true, Err(MoveFault::WrongType), &[]),
+    ),
+];
+
+fn give_none<S: Store>(rt: &impl Abort, alloc: Global, sides: Sides, rows: &[(Others, Gift)]) {
+    for (others, gift) in rows {
+        give::<S>(rt, alloc, sides, others, gift);
     }
 }
 
 #[test]
 fn nothing_is_given_where_a_patch_keeps_no_number(rt: HostRuntime) {
-    give_none::<Plain>(&rt, rt.alloc());
+    give_none::<Plain>(&rt, rt.alloc(), WIDE, NO_NUMBERS);
+    give_none::<Plain>(&rt, rt.alloc(), (0, 0, 0, 0, true, true), ALONE_WITHOUT);
+    give_none::<Plain>(&rt, rt.alloc(), (0, 0, 0, 1, true, true), ABOVE_WITHOUT);
+    give_none::<Plain>(&rt, rt.alloc(), (0, 0, 0, 1, false, false), ABOVE_WITHOUT);
 }
 
 // As many patches as a world may have.
