@@ -3,3 +3,5 @@ pub mod Examples
 pub mod AgentExamples
 pub mod CaseExamples
 pub mod RowExamples
+pub mod Same
+pub mod Loops

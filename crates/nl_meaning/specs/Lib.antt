@@ -8,3 +8,4 @@ pub mod Steps
 pub mod Walks
 pub mod Makings
 pub mod Meaning
+pub mod Laws
