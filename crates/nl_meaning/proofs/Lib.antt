@@ -5,3 +5,4 @@ pub mod CaseExamples
 pub mod RowExamples
 pub mod Same
 pub mod Loops
+pub mod Ends
