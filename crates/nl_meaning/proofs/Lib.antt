@@ -6,3 +6,5 @@ pub mod RowExamples
 pub mod Same
 pub mod Loops
 pub mod Ends
+pub mod Ground
+pub mod BirthsGround
