@@ -8,3 +8,4 @@ pub mod Loops
 pub mod Ends
 pub mod Ground
 pub mod BirthsGround
+pub mod Thrift
