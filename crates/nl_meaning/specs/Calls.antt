@@ -9,7 +9,8 @@ use Rattle.nl_tree.specs.Tree.{Node, span, parts}
 use Rattle.nl_tree.specs.Checked.{Checked}
 use Rattle.nl_tree.specs.declared.declared.Procedure.{Procedure}
 use Rattle.nl_acts.specs.declared.fail.ErrorKind.TheVariants.{WrongType, NoReport}
-use Rattle.nl_meaning.specs.State.{Held, Site, State, Exit, Outcome, Eval, Gives, Stopped, Reported, Left, Budget, Error, ends, gives, goes_on, goes_on_stopped, fails, found, choose, at_site, with_locals}
+use Rattle.nl_meaning.specs.declared.sites.Site.{Site}
+use Rattle.nl_meaning.specs.State.{Held, State, Exit, Outcome, Eval, Gives, Stopped, Reported, Left, Budget, Error, ends, gives, goes_on, goes_on_stopped, fails, found, choose, at_site, with_locals}
 use Rattle.nl_meaning.specs.Blocks.{values}
 
 -- the caller has its locals, and runs where it ran

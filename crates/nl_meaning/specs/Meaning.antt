@@ -32,7 +32,8 @@ use Rattle.nl_code.specs.declared.words.Built.{Built}
 use Rattle.nl_code.specs.declared.words.Built.TheVariants as built
 use Rattle.nl_code.specs.Cases.{Case, case_of}
 use Rattle.nl_code.specs.Cases as case
-use Rattle.nl_meaning.specs.State.{Site, State, Exit, Outcome, Eval, Gives, Stopped, Reported, Left, Budget, Error, ends, gives, goes_on, fails, found, come_to, choose, with_part, with_number, with_stage, with_world, world_of, rest_of, ◌>>=◌}
+use Rattle.nl_meaning.specs.declared.sites.Site.{Site}
+use Rattle.nl_meaning.specs.State.{State, Exit, Outcome, Eval, Gives, Stopped, Reported, Left, Budget, Error, ends, gives, goes_on, fails, found, come_to, choose, with_part, with_number, with_stage, with_world, world_of, rest_of, ◌>>=◌}
 use Rattle.nl_meaning.specs.Running.{allowed, staying}
 use Rattle.nl_meaning.specs.Acting.{performed}
 use Rattle.nl_meaning.specs.Variables.{read_local, read_global, read_owned, read_apart, make_local, assign}

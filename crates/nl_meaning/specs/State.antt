@@ -5,10 +5,10 @@ use Rattle.nl_fixed.specs.declared.span.Span.{Span}
 use Rattle.nl_value.specs.Plain.{Plain, PlainNumber, PlainTruth, PlainWords, PlainItems, PlainTurtle, PlainPatch, PlainLink, PlainNobody, PlainSet}
 use Rattle.nl_tree.specs.Tree.{Node, parts}
 use Rattle.nl_agents.specs.World.{Rest, World}
-use Rattle.nl_agents.specs.declared.agents.Owner.{Owner}
 use Rattle.nl_acts.specs.declared.fail.ErrorKind.{ErrorKind}
 use Rattle.nl_acts.specs.declared.fail.ErrorKind.TheVariants.{WrongType}
 use Rattle.nl_acts.specs.Stage.{Stage}
+use Rattle.nl_meaning.specs.declared.sites.Site.{Site}
 
 -- ---- states
 
@@ -16,12 +16,6 @@ use Rattle.nl_acts.specs.Stage.{Stage}
 pub record Held : Type 0 where
   pub name : Name
   pub value : Plain
-
--- Who runs, who asked it to (the observer, where nobody did), and in which body: 0 is the lone text, and i + 1 that of procedure i.
-pub record Site : Type 0 where
-  pub agent : Owner
-  pub asker : Owner
-  pub body : ℕ
 
 -- The global variables and all else of the world, the locals of the procedure that runs, from the oldest to the newest, who runs, and how many
 -- units are left.

@@ -30,7 +30,8 @@ use Rattle.nl_acts.specs.Fails.{error_of_query, told_as}
 use Rattle.nl_acts.specs.Acts.{is_gone}
 use Rattle.nl_code.specs.declared.words.Over.{Over}
 use Rattle.nl_code.specs.declared.words.Over.TheVariants as over
-use Rattle.nl_meaning.specs.State.{Site, State, Exit, Outcome, Eval, Gives, Stopped, Reported, Left, Budget, Error, ends, gives, goes_on, fails, come_to, choose, spend, with_part, with_number, at_site, with_stage, rest_of, ◌>>=◌}
+use Rattle.nl_meaning.specs.declared.sites.Site.{Site}
+use Rattle.nl_meaning.specs.State.{State, Exit, Outcome, Eval, Gives, Stopped, Reported, Left, Budget, Error, ends, gives, goes_on, fails, come_to, choose, spend, with_part, with_number, at_site, with_stage, rest_of, ◌>>=◌}
 
 -- ---- who is asked
 

@@ -1,2 +1,6 @@
-//! What a text means. No code: only definitions, in `specs/`.
+//! What a text means: definitions, in `specs/`, and who runs it.
 #![tactic(auto)]
+
+pub mod sites;
+
+pub use sites::Site;
