@@ -1,0 +1,10 @@
+pub mod Kept
+pub mod Ground
+pub mod Weight
+pub mod Seen
+pub mod Frames
+pub mod Standing
+pub mod Work
+pub mod Means
+pub mod Sound
+pub mod inner

@@ -1,0 +1,41 @@
+-- What a checked program and the layout of its variables owe to the machine: each body is a list of statements, a variable of agents and a word
+-- that takes a living agent are none of the observer's, and a word's breed is one of the layout.
+use Rattle.std.specs.Prelude.{◌≡◌, ℕ, ⊤, not, IsTrue, Option, Some, slice_get}
+use Rattle.nl_words.specs.declared.entry.Kinds.{Kinds}
+use Rattle.nl_tree.specs.Tree as tree
+use Rattle.nl_tree.specs.Tree.{Node}
+use Rattle.nl_tree.specs.Checked.{Checked}
+use Rattle.nl_tree.specs.declared.tree.Label.{Label}
+use Rattle.nl_tree.specs.declared.tree.Label.TheVariants as label
+use Rattle.nl_layout.specs.Nouns.{BreedNumber}
+use Rattle.nl_layout.specs.declared.layout.Layout.{Layout}
+use Rattle.nl_agentset.specs.Queries.{word_breed_fits}
+use Rattle.nl_acts.specs.declared.words.Act.{Act}
+use Rattle.nl_acts.specs.declared.words.Act.TheVariants as act
+use Rattle.nl_code.specs.declared.words.Built.{Built}
+use Rattle.nl_code.specs.declared.words.Built.TheVariants as built
+use Rattle.nl_code.specs.declared.words.Control.TheVariants as control
+use Rattle.nl_code.specs.declared.words.Spread.TheVariants as spread
+use Rattle.nl_code.specs.Cases.{Case, case_of}
+use Rattle.nl_code.specs.Cases as case
+
+-- a query's breed is one of the layout
+abbrev pub ActStands : Layout → Act → Option BreedNumber → Type 0
+ActStands layout (act.Query which) breed = IsTrue (word_breed_fits layout which breed)
+ActStands layout other breed = ⊤
+
+abbrev pub WordStands : Layout → Kinds → Option BreedNumber → Built → Type 0
+WordStands layout runs breed (built.Control control.Die) = IsTrue (not runs.observer)
+WordStands layout runs breed (built.Spread (spread.Climb up four)) = IsTrue (not runs.observer)
+WordStands layout runs breed (built.Act which) = ActStands layout which breed
+WordStands layout runs breed word = ⊤
+
+abbrev pub CaseStands : Layout → Case → Type 0
+CaseStands layout (case.Word runs breed word) = WordStands layout runs breed word
+CaseStands layout (case.Owned runs slot) = IsTrue (not runs.observer)
+CaseStands layout (case.Aside runs which) = IsTrue (not runs.observer)
+CaseStands layout other = ⊤
+
+pub record IsSound (p : Checked) (layout : Layout) : Type 0 where
+  pub bodies : (i : ℕ) (t : Node) → slice_get p.bodies i ≡ Some t → tree.label t ≡ label.Commands
+  pub words : (l : Label) → CaseStands layout (case_of p.declared l)

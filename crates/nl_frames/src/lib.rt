@@ -1,0 +1,12 @@
+//! What a machine holds while a text runs: the frames of the nodes that are under way, the locals, and who runs.
+#![tactic(auto)]
+
+pub mod exits;
+pub mod frames;
+pub mod hands;
+pub mod locals;
+
+pub use exits::Exit;
+pub use frames::{Frame, Next};
+pub use hands::Hands;
+pub use locals::{Local, Locals};
