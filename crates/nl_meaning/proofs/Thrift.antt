@@ -34,7 +34,8 @@ use Rattle.nl_code.specs.declared.words.Built.{Built}
 use Rattle.nl_code.specs.declared.words.Built.TheVariants as built
 use Rattle.nl_code.specs.Cases.{Case, case_of}
 use Rattle.nl_code.specs.Cases as case
-use Rattle.nl_meaning.specs.State.{Held, Site, State, Exit, Outcome, Eval, Gives, Stopped, Reported, Left, Budget, Error, ends, next_by, spend_by, choose, found, come_to, with_number, with_truth}
+use Rattle.nl_meaning.specs.declared.sites.Site.{Site}
+use Rattle.nl_meaning.specs.State.{Held, State, Exit, Outcome, Eval, Gives, Stopped, Reported, Left, Budget, Error, ends, next_by, spend_by, choose, found, come_to, with_number, with_truth}
 use Rattle.nl_meaning.specs.Variables.{set_of_turtle, set_of_link, set_of_agent, assign}
 use Rattle.nl_meaning.specs.Blocks.{values, leave_by, statements, turns, Step, fuelled, unending, while_step, while_case, loop_step, loop_case}
 use Rattle.nl_meaning.specs.Calls.{command_by, reporter_by, returned_by}
