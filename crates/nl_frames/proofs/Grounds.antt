@@ -1,66 +1,41 @@
 -- What fits the world.
-use Rattle.std.proofs.Common.{◌≡◌, ◌&&◌, ℕ, ℤ, zero, suc, Bool, true, false, IsTrue, List, [], ◌∷◌, ◌++◌, Some, take, slice_get, slice_set, nat_lt, refl, ap, ◌∙◌, sym}
+use Rattle.std.proofs.Common.{◌≡◌, ◌&&◌, ℕ, zero, suc, Bool, true, false, IsTrue, List, [], ◌∷◌, ◌++◌, Some, take, slice_get, slice_set, refl, ap, ◌∙◌, sym}
 use Rattle.std.specs.List.{list_all}
 use Rattle.std.proofs.lemmas.Bool.{and_parts}
-use Rattle.nl_fixed.specs.Nouns.{Bytes}
-use Rattle.nl_value.specs.Plain.{Plain, PlainNumber, PlainTruth, PlainWords, PlainItems, PlainTurtle, PlainPatch, PlainLink, PlainNobody, PlainSet, plains}
-use Rattle.nl_value.specs.Fit.{set_fits_by}
+use Rattle.nl_value.specs.Plain.{Plain, PlainItems, plains}
 use Rattle.nl_value.proofs.Fitting.{values_fit-plains}
-use Rattle.nl_grid.specs.Geometry.{patches_of}
-use Rattle.nl_layout.specs.Layouts.{is_turtle_breed, is_link_breed}
 use Rattle.nl_agents.specs.World.{Rest}
 use Rattle.nl_agents.specs.Standing.{fits_rest}
 use Rattle.nl_agents.specs.declared.agents.Owner.{Owner}
 use Rattle.nl_agents.specs.declared.agents.Owner.TheVariants as owner
 use Rattle.nl_query.specs.Inputs.{inputs_fit}
 use Rattle.nl_acts.specs.Performing.{owner_fits}
-use Rattle.nl_frames.specs.Kept.{Kept}
-use Rattle.nl_frames.specs.Ground.{Ground, ground_of, fits, all_fit, agent_fits}
+use Rattle.nl_frames.specs.Standing.{FrameFits, HoldsNothing}
+use Rattle.nl_frames.specs.declared.frames.Frame.{Frame}
+use Rattle.nl_frames.specs.declared.frames.Frame.TheVariants as frame
+use Rattle.nl_frames.specs.Ground.{Ground, ground_of, patch_in, set_in, fits, all_fit, agent_fits}
 
 -- ---- the same of a world's lists
 
 pub fits_is : (r : Rest) (value : Plain) → fits (ground_of r) value ≡ fits_rest r value
-unfolding fits
+unfolding patch_in set_in
 fits_is r value = refl
 
 pub all_fit_is : (r : Rest) (values : List Plain) → all_fit (ground_of r) values ≡ inputs_fit r values
-unfolding fits
+unfolding patch_in set_in
 all_fit_is r values = refl
 
 pub agent_fits_is : (r : Rest) (agent : Owner) → agent_fits (ground_of r) agent ≡ owner_fits r agent
-unfolding agent_fits
+unfolding patch_in
 agent_fits_is r owner.Observer = refl
 agent_fits_is r (owner.Turtle turtle) = refl
 agent_fits_is r (owner.Patch patch) = refl
 agent_fits_is r (owner.Link link) = refl
 
--- ---- values of some kinds
-
-pub nobody_fits : (g : Ground) → IsTrue (fits g PlainNobody)
-unfolding fits
-nobody_fits g = refl
-
-pub number_fits : (g : Ground) (count : ℤ) → IsTrue (fits g (PlainNumber count))
-unfolding fits
-number_fits g count = refl
-
-pub truth_fits : (g : Ground) (truth : Bool) → IsTrue (fits g (PlainTruth truth))
-unfolding fits
-truth_fits g truth = refl
-
-pub words_fit : (g : Ground) (bytes : Bytes) → IsTrue (fits g (PlainWords bytes))
-unfolding fits
-words_fit g bytes = refl
+-- ---- lists as values
 
 pub items_fit : (g : Ground) (values : List Plain) → IsTrue (all_fit g values) → IsTrue (fits g (PlainItems (plains values)))
-unfolding fits
-items_fit g values all =
-    let patch = λ (n : ℕ). nat_lt n (patches_of g.shape) in
-    values_fit-plains patch (set_fits_by patch (is_turtle_breed g.layout) (is_link_breed g.layout)) values ∙ all
-
-pub observer_fits : (g : Ground) → IsTrue (agent_fits g owner.Observer)
-unfolding agent_fits
-observer_fits g = refl
+items_fit g values all = values_fit-plains (patch_in g) (set_in g) values ∙ all
 
 -- ---- lists of which all pass a test
 
@@ -90,3 +65,29 @@ pub pass_get : {A : Type 0} (test : A → Bool) (xs : List A) (i : ℕ) (x : A) 
 pass_get test [] i x all is = absurd (cc)
 pass_get test (y ∷ xs) zero x all is = let same : y ≡ x = cc in ap test (sym same) ∙ (and_parts (test y) (list_all test xs) all).0
 pass_get test (y ∷ xs) (suc i) x all is = pass_get test xs i x (and_parts (test y) (list_all test xs) all).1 is
+
+-- ---- frames without values
+
+pub plain_fits : (g : Ground) (f : Frame) → HoldsNothing f → FrameFits g f
+plain_fits g (frame.Part node at made) none = absurd none
+plain_fits g (frame.Step node turtle by left rest way) none = absurd none
+plain_fits g (frame.Body node reporter saved site) none = absurd none
+plain_fits g (frame.Inside node) none = tt
+plain_fits g (frame.Negated node) none = tt
+plain_fits g (frame.Statement node at kept) none = tt
+plain_fits g (frame.TextStatement node at stopped) none = tt
+plain_fits g (frame.LetValue node id) none = tt
+plain_fits g (frame.SetValue node variable) none = tt
+plain_fits g (frame.ReportValue node) none = tt
+plain_fits g (frame.AndLeft node) none = tt
+plain_fits g (frame.OrLeft node) none = tt
+plain_fits g (frame.RightSide node) none = tt
+plain_fits g (frame.IfTest node) none = tt
+plain_fits g (frame.EitherTest node) none = tt
+plain_fits g (frame.RepeatCount node) none = tt
+plain_fits g (frame.RepeatTurn node left) none = tt
+plain_fits g (frame.WhileTest node) none = tt
+plain_fits g (frame.WhileTurn node) none = tt
+plain_fits g (frame.LoopTurn node) none = tt
+plain_fits g (frame.Distance node runs back) none = tt
+plain_fits g (frame.Share node runs slot four) none = tt

@@ -32,6 +32,13 @@ FrameFits g (frame.Body node reporter saved site) = LocalsFit g saved × SiteFit
 FrameFits g (frame.Step node turtle by left rest way) = rest < one
 FrameFits g f = ⊤
 
+-- the frame holds neither values nor a walk
+abbrev pub HoldsNothing : Frame → Type 0
+HoldsNothing (frame.Part node at made) = ⊥
+HoldsNothing (frame.Body node reporter saved site) = ⊥
+HoldsNothing (frame.Step node turtle by left rest way) = ⊥
+HoldsNothing f = ⊤
+
 abbrev pub NextFits : Ground → Next → Type 0
 NextFits g (Answer exit) = ExitFits g exit
 NextFits g (Go f node) = FrameFits g f
