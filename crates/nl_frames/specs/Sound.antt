@@ -1,5 +1,6 @@
 -- What a checked program and the layout of its variables owe to the machine: each body is a list of statements, a variable of agents and a word
--- that takes a living agent are none of the observer's, and a word's breed is one of the layout.
+-- that takes a living agent are none of the observer's, and a word's breed is one of the layout, of turtles or of links as the word makes or
+-- names them.
 use Rattle.std.specs.Prelude.{◌≡◌, ℕ, ⊤, not, IsTrue, Option, Some, slice_get}
 use Rattle.nl_words.specs.declared.entry.Kinds.{Kinds}
 use Rattle.nl_tree.specs.Tree as tree
@@ -8,13 +9,16 @@ use Rattle.nl_tree.specs.Checked.{Checked}
 use Rattle.nl_tree.specs.declared.tree.Label.{Label}
 use Rattle.nl_tree.specs.declared.tree.Label.TheVariants as label
 use Rattle.nl_layout.specs.Nouns.{BreedNumber}
+use Rattle.nl_layout.specs.Layouts.{is_turtle_breed, is_link_breed}
 use Rattle.nl_layout.specs.declared.layout.Layout.{Layout}
-use Rattle.nl_agentset.specs.Queries.{word_breed_fits}
+use Rattle.nl_agentset.specs.Queries.{is_breed_or_none, word_breed_fits}
 use Rattle.nl_acts.specs.declared.words.Act.{Act}
 use Rattle.nl_acts.specs.declared.words.Act.TheVariants as act
 use Rattle.nl_code.specs.declared.words.Built.{Built}
 use Rattle.nl_code.specs.declared.words.Built.TheVariants as built
 use Rattle.nl_code.specs.declared.words.Control.TheVariants as control
+use Rattle.nl_code.specs.declared.words.Making.{Making}
+use Rattle.nl_code.specs.declared.words.Making.TheVariants as making
 use Rattle.nl_code.specs.declared.words.Spread.TheVariants as spread
 use Rattle.nl_code.specs.Cases.{Case, case_of}
 use Rattle.nl_code.specs.Cases as case
@@ -24,9 +28,18 @@ abbrev pub ActStands : Layout → Act → Option BreedNumber → Type 0
 ActStands layout (act.Query which) breed = IsTrue (word_breed_fits layout which breed)
 ActStands layout other breed = ⊤
 
+-- what is born is of a breed of turtles, and what is tied is of one of links; of all these words the observer runs `create-turtles` and its
+-- forms alone
+abbrev pub MakingStands : Layout → Kinds → Option BreedNumber → Making → Type 0
+MakingStands layout runs breed (making.Create ordered) = IsTrue (is_breed_or_none (is_turtle_breed layout) breed)
+MakingStands layout runs breed making.Hatch = IsTrue (not runs.observer) × IsTrue (is_breed_or_none (is_turtle_breed layout) breed)
+MakingStands layout runs breed making.Sprout = IsTrue (not runs.observer) × IsTrue (is_breed_or_none (is_turtle_breed layout) breed)
+MakingStands layout runs breed (making.Link way one) = IsTrue (not runs.observer) × IsTrue (is_breed_or_none (is_link_breed layout) breed)
+
 abbrev pub WordStands : Layout → Kinds → Option BreedNumber → Built → Type 0
 WordStands layout runs breed (built.Control control.Die) = IsTrue (not runs.observer)
 WordStands layout runs breed (built.Spread (spread.Climb up four)) = IsTrue (not runs.observer)
+WordStands layout runs breed (built.Making which) = MakingStands layout runs breed which
 WordStands layout runs breed (built.Act which) = ActStands layout which breed
 WordStands layout runs breed word = ⊤
 
