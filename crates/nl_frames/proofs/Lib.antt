@@ -1,3 +1,4 @@
 pub mod Grounds
 pub mod Weights
 pub mod Newest
+pub mod Soundness

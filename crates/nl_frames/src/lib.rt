@@ -5,6 +5,7 @@ pub mod exits;
 pub mod frames;
 pub mod hands;
 pub mod locals;
+pub mod sound;
 
 pub use exits::Exit;
 pub use frames::{Frame, Next};
