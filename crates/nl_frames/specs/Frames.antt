@@ -1,7 +1,6 @@
 -- What frames mean: the rest of a node's case, once the child that runs has ended. The limits on values, which hold for all cases alike, are
 -- not in it.
 use Rattle.std.specs.Prelude.{ℕ, ◌++◌, ◌||◌, Bool, true, false, neg_ℤ, ℤ, List, [], ◌∷◌, drop}
-use Rattle.nl_fixed.specs.declared.span.Span.{Span}
 use Rattle.nl_value.specs.Plain.{Plain, PlainNumber, PlainTruth, PlainItems, plains}
 use Rattle.nl_tree.specs.Tree.{Node, label, span, parts}
 use Rattle.nl_tree.specs.Checked.{Checked}

@@ -4,7 +4,6 @@ use Rattle.nl_agents.specs.declared.store.Store.{Ghosts}
 use Rattle.nl_code.specs.Code.{Code}
 use Rattle.nl_meaning.specs.State.{State, Outcome, Eval}
 use Rattle.nl_meaning.specs.Laws.{Thrifty}
-use Rattle.nl_frames.specs.Ground.{Ground}
 use Rattle.nl_frames.specs.Seen.{state_of, ended, ground}
 use Rattle.nl_frames.specs.Frames.{going}
 use Rattle.nl_frames.specs.Standing.{HandsFit}

@@ -6,6 +6,8 @@ pub mod frames;
 pub mod hands;
 pub mod locals;
 pub mod sound;
+#[cfg(test)]
+mod tests;
 
 pub use exits::Exit;
 pub use frames::{Frame, Next};

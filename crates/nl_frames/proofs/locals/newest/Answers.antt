@@ -1,6 +1,6 @@
 -- The place before is that of a local of the name, or none of it is behind.
-use Rattle.std.proofs.Common.{◌≡◌, ◌==◌, ◌-◌, ◌<◌, ◌≤◌, ℕ, Bool, true, false, List, take, length, get_or, Some, cond, sym, ap, ◌∙◌, refl, arith}
-use Rattle.std.proofs.lemmas.Bool.{eqb-true, eq-eqb}
+use Rattle.std.proofs.Common.{◌==◌, ◌-◌, take, Some, cond, sym, ap, ◌∙◌, arith}
+use Rattle.std.proofs.lemmas.Bool.{eq-eqb}
 use Rattle.nl_meaning.specs.Variables.{last_index}
 use Rattle.nl_frames.specs.declared.locals.Local.{Local}
 use Rattle.nl_frames.proofs.Newest.{newest_more, not_same}

@@ -1,5 +1,5 @@
 -- The number of a local is that of the local as it is kept.
-use Rattle.std.proofs.Common.{◌≡◌, ◌==◌, List, map, ap, ◌∙◌}
+use Rattle.std.proofs.Common.{◌==◌, ap, ◌∙◌}
 use Rattle.nl_meaning.specs.Variables.{last_index}
 use Rattle.nl_frames.specs.Kept.{Kept}
 use Rattle.nl_frames.specs.declared.locals.Local.{Local}
