@@ -60,7 +60,8 @@ use Rattle.nl_query.specs.declared.words.Side.{Side}
 use Rattle.nl_agentset.specs.Links.{own_links, own_neighbors, neighbor_tested, link_told, link_found, of_link_found, ends_told}
 use Rattle.nl_agentset.specs.Places.{bred_on, patches_of_value, patch_found, patch_beside, patch_ahead, offsets_in, patches_at, members_on, near_caller, in_cone_of_caller, standing_by, patches_around, turned_by, turned_ahead, patch_reached, faced, measured, measured_to_xy}
 use Rattle.nl_agentset.specs.Queries.{told, word_breed_fits}
-use Rattle.nl_agentset.specs.Sets.{whole_set, whole_or_wrong, turtle_named, bred_or_wrong, turtle_called, link_called, looked_up, of_agents, all_united, union_of}
+use Rattle.nl_agentset.specs.Sets.{whole_set, whole_or_wrong, turtle_named, bred_or_wrong, turtle_called, link_called, looked_up, of_agents}
+use Rattle.nl_union.specs.Unions.{all_united, union_of}
 use Rattle.nl_choice.proofs.Inside.{patch_members}
 
 -- ---- outcomes of one step after another

@@ -30,7 +30,8 @@ use Rattle.nl_query.specs.declared.words.Side.TheVariants as side
 use Rattle.nl_agentset.specs.Laws.{AnswersFit, OthersAreAllButTheCaller, UnionsAscend, UndirectedLeadBothWays}
 use Rattle.nl_agentset.specs.Links.{is_link_to, other_end_of}
 use Rattle.nl_agentset.specs.Queries.{told, query_answer, word_breed_fits}
-use Rattle.nl_agentset.specs.Sets.{is_caller, all_of, all_united}
+use Rattle.nl_agentset.specs.Sets.{is_caller}
+use Rattle.nl_union.specs.Unions.{all_of, all_united}
 use Rattle.nl_agentset.proofs.Answering.{given_so}
 use Rattle.nl_agentset.proofs.Fits.{told_fits}
 

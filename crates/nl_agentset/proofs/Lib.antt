@@ -10,6 +10,4 @@ pub mod Linked
 pub mod Neighboring
 pub mod Offsets
 pub mod OnPatches
-pub mod United
-pub mod Uniting
 pub mod Walking

@@ -23,7 +23,8 @@ use Rattle.nl_query.specs.declared.words.Side.{Side}
 use Rattle.nl_query.specs.declared.words.Side.TheVariants as side
 use Rattle.nl_agentset.specs.Links.{is_neighbor}
 use Rattle.nl_agentset.specs.Queries.{query_answer, word_breed_fits}
-use Rattle.nl_agentset.specs.Sets.{is_caller, others, union_of}
+use Rattle.nl_agentset.specs.Sets.{is_caller, others}
+use Rattle.nl_union.specs.Unions.{union_of}
 
 -- what a query answers fits the world, where its inputs do
 abbrev pub AnswersFit : Type 0

@@ -16,7 +16,8 @@ use Rattle.nl_choice.specs.Choices.{chosen_by}
 use Rattle.nl_agentset.specs.Links.{own_links, own_neighbors, neighbor_tested, link_found, ends_told}
 use Rattle.nl_query.specs.Outcomes.{Outcome, outcome_map}
 use Rattle.nl_agentset.specs.Places.{standing_by, patches_around, one_patch, faced, measured_to, measured_to_xy}
-use Rattle.nl_agentset.specs.Sets.{whole_set, looked_up, breed_tested, set_told, union_of}
+use Rattle.nl_agentset.specs.Sets.{whole_set, looked_up, breed_tested, set_told}
+use Rattle.nl_union.specs.Unions.{union_of}
 use Rattle.nl_query.specs.Words.{query_word}
 
 -- what a query answers that draws nothing

@@ -14,9 +14,8 @@ pub mod patches;
 pub mod queries;
 pub mod sets;
 pub mod standing;
-pub mod unions;
 
 pub use nl_members::{Walk, in_cone, in_radius, living, one_of, snapshot};
 pub use nl_query::{QueryFail, QueryWord, query_word};
+pub use nl_union::union_of;
 pub use queries::{answer, query};
-pub use unions::union_of;

@@ -6,8 +6,8 @@ use Rattle.nl_value.specs.inner.Weights.{weight, weights}
 use Rattle.nl_agents.specs.Standing.{fits_rest}
 use Rattle.nl_query.specs.Inputs.{inputs_fit}
 use Rattle.nl_query.proofs.Fitting.{list_fits_as_items, item_fits, item_weighs}
-use Rattle.nl_agentset.proofs.Uniting.{goes_on, fails_here}
-use Rattle.nl_agentset.proofs.unions.+gather.Goals as goal
+use Rattle.nl_union.proofs.Uniting.{goes_on, fails_here}
+use Rattle.nl_union.proofs.unions.+gather.Goals as goal
 
 pub gather-gather_all-requires : goal.gather-gather_all-requires
 gather-gather_all-requires g t c κs within =

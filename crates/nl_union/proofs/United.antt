@@ -26,9 +26,9 @@ use Rattle.nl_agents.proofs.LivingMembers.{found_passing, members_ascend}
 use Rattle.nl_query.specs.Outcomes.{Outcome, and_then}
 use Rattle.nl_query.specs.declared.fail.QueryFail.TheVariants.{WrongType}
 use Rattle.nl_query.specs.Agents.{turtle_passes, link_passes, listed_value}
-use Rattle.nl_agentset.specs.Sets.{one_united, united, all_united, all_of, union_of}
+use Rattle.nl_union.specs.Unions.{one_united, united, all_united, all_of, union_of}
 use Rattle.nl_query.specs.Orders.{SameNumbers}
-use Rattle.nl_agentset.proofs.Uniting.{behind}
+use Rattle.nl_union.proofs.Uniting.{behind}
 
 -- ---- agents of one kind, by their serials
 

@@ -3,8 +3,8 @@ use Rattle.std.proofs.Common.{◌≡◌, ◌+◌, map}
 use Rattle.nl_value.specs.Plain.{plains}
 use Rattle.nl_value.specs.inner.Weights.{weight, weights}
 use Rattle.nl_value.specs.Views.{plain}
-use Rattle.nl_agentset.proofs.Uniting.{behind, rest_of}
-use Rattle.nl_agentset.proofs.unions.+gather.Given as goal
+use Rattle.nl_union.proofs.Uniting.{behind, rest_of}
+use Rattle.nl_union.proofs.unions.+gather.Given as goal
 
 abbrev pub decreases-gather : goal.decreases-gather
 decreases-gather g l = weight (plain l.value.now)

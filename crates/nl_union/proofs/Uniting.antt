@@ -9,7 +9,7 @@ use Rattle.nl_value.specs.declared.sets.AgentKind.{AgentKind}
 use Rattle.nl_agents.specs.World.{Rest}
 use Rattle.nl_query.specs.declared.fail.QueryFail.{QueryFail}
 use Rattle.nl_query.specs.Outcomes.{Outcome, and_then, outcome_map}
-use Rattle.nl_agentset.specs.Sets.{united, all_united}
+use Rattle.nl_union.specs.Unions.{united, all_united}
 
 -- numbers, and behind them those of an outcome
 abbrev pub behind : List ℕ → Outcome (List ℕ) → Outcome (List ℕ)

@@ -3,8 +3,8 @@ use Rattle.nl_value.specs.Plain.{PlainSet, plains}
 use Rattle.nl_value.specs.Views.{plain}
 use Rattle.std.specs.Prelude.{Ok}
 use Rattle.nl_query.proofs.Fitting.{list_fits_as_items}
-use Rattle.nl_agentset.proofs.United.{union_is}
-use Rattle.nl_agentset.proofs.unions.union_of.Goals as goal
+use Rattle.nl_union.proofs.United.{union_is}
+use Rattle.nl_union.proofs.unions.union_of.Goals as goal
 
 pub returns : goal.returns
 returns g c =

@@ -6,7 +6,7 @@ ghost use Rattle.nl_agents.specs.Names.{set_fits};
 ghost use Rattle.nl_agents.specs.Standing.{fits_rest};
 ghost use Rattle.nl_query.specs.Inputs.{inputs_fit};
 ghost use Rattle.nl_query.specs.Outcomes.{Gives, outcome_map};
-ghost use Rattle.nl_agentset.specs.Sets.{one_united, united, all_united, union_of};
+ghost use Rattle.nl_union.specs.Unions.{one_united, united, all_united, union_of};
 
 use nl_agents::{Steps, Store};
 use nl_members::living;
