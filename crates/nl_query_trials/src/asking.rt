@@ -6,11 +6,12 @@ use crate::giving::{Given, values_of};
 use nl_agents::{Layout, Owner, Steps, Store, View};
 use nl_agentset::{QueryFail, QueryWord, query, query_word};
 use nl_draw::Stream;
+use nl_grid::Shape;
 use nl_plain::Plain;
 use nl_query::words::Whole;
 use nl_trials::Tried;
 use nl_trials::trial_model::{FOXES, ROPES, WIRES, program};
-use nl_trials::trials::{Scene, Step, Wanted, played};
+use nl_trials::trials::{Scene, Step, Wanted, proceed};
 use nl_value::{AgentSet, Items, Value};
 use std::alloc::Global;
 use std::marker::Brand;
@@ -18,7 +19,7 @@ use std::process::Abort;
 use std::sync::ledger::{Blank, Ledger};
 
 // Turtle 0 has the serial 2, is of no breed, faces east and stands at 2 0. Turtles 1 and 3 are foxes at -2 0 and at 0.4 -1.2, turtle 2 has
-// died. In x the world goes on behind its sides. Places are in tenths here.
+// died, and turtle 4 with link 4. In x the world goes on behind its sides. Places are in tenths here.
 const WORLD: &[Scene] = &[(
     &[
         Step::Bear(0, (0, 0), None, 0),
@@ -34,6 +35,9 @@ const WORLD: &[Scene] = &[(
         Step::Tie(WIRES, true, 2, 5, 1),
         Step::Tie(ROPES, false, 2, 3, 2),
         Step::Tie(0, false, 2, 3, 3),
+        Step::Bear(0, (0, 0), None, 6),
+        Step::Tie(0, false, 3, 6, 4),
+        Step::Kill(6),
     ],
     &[],
 )];
@@ -170,19 +174,27 @@ pub(crate) fn tells<S: Store>(alloc: Global, tried: &Tried<S>, caller: Owner, ro
     told
 }
 
-/// A store of the small world.
-pub(crate) fn started<S: Store>(rt: &impl Abort, alloc: Global) -> Tried<S> {
-    let Some(model) = program(alloc) else {
+/// A store of a shape on which scenes were played.
+pub(crate) fn started<S: Store>(
+    rt: &impl Abort,
+    alloc: Global,
+    shape: Option<Shape>,
+    scenes: &[Scene],
+) -> Tried<S> {
+    let (Some(model), Some(shape)) = (program(alloc), shape) else {
         panic!(rt);
     };
-    match played(alloc, model, WORLD) {
-        Ok(tried) => tried,
-        Err(wrong) => panic!(rt; "{wrong:?}"),
-    }
+    let Some(mut tried) = Tried::<S>::of(alloc, model, shape) else {
+        panic!(rt);
+    };
+    let wrong = proceed(alloc, &mut tried, scenes);
+    assert!(rt; wrong.is_none(), "{wrong:?}");
+    tried
 }
 
 fn assert_over<S: Store>(rt: &impl Abort, alloc: Global, caller: Owner, rows: &[Row]) {
-    let tried = started::<S>(rt, alloc);
+    let shape = Shape::new(-2, 2, -2, 2, true, false);
+    let tried = started::<S>(rt, alloc, shape, WORLD);
     for row in rows {
         assert!(rt; tells(alloc, &tried, caller, *row), "{row:?}");
     }

@@ -2,7 +2,6 @@
 
 use crate::asking::{CALLER, ONE, Row, Told, assert_rows};
 use crate::giving::Given;
-use nl_agents::Owner;
 use nl_query::fail::QueryFail::WrongType;
 use nl_trials::naming::Named;
 use nl_trials::trial_model::{FOXES, OWLS, ROPES, WIRES};
@@ -322,21 +321,4 @@ const UNIONS: &[Row] = &[
 #[test]
 fn a_union_has_each_member_once(rt: HostRuntime) {
     assert_rows(&rt, rt.alloc(), CALLER, UNIONS);
-}
-
-// A dead agent runs as the observer, which stands at the origin.
-const OF_THE_DEAD: &[Row] = &[
-    (codes::OTHER, None, &[ALL], Told::Turtles(&[2, 3, 5])),
-    (
-        codes::AT_POINTS,
-        None,
-        &[ALL, Given::Offsets(&[(2_000_000, 0)])],
-        Told::Turtles(&[2]),
-    ),
-    (codes::MY_LINKS, None, &[], Told::Fail(WrongType)),
-];
-
-#[test]
-fn a_dead_caller_runs_as_the_observer(rt: HostRuntime) {
-    assert_rows(&rt, rt.alloc(), Owner::Observer, OF_THE_DEAD);
 }
