@@ -1,0 +1,52 @@
+//! Children of a node that come next.
+ghost use Rattle.std.specs.Prelude.{◌≡◌, ◌+◌, ◌-◌, ◌≤◌, ℕ, drop};
+ghost use Rattle.nl_tree.specs.Tree.{span, parts};
+ghost use Rattle.nl_code.specs.Code.{node_at};
+ghost use Rattle.nl_meaning.specs.State.{with_part, spend};
+ghost use Rattle.nl_frames.specs.Frames.{resumed};
+ghost use Rattle.nl_frames.specs.Means.{Means};
+ghost use Rattle.nl_frames.specs.Seen.{ground};
+ghost use Rattle.nl_frames.specs.Standing.{HoldsNothing, NextFits};
+ghost use Rattle.nl_frames.specs.Weight.{weights};
+ghost use Rattle.nl_frames.specs.Work.{frame_work, next_work};
+
+use crate::ends::fault;
+use nl_acts::ErrorKind;
+use nl_agents::Store;
+use nl_code::Code;
+use nl_frames::{Frame, Hands, Next};
+
+/// The part of a node at an index comes next, and then the frame.
+#[inline]
+#[tactic(auto, using(nl_frames::proofs::Grounds::plain_fits))]
+pub fn go<S: Store>(code: &Code, hands: &Hands<S>, node: u32, at: u32, frame: Frame) -> Next
+    requires { HoldsNothing frame }
+    ensures meaning { let t = node_at code.now node in
+        Means code.now result hands.now hands.now
+        (λ prev s. with_part t at (span t) s (λ part. resumed code.now prev frame (prev part s))) }
+    ensures falls { let ts = parts (node_at code.now node) in
+        next_work code.now result ≤ frame_work code.now frame + weights (drop at ts) - (1 + weights (drop (at + 1) ts)) }
+    ensures fits { NextFits (ground hands.now) result }
+{
+    match code.part(node, at) {
+        Some(child) => Next::Go(frame, child),
+        None => Next::Answer(fault(ErrorKind::WrongType, code.span(node), hands.site)),
+    }
+}
+
+/// The part of a node at an index comes once a unit is spent, and then the frame.
+#[inline]
+#[tactic(auto, using(nl_frames::proofs::Grounds::plain_fits))]
+pub fn want<S: Store>(code: &Code, hands: &Hands<S>, node: u32, at: u32, frame: Frame) -> Next
+    requires { HoldsNothing frame }
+    ensures meaning { let t = node_at code.now node in
+        Means code.now result hands.now hands.now
+        (λ prev s. with_part t at (span t) s (λ part. spend s (λ s1. resumed code.now prev frame (prev part s1)))) }
+    ensures falls { next_work code.now result ≡ 0 }
+    ensures fits { NextFits (ground hands.now) result }
+{
+    match code.part(node, at) {
+        Some(child) => Next::Want(frame, child),
+        None => Next::Answer(fault(ErrorKind::WrongType, code.span(node), hands.site)),
+    }
+}
