@@ -12,7 +12,7 @@ ghost use Rattle.nl_frames.specs.Seen.{ground};
 ghost use Rattle.nl_frames.specs.Sound.{ActStands};
 ghost use Rattle.nl_frames.specs.Standing.{ExitFits, HandsFit};
 
-use crate::ends::{fault, left};
+use nl_frames::ends::{fault, left};
 use crate::performing::perform;
 use nl_acts::{Act, ActFail};
 use nl_agents::{Steps, Store};

@@ -18,8 +18,8 @@ ghost use Rattle.nl_frames.specs.Weight.{weights};
 ghost use Rattle.nl_frames.specs.Work.{frame_work, next_work};
 ghost use Rattle.nl_frames.specs.declared.frames.Frame.TheVariants as frame;
 
-use crate::children::go;
-use crate::ends::fault;
+use nl_frames::children::go;
+use nl_frames::ends::fault;
 use nl_acts::ErrorKind;
 use nl_agents::Store;
 use nl_code::Code;

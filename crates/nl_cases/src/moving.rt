@@ -21,8 +21,8 @@ ghost use Rattle.nl_frames.specs.Work.{frame_work, next_work};
 ghost use Rattle.nl_frames.specs.declared.exits.Exit.TheVariants.{Error};
 ghost use Rattle.nl_frames.specs.declared.frames.Frame.TheVariants as frame;
 
-use crate::children::go;
-use crate::ends::{fault, left, number_of};
+use nl_frames::children::go;
+use nl_frames::ends::{fault, left, number_of};
 use nl_acts::ErrorKind;
 use nl_agents::{Owner, Store};
 use nl_code::{Code, Op};

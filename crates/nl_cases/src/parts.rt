@@ -18,7 +18,7 @@ ghost use Rattle.nl_frames.specs.declared.frames.Frame.TheVariants as frame;
 
 use crate::acting::finish_act;
 use crate::calls::call;
-use crate::ends::fault;
+use nl_frames::ends::fault;
 use nl_acts::ErrorKind;
 use nl_agents::Store;
 use nl_code::{Built, Code, Op};

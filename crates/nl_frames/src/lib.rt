@@ -1,6 +1,8 @@
 //! What a machine holds while a text runs: the frames of the nodes that are under way, the locals, and who runs.
 #![tactic(auto)]
 
+pub mod children;
+pub mod ends;
 pub mod exits;
 pub mod frames;
 pub mod hands;

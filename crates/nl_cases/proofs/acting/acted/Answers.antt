@@ -5,7 +5,7 @@ use Rattle.nl_value.specs.Views.{plain}
 use Rattle.nl_acts.specs.Stage.{scene, stage_of}
 use Rattle.nl_meaning.proofs.Ground.{performed_ground}
 use Rattle.nl_frames.proofs.Grounds.{all_fit_is, agent_fits_is, fits_is}
-use Rattle.nl_cases.proofs.Standing.{ground_same, stands_on}
+use Rattle.nl_frames.proofs.Standing.{ground_same, stands_on}
 use Rattle.nl_cases.proofs.acting.acted.Goals as goal
 
 pub perform-requires-clause-inputs : goal.perform-requires-clause-inputs

@@ -8,7 +8,7 @@ use Rattle.nl_frames.specs.Seen.{ground, state_of}
 use Rattle.nl_frames.specs.Standing.{LocalsFit}
 use Rattle.nl_frames.proofs.Newest.{held_take}
 use Rattle.nl_frames.proofs.Grounds.{pass_take}
-use Rattle.nl_cases.proofs.Standing.{stands_on}
+use Rattle.nl_frames.proofs.Standing.{stands_on}
 use Rattle.nl_cases.proofs.blocks.cut.Goals as goal
 
 pub returns-clause-state : goal.returns-clause-state

@@ -3,8 +3,8 @@ use Rattle.std.proofs.Common.{ap, ◌∙◌, sym}
 use Rattle.std.specs.Option.{option_and_then}
 use Rattle.nl_value.specs.Views.{plain}
 use Rattle.nl_frames.specs.Seen.{ground}
-use Rattle.nl_cases.proofs.LocalValues.{value_at, local_value_is, local_fits}
-use Rattle.nl_cases.proofs.variables.local.Goals as goal
+use Rattle.nl_variables.proofs.LocalValues.{value_at, local_value_is, local_fits}
+use Rattle.nl_variables.proofs.variables.local.Goals as goal
 
 pub returns-in-Some-value-clause-value : goal.returns-in-Some-value-clause-value
 returns-in-Some-value-clause-value g c =

@@ -5,8 +5,8 @@ use Rattle.nl_layout.specs.declared.rule.Rule.{Rule}
 use Rattle.nl_meaning.specs.Variables.{kept_as}
 use Rattle.nl_frames.specs.Seen.{ground}
 use Rattle.nl_frames.proofs.Grounds.{fits_is}
-use Rattle.nl_cases.proofs.Assigning.{kept_may_stand}
-use Rattle.nl_cases.proofs.setting.set_owned.Goals as goal
+use Rattle.nl_variables.proofs.Assigning.{kept_may_stand}
+use Rattle.nl_variables.proofs.setting.set_owned.Goals as goal
 
 pub set_var-requires-clause-holds : goal.set_var-requires-clause-holds
 set_var-requires-clause-holds g c =

@@ -11,9 +11,9 @@ use Rattle.nl_frames.specs.Standing.{LocalsFit}
 use Rattle.nl_frames.specs.declared.exits.Exit.{Exit}
 use Rattle.nl_frames.proofs.Grounds.{pass_set}
 use Rattle.nl_frames.proofs.Newest.{newest_is, held_set}
-use Rattle.nl_cases.proofs.LocalValues.{index_within}
-use Rattle.nl_cases.proofs.Standing.{stands_on}
-use Rattle.nl_cases.proofs.setting.set_local.Goals as goal
+use Rattle.nl_variables.proofs.LocalValues.{index_within}
+use Rattle.nl_frames.proofs.Standing.{stands_on}
+use Rattle.nl_variables.proofs.setting.set_local.Goals as goal
 
 pub replace-requires : goal.replace-requires
 replace-requires g c = index_within _ c.args.hands.now.locals c.in-Some.at (sym c.find.ensures ∙ c.in-Some.is)

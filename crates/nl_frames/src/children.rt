@@ -14,11 +14,12 @@ use crate::ends::fault;
 use nl_acts::ErrorKind;
 use nl_agents::Store;
 use nl_code::Code;
-use nl_frames::{Frame, Hands, Next};
+use crate::frames::{Frame, Next};
+use crate::hands::Hands;
 
 /// The part of a node at an index comes next, and then the frame.
 #[inline]
-#[tactic(auto, using(nl_frames::proofs::Grounds::plain_fits))]
+#[tactic(auto, using(crate::proofs::Grounds::plain_fits))]
 pub fn go<S: Store>(code: &Code, hands: &Hands<S>, node: u32, at: u32, frame: Frame) -> Next
     requires { HoldsNothing frame }
     ensures meaning { let t = node_at code.now node in
@@ -36,7 +37,7 @@ pub fn go<S: Store>(code: &Code, hands: &Hands<S>, node: u32, at: u32, frame: Fr
 
 /// The part of a node at an index comes once a unit is spent, and then the frame.
 #[inline]
-#[tactic(auto, using(nl_frames::proofs::Grounds::plain_fits))]
+#[tactic(auto, using(crate::proofs::Grounds::plain_fits))]
 pub fn want<S: Store>(code: &Code, hands: &Hands<S>, node: u32, at: u32, frame: Frame) -> Next
     requires { HoldsNothing frame }
     ensures meaning { let t = node_at code.now node in

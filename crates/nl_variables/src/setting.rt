@@ -24,8 +24,8 @@ ghost use Rattle.nl_frames.specs.Weight.{weights};
 ghost use Rattle.nl_frames.specs.Work.{frame_work, next_work};
 ghost use Rattle.nl_frames.specs.declared.frames.Frame.TheVariants as frame;
 
-use crate::children::go;
-use crate::ends::{barred, fault, number_of};
+use nl_frames::children::go;
+use nl_frames::ends::{barred, fault, number_of};
 use crate::variables::{global, owner_of};
 use nl_acts::ErrorKind;
 use nl_agents::{Owner, Store};

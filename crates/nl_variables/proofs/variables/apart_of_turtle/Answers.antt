@@ -7,8 +7,8 @@ use Rattle.nl_agents.proofs.LivingMembers.{turtle_given}
 use Rattle.nl_code.specs.declared.words.Apart.{Apart}
 use Rattle.nl_code.specs.declared.words.Apart.TheVariants as apart
 use Rattle.nl_meaning.specs.Variables.{of_patch, of_turtle}
-use Rattle.nl_cases.proofs.Aside.{on_patch}
-use Rattle.nl_cases.proofs.variables.apart_of_turtle.Goals as goal
+use Rattle.nl_variables.proofs.Aside.{on_patch}
+use Rattle.nl_variables.proofs.variables.apart_of_turtle.Goals as goal
 
 pub overflow_sub-turtle : goal.overflow_sub-turtle
 overflow_sub-turtle g c =

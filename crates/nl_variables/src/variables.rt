@@ -14,7 +14,7 @@ ghost use Rattle.nl_frames.specs.Means.{EndsAs};
 ghost use Rattle.nl_frames.specs.Seen.{ground};
 ghost use Rattle.nl_frames.specs.Standing.{ExitFits, HandsFit};
 
-use crate::ends::{barred, fault};
+use nl_frames::ends::{barred, fault};
 use nl_acts::ErrorKind;
 use nl_agents::{Owner, Store};
 use nl_code::{Apart, Code};

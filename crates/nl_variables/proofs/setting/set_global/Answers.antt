@@ -8,8 +8,8 @@ use Rattle.nl_acts.specs.declared.fail.ErrorKind.TheVariants.{WrongType}
 use Rattle.nl_meaning.specs.State.{State, found, goes_on, with_world}
 use Rattle.nl_frames.specs.Seen.{state_of}
 use Rattle.nl_frames.proofs.Grounds.{fits_is}
-use Rattle.nl_cases.proofs.Assigning.{global_may_hold, global_revalued}
-use Rattle.nl_cases.proofs.setting.set_global.Goals as goal
+use Rattle.nl_variables.proofs.Assigning.{global_may_hold, global_revalued}
+use Rattle.nl_variables.proofs.setting.set_global.Goals as goal
 
 pub set_var-requires-clause-holds : goal.set_var-requires-clause-holds
 set_var-requires-clause-holds g c =

@@ -1,0 +1,3 @@
+pub mod LocalValues
+pub mod Assigning
+pub mod Aside

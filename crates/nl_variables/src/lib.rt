@@ -1,0 +1,5 @@
+//! Variables that texts read and set: locals, global variables, and those of agents.
+#![tactic(auto)]
+
+pub mod setting;
+pub mod variables;
