@@ -1,0 +1,4 @@
+pub mod Laws
+pub mod Sweep
+pub mod Varied
+pub mod inner

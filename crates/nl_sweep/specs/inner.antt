@@ -1,0 +1,3 @@
+-- What the proofs and the toolchain need and no caller reads: codes of settings, and what private functions work with.
+pub mod Bounds
+pub mod Codes
