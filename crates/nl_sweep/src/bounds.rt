@@ -139,7 +139,8 @@ fn each_max_x(
     requires first { IfSome (held max_x) IsFew }
     requires second { IfSome (held min_y) IsFew }
     requires third { IfSome (held max_y) IsFew }
-    ensures { IsTrue result ↔ EachMaxX world (held max_x.entry) (held min_y.entry) (held max_y.entry) }
+    ensures { IsTrue result
+        ↔ EachMaxX world (held max_x.entry) (held min_y.entry) (held max_y.entry) }
 {
     'values: for index in 0..count(max_x) {
         let one = with_max_x(world, max_x, index);
@@ -162,7 +163,8 @@ fn each_min_x(
     requires third { IfSome (held min_y) IsFew }
     requires fourth { IfSome (held max_y) IsFew }
     ensures { IsTrue result
-        ↔ EachMinX world (held min_x.entry) (held max_x.entry) (held min_y.entry) (held max_y.entry) }
+        ↔ EachMinX world (held min_x.entry) (held max_x.entry) (held min_y.entry)
+        (held max_y.entry) }
 {
     'values: for index in 0..count(min_x) {
         let one = with_min_x(world, min_x, index);
