@@ -12,12 +12,12 @@ ghost use Rattle.nl_frames.specs.Seen.{ground};
 ghost use Rattle.nl_frames.specs.Sound.{ActStands};
 ghost use Rattle.nl_frames.specs.Standing.{ExitFits, HandsFit};
 
-use nl_frames::ends::{fault, left};
 use crate::performing::perform;
 use nl_acts::{Act, ActFail};
 use nl_agents::{Steps, Store};
 use nl_code::Code;
 use nl_fixed::NoMemory;
+use nl_frames::ends::{fault, left};
 use nl_frames::{Exit, Hands};
 use nl_value::Items;
 use nl_words::Kinds;

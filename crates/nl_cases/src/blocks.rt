@@ -15,11 +15,11 @@ ghost use Rattle.nl_frames.specs.Weight.{weights};
 ghost use Rattle.nl_frames.specs.Work.{frame_work, next_work};
 ghost use Rattle.nl_frames.specs.declared.frames.Frame.TheVariants as frame;
 
-use nl_frames::children::go;
-use nl_frames::ends::{fault, is_dead, number_of};
 use nl_acts::ErrorKind;
 use nl_agents::Store;
 use nl_code::Code;
+use nl_frames::children::go;
+use nl_frames::ends::{fault, is_dead, number_of};
 use nl_frames::{Exit, Frame, Hands, Next};
 use nl_value::Value;
 

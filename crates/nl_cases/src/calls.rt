@@ -18,12 +18,12 @@ ghost use Rattle.nl_frames.specs.Weight.{weights};
 ghost use Rattle.nl_frames.specs.Work.{frame_work, next_work};
 ghost use Rattle.nl_frames.specs.declared.frames.Frame.TheVariants as frame;
 
-use nl_frames::children::go;
-use nl_frames::ends::fault;
 use nl_acts::ErrorKind;
 use nl_agents::Store;
 use nl_code::Code;
 use nl_fixed::{NoMemory, Span};
+use nl_frames::children::go;
+use nl_frames::ends::fault;
 use nl_frames::{Exit, Frame, Hands, Local, Locals, Next};
 use nl_meaning::Site;
 use nl_tree::Procedure;

@@ -21,12 +21,12 @@ ghost use Rattle.nl_frames.specs.Work.{frame_work, next_work};
 ghost use Rattle.nl_frames.specs.declared.exits.Exit.TheVariants.{Error};
 ghost use Rattle.nl_frames.specs.declared.frames.Frame.TheVariants as frame;
 
-use nl_frames::children::go;
-use nl_frames::ends::{fault, left, number_of};
 use nl_acts::ErrorKind;
 use nl_agents::{Owner, Store};
 use nl_code::{Code, Op};
 use nl_fixed::{NoMemory, Num, Span};
+use nl_frames::children::go;
+use nl_frames::ends::{fault, left, number_of};
 use nl_frames::{Exit, Frame, Hands, Next};
 use nl_meaning::Site;
 use nl_motion::{MoveFault, climb, diffuse, step};

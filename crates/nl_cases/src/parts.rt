@@ -18,11 +18,11 @@ ghost use Rattle.nl_frames.specs.declared.frames.Frame.TheVariants as frame;
 
 use crate::acting::finish_act;
 use crate::calls::call;
-use nl_frames::ends::fault;
 use nl_acts::ErrorKind;
 use nl_agents::Store;
 use nl_code::{Built, Code, Op};
 use nl_fixed::NoMemory;
+use nl_frames::ends::fault;
 use nl_frames::{Exit, Frame, Hands, Next};
 use nl_value::{Items, Value};
 use std::alloc::Global;

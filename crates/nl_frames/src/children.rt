@@ -11,11 +11,11 @@ ghost use Rattle.nl_frames.specs.Weight.{weights};
 ghost use Rattle.nl_frames.specs.Work.{frame_work, next_work};
 
 use crate::ends::fault;
+use crate::frames::{Frame, Next};
+use crate::hands::Hands;
 use nl_acts::ErrorKind;
 use nl_agents::Store;
 use nl_code::Code;
-use crate::frames::{Frame, Next};
-use crate::hands::Hands;
 
 /// The part of a node at an index comes next, and then the frame.
 #[inline]

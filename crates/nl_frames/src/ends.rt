@@ -15,11 +15,11 @@ ghost use Rattle.nl_frames.specs.Means.{unless_ended};
 ghost use Rattle.nl_frames.specs.declared.exits.Exit.TheVariants.{Error};
 ghost use Rattle.nl_code.specs.Code.{Code as Nodes};
 
+use crate::exits::Exit;
+use crate::hands::Hands;
 use nl_acts::ErrorKind;
 use nl_agents::{Owner, Store};
 use nl_fixed::{Num, Span};
-use crate::exits::Exit;
-use crate::hands::Hands;
 use nl_meaning::Site;
 use nl_value::Value;
 use nl_words::Kinds;

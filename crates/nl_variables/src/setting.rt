@@ -24,13 +24,13 @@ ghost use Rattle.nl_frames.specs.Weight.{weights};
 ghost use Rattle.nl_frames.specs.Work.{frame_work, next_work};
 ghost use Rattle.nl_frames.specs.declared.frames.Frame.TheVariants as frame;
 
-use nl_frames::children::go;
-use nl_frames::ends::{barred, fault, number_of};
 use crate::variables::{global, owner_of};
 use nl_acts::ErrorKind;
 use nl_agents::{Owner, Store};
 use nl_code::{Apart, Code, Op};
 use nl_fixed::{NoMemory, Num, Span};
+use nl_frames::children::go;
+use nl_frames::ends::{barred, fault, number_of};
 use nl_frames::{Exit, Frame, Hands, Local, Next};
 use nl_layout::{Rule, rule_of};
 use nl_motion::place as place_turtle;

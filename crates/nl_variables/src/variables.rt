@@ -14,11 +14,11 @@ ghost use Rattle.nl_frames.specs.Means.{EndsAs};
 ghost use Rattle.nl_frames.specs.Seen.{ground};
 ghost use Rattle.nl_frames.specs.Standing.{ExitFits, HandsFit};
 
-use nl_frames::ends::{barred, fault};
 use nl_acts::ErrorKind;
 use nl_agents::{Owner, Store};
 use nl_code::{Apart, Code};
 use nl_fixed::{NoMemory, Num, Span};
+use nl_frames::ends::{barred, fault};
 use nl_frames::{Exit, Hands};
 use nl_grid::Shape;
 use nl_query::agents::own_patch;
