@@ -1,7 +1,12 @@
 -- What frames mean: the rest of a node's case, once the child that runs has ended. The limits on values, which hold for all cases alike, are
 -- not in it.
-use Rattle.std.specs.Prelude.{ℕ, ◌++◌, ◌||◌, Bool, true, false, neg_ℤ, ℤ, List, [], ◌∷◌, drop}
+use Rattle.std.specs.Prelude.{ℕ, ◌++◌, ◌||◌, Bool, true, false, neg_ℤ, ℤ, List, [], ◌∷◌, drop, map, slice_get}
+use Rattle.nl_fixed.specs.declared.span.Span.{Span}
 use Rattle.nl_value.specs.Plain.{Plain, PlainNumber, PlainTruth, PlainItems, plains}
+use Rattle.nl_value.specs.Sets.{set_kind}
+use Rattle.nl_value.specs.Views.{plain}
+use Rattle.nl_value.specs.declared.sets.AgentKind.{AgentKind}
+use Rattle.nl_value.specs.declared.sets.AgentSet.{AgentSet}
 use Rattle.nl_tree.specs.Tree.{Node, label, span, parts}
 use Rattle.nl_tree.specs.Checked.{Checked}
 use Rattle.nl_birth.specs.Births.{count_of}
@@ -10,19 +15,26 @@ use Rattle.nl_motion.specs.Diffusion.{diffused, diffuse_fault}
 use Rattle.nl_acts.specs.declared.fail.ErrorKind.TheVariants.{WrongType}
 use Rattle.nl_acts.specs.Stage.{bare, changed}
 use Rattle.nl_code.specs.declared.words.Built.TheVariants as built
+use Rattle.nl_code.specs.declared.words.Over.{Over}
+use Rattle.nl_code.specs.declared.words.Over.TheVariants as over
 use Rattle.nl_code.specs.Cases.{Case, case_of}
 use Rattle.nl_code.specs.Cases as case
 use Rattle.nl_code.specs.Code.{Code, node_at, name_of}
-use Rattle.nl_meaning.specs.State.{State, Outcome, Eval, Reported, ends, gives, goes_on, fails, come_to, choose, spend, with_number, with_truth, with_stage, rest_of, ◌>>=◌}
+use Rattle.nl_meaning.specs.State.{State, Outcome, Eval, Reported, ends, gives, goes_on, fails, come_to, choose, spend, with_part, with_number, with_truth, with_stage, rest_of, ◌>>=◌}
 use Rattle.nl_meaning.specs.Running.{staying}
 use Rattle.nl_meaning.specs.Acting.{performed}
 use Rattle.nl_meaning.specs.Variables.{make_local, assign}
 use Rattle.nl_meaning.specs.Blocks.{values, leaving, statements, tested, part_of, turns, while_tested, while_case, loop_case}
 use Rattle.nl_meaning.specs.Calls.{called, returned_by}
+use Rattle.nl_meaning.specs.Walks.{Answer as Told, Chosen, Several, One, agents_in, set_in, with_turns, walk, walk_group, turn_over, ascending, collect, collect_group, valued, replied, reply_to, listed_members, all_true, listed_extremes, one_extreme, some_extremes, sorted_on, value_of_one}
+use Rattle.nl_meaning.specs.Makings.{made_of, kind_made, run_by_new}
 use Rattle.nl_meaning.specs.Steps.{step_made, steps, walked}
 use Rattle.nl_meaning.specs.Meaning.{text_statements, is_stopped, unless}
 use Rattle.nl_frames.specs.Kept.{all_held}
 use Rattle.nl_frames.specs.Seen.{ended}
+use Rattle.nl_frames.specs.declared.turns.Turns.{Turns}
+use Rattle.nl_frames.specs.declared.turns.Gathered.{Gathered}
+use Rattle.nl_frames.specs.declared.turns.Gathered.TheVariants as gathered
 use Rattle.nl_frames.specs.declared.frames.Frame.{Frame}
 use Rattle.nl_frames.specs.declared.frames.Frame.TheVariants as frame
 use Rattle.nl_frames.specs.declared.frames.Next.{Next}
@@ -46,6 +58,44 @@ parts_from c prev t at made s =
 abbrev pub way_of : Bool → ℤ → ℤ
 way_of true by = neg_ℤ by
 way_of false by = by
+
+-- what is made of all answers of agents of a kind
+abbrev pub finished : Gathered → AgentKind → Span → List Told → State → Outcome
+finished (gathered.OfSet over.With) which place made s = listed_members which made s
+finished (gathered.OfSet over.All) which place made s = all_true which made s
+finished (gathered.OfSet over.WithMax) which place made s = listed_extremes true which made s
+finished (gathered.OfSet over.WithMin) which place made s = listed_extremes false which made s
+finished (gathered.OfSet over.MaxOneOf) which place made s = one_extreme true which made s
+finished (gathered.OfSet over.MinOneOf) which place made s = one_extreme false which made s
+finished (gathered.OfSet over.SortOn) which place made s = sorted_on which made place s
+finished (gathered.OfSet other) which place made s = fails WrongType place s
+finished (gathered.Several up number) which place made s = some_extremes up which number made place s
+finished (gathered.OfAll true) which place made s = gives (PlainItems (plains (map (λ a. a.value) made))) s
+finished (gathered.OfAll false) which place made s = value_of_one made place s
+
+-- the answers of the turns that are left, behind these, and what is made of them all
+abbrev pub gathered_from : Eval → Node → ℕ → Over → Gathered → Turns → List Told → State → Outcome
+gathered_from prev t index word what turns made s =
+    collect word prev t index turns.site turns.which (drop turns.at turns.members) made s (λ all s1.
+    finished what turns.which (span t) all s1)
+
+-- the turns that are left
+abbrev pub walked_on : Eval → Node → ℕ → Turns → State → Outcome
+walked_on prev t index turns s = walk prev t index turns.site turns.which (drop turns.at turns.members) s
+
+abbrev pub several : Chosen → Bool
+several (Several set) = true
+several (One which number) = false
+
+-- the answers of a set's members, or of so many extremes of it, from the first one on
+abbrev pub answers_of_set : Over → Eval → Node → ℕ → Gathered → AgentSet → State → Outcome
+answers_of_set word prev t index what set s =
+    collect_group word prev t index (ascending (rest_of s) set) s (λ all s1. finished what (set_kind set) (span t) all s1)
+
+abbrev pub some_of_set : Over → Bool → Eval → Node → Plain → Plain → State → Outcome
+some_of_set word up prev t n value s =
+    with_number n (span t) s (λ number. come_to (set_in value) (span t) s (λ set.
+    answers_of_set word prev t 2 (gathered.Several up number) set s))
 
 abbrev pub resumed : Code → Eval → Frame → Outcome → Outcome
 resumed c prev (frame.Part node at made) o = o >>= λ v s. parts_from c prev (node_at c node) at (made ++ v ∷ []) s
@@ -84,6 +134,27 @@ resumed c prev (frame.Step node turtle by left rest way) o =
     o >>= λ v s. step_made turtle (span (node_at c node)) s (step_end turtle by (bare (rest_of s)))
     (λ s1. steps left turtle rest way (span (node_at c node)) s1)
 resumed c prev (frame.Body node reporter saved site) o = returned_by reporter (span (node_at c node)) (all_held c.names saved) site o
+resumed c prev (frame.AskWho node) o =
+    o >>= λ v s. come_to (agents_in (rest_of s) v) (span (node_at c node)) s (λ agents. with_turns agents s (walk_group prev (node_at c node) 1))
+resumed c prev (frame.Asked node index turns) o = turn_over turns.site o (λ s. walked_on prev (node_at c node) index turns s)
+resumed c prev (frame.SetWho node word index) o =
+    o >>= λ v s. come_to (set_in v) (span (node_at c node)) s (λ set.
+    answers_of_set word prev (node_at c node) index (gathered.OfSet word) set s)
+resumed c prev (frame.SomeNumber node word up) o =
+    o >>= λ n s. with_part (node_at c node) 1 (span (node_at c node)) s (λ second.
+    prev second s >>= λ v s1. some_of_set word up prev (node_at c node) n v s1)
+resumed c prev (frame.SomeSet node word up number) o =
+    o >>= λ v s. some_of_set word up prev (node_at c node) (plain number) v s
+resumed c prev (frame.OfWho node) o =
+    o >>= λ v s. come_to (agents_in (rest_of s) v) (span (node_at c node)) s (λ agents. with_turns agents s (λ group s1.
+    collect_group over.Of prev (node_at c node) 0 group s1 (λ all s2.
+    finished (gathered.OfAll (several agents)) group.which (span (node_at c node)) all s2)))
+resumed c prev (frame.Answering node index word member turns made what) o =
+    valued turns.site (span (node_at c node)) o (λ v s. replied (reply_to word v) (span (node_at c node)) member v made s (λ more s1.
+    gathered_from prev (node_at c node) index word what turns more s1))
+resumed c prev (frame.MakingInput node word breed runs) o =
+    o >>= λ v s. staying runs s (made_of word breed v (span (node_at c node)) s (λ made s1.
+    run_by_new prev (node_at c node) 1 (kind_made word) made (slice_get (parts (node_at c node)) 1) s1))
 resumed c prev (frame.Share node runs slot four) o =
     o >>= λ v s. staying runs s (with_number v (span (node_at c node)) s (λ share.
     unless (diffuse_fault slot share four (bare (rest_of s))) (span (node_at c node)) s
@@ -112,6 +183,14 @@ node_of (frame.LoopTurn node) = node
 node_of (frame.Distance node runs back) = node
 node_of (frame.Step node turtle by left rest way) = node
 node_of (frame.Body node reporter saved site) = node
+node_of (frame.AskWho node) = node
+node_of (frame.Asked node index turns) = node
+node_of (frame.SetWho node word index) = node
+node_of (frame.SomeNumber node word up) = node
+node_of (frame.SomeSet node word up number) = node
+node_of (frame.OfWho node) = node
+node_of (frame.Answering node index word member turns made what) = node
+node_of (frame.MakingInput node word breed runs) = node
 node_of (frame.Share node runs slot four) = node
 
 -- what is next: an answer, or a child and the frame behind it, or the same behind a unit, or a unit and the frame

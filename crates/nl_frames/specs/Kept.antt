@@ -6,6 +6,7 @@ use Rattle.nl_value.specs.Plain.{Plain}
 use Rattle.nl_value.specs.inner.Codes.{plain_code}
 use Rattle.nl_code.specs.Code.{name_of}
 use Rattle.nl_meaning.specs.State.{Held}
+use Rattle.nl_meaning.specs.Walks.{Answer}
 
 -- the number of a local's name, and its value
 pub record Kept : Type 0 where
@@ -22,3 +23,6 @@ all_held names ks = map (held names) ks
 -- a code, by which a proof tells them apart
 abbrev pub kept_code : Coded Kept
 kept_code = code_by (ℕ × Plain) (coded× coded_ℕ plain_code) (λ k. (k.id, k.value)) (λ c. record { id = c.0; value = c.1 }) (λ _. refl)
+
+abbrev pub answer_code : Coded Answer
+answer_code = code_by (ℕ × Plain) (coded× coded_ℕ plain_code) (λ a. (a.member, a.value)) (λ c. record { member = c.0; value = c.1 }) (λ _. refl)

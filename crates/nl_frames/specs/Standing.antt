@@ -1,11 +1,19 @@
 -- What holds of all that is held while a text runs: values and agents fit the world, and a walk's last step is shorter than 1.
-use Rattle.std.specs.Prelude.{⊤, ◌<◌, IsTrue, List}
+use Rattle.std.specs.Prelude.{⊤, ℕ, ◌<◌, ◌++◌, IsTrue, List, [], ◌∷◌, drop}
 use Rattle.std.specs.List.{list_all}
+use Rattle.std.specs.List.Sorted.{IsStrictlyIncreasing}
 use Rattle.nl_fixed.specs.Numbers.{one}
 use Rattle.nl_value.specs.Views.{plain}
 use Rattle.nl_agents.specs.declared.store.Store.{Ghosts}
 use Rattle.nl_frames.specs.Kept.{Kept}
-use Rattle.nl_frames.specs.Ground.{Ground, fits, all_fit, SiteFits}
+use Rattle.nl_value.specs.declared.sets.AgentKind.{AgentKind}
+use Rattle.nl_value.specs.declared.sets.AgentKind.TheVariants as kind
+use Rattle.nl_frames.specs.Ground.{Ground, fits, all_fit, patch_in, SiteFits}
+use Rattle.nl_frames.specs.declared.turns.Turns.{Turns}
+use Rattle.nl_meaning.specs.Walks.{Answer as Told, members_kept}
+use Rattle.nl_frames.specs.declared.turns.Gathered.{Gathered}
+use Rattle.nl_frames.specs.declared.turns.Gathered.TheVariants as gathered
+use Rattle.nl_frames.specs.Sound.{MakingStands}
 use Rattle.nl_frames.specs.Seen.{ground}
 use Rattle.nl_frames.specs.declared.exits.Exit.{Exit}
 use Rattle.nl_frames.specs.declared.exits.Exit.TheVariants.{Gives, Stopped, Reported, Left, Budget, Error}
@@ -26,16 +34,47 @@ ExitFits g Left = ⊤
 ExitFits g Budget = ⊤
 ExitFits g (Error kind at body) = ⊤
 
+-- members that are patches are patches of the world
+abbrev pub MembersFit : Ground → AgentKind → List ℕ → Type 0
+MembersFit g kind.Patch numbers = IsTrue (list_all (patch_in g) numbers)
+MembersFit g kind.Turtle numbers = ⊤
+MembersFit g kind.Link numbers = ⊤
+
+pub record TurnsFit (g : Ground) (turns : Turns) : Type 0 where
+  pub members : MembersFit g turns.which turns.members
+  pub site : SiteFits g turns.site
+
+-- members of which a set is made ascend
+abbrev pub MembersAscend : Gathered → List ℕ → Type 0
+MembersAscend (gathered.OfSet word) numbers = IsStrictlyIncreasing numbers
+MembersAscend (gathered.Several up number) numbers = IsStrictlyIncreasing numbers
+MembersAscend (gathered.OfAll several) numbers = ⊤
+
+-- the turns fit, and so do those who answered, with their values, and the one who answers now
+pub record AnsweringFits (g : Ground) (member : ℕ) (ts : Turns) (made : List Told) : Type 0 where
+  pub turns : TurnsFit g ts
+  pub values : IsTrue (list_all (λ a. fits g a.value) made)
+  pub members : MembersFit g ts.which (members_kept made ++ member ∷ [])
+
 abbrev pub FrameFits : Ground → Frame → Type 0
 FrameFits g (frame.Part node at made) = IsTrue (all_fit g made)
 FrameFits g (frame.Body node reporter saved site) = LocalsFit g saved × SiteFits g site
+FrameFits g (frame.SomeSet node word up number) = IsTrue (fits g (plain number))
+FrameFits g (frame.Asked node index turns) = TurnsFit g turns
+FrameFits g (frame.Answering node index word member turns made what) =
+    AnsweringFits g member turns made × MembersAscend what (members_kept made ++ member ∷ drop turns.at turns.members)
+FrameFits g (frame.MakingInput node word breed runs) = MakingStands g.layout runs breed word
 FrameFits g (frame.Step node turtle by left rest way) = rest < one
 FrameFits g f = ⊤
 
--- the frame holds neither values nor a walk
+-- nothing has to hold of what is in the frame
 abbrev pub HoldsNothing : Frame → Type 0
 HoldsNothing (frame.Part node at made) = ⊥
 HoldsNothing (frame.Body node reporter saved site) = ⊥
+HoldsNothing (frame.SomeSet node word up number) = ⊥
+HoldsNothing (frame.Asked node index turns) = ⊥
+HoldsNothing (frame.Answering node index word member turns made what) = ⊥
+HoldsNothing (frame.MakingInput node word breed runs) = ⊥
 HoldsNothing (frame.Step node turtle by left rest way) = ⊥
 HoldsNothing f = ⊤
 

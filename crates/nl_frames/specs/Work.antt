@@ -14,6 +14,7 @@ frame_work c (frame.AndLeft node) = 1 + weights (drop 1 (parts (node_at c node))
 frame_work c (frame.OrLeft node) = 1 + weights (drop 1 (parts (node_at c node)))
 frame_work c (frame.IfTest node) = 1 + weights (drop 1 (parts (node_at c node)))
 frame_work c (frame.EitherTest node) = 1 + weights (drop 1 (parts (node_at c node)))
+frame_work c (frame.SomeNumber node word up) = 1 + weights (drop 1 (parts (node_at c node)))
 frame_work c f = 1
 
 abbrev pub next_work : Code → Next → ℕ

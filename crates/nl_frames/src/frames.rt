@@ -3,9 +3,11 @@ ghost use Rattle.std.specs.Prelude.{◌≡◌, IfOk, length, vec_len};
 
 use crate::exits::Exit;
 use crate::locals::Locals;
+use crate::turns::{Answers, Gathered, Turns};
+use nl_code::{Making, Over};
 use nl_fixed::{NoMemory, Num};
 use nl_meaning::Site;
-use nl_value::Items;
+use nl_value::{Items, Value};
 use nl_words::Kinds;
 use std::alloc::Global;
 
@@ -115,6 +117,56 @@ pub enum Frame {
         saved: Locals,
         site: Site,
     },
+    /// Who is asked.
+    AskWho {
+        node: u32,
+    },
+    /// A turn of an ask, or of a birth's block: the block is the part at the index.
+    Asked {
+        node: u32,
+        index: u32,
+        turns: Turns,
+    },
+    /// The set whose members a word asks for values: the block is the part at the index.
+    SetWho {
+        node: u32,
+        word: Over,
+        index: u32,
+    },
+    /// How many extremes are asked for.
+    SomeNumber {
+        node: u32,
+        word: Over,
+        up: bool,
+    },
+    /// The set of which so many extremes are asked for.
+    SomeSet {
+        node: u32,
+        word: Over,
+        up: bool,
+        number: Value,
+    },
+    /// The agents of `of`.
+    OfWho {
+        node: u32,
+    },
+    /// A turn that has a value, with the answers before it, and what is made of them all.
+    Answering {
+        node: u32,
+        index: u32,
+        word: Over,
+        member: u64,
+        turns: Turns,
+        made: Answers,
+        gathered: Gathered,
+    },
+    /// What a word takes that makes agents.
+    MakingInput {
+        node: u32,
+        word: Making,
+        breed: Option<u32>,
+        runs: Kinds,
+    },
     /// The share that `diffuse` gives away of the variable of a slot.
     Share {
         node: u32,
@@ -212,6 +264,62 @@ impl Frame {
                 left: *left,
                 rest: *rest,
                 way: *way,
+            },
+            Frame::AskWho { node } => Frame::AskWho { node: *node },
+            Frame::Asked { node, index, turns } => Frame::Asked {
+                node: *node,
+                index: *index,
+                turns: turns.copy(alloc)?,
+            },
+            Frame::SetWho { node, word, index } => Frame::SetWho {
+                node: *node,
+                word: *word,
+                index: *index,
+            },
+            Frame::SomeNumber { node, word, up } => Frame::SomeNumber {
+                node: *node,
+                word: *word,
+                up: *up,
+            },
+            Frame::SomeSet {
+                node,
+                word,
+                up,
+                number,
+            } => Frame::SomeSet {
+                node: *node,
+                word: *word,
+                up: *up,
+                number: number.copy(alloc)?,
+            },
+            Frame::OfWho { node } => Frame::OfWho { node: *node },
+            Frame::Answering {
+                node,
+                index,
+                word,
+                member,
+                turns,
+                made,
+                gathered,
+            } => Frame::Answering {
+                node: *node,
+                index: *index,
+                word: *word,
+                member: *member,
+                turns: turns.copy(alloc)?,
+                made: made.copy(alloc)?,
+                gathered: *gathered,
+            },
+            Frame::MakingInput {
+                node,
+                word,
+                breed,
+                runs,
+            } => Frame::MakingInput {
+                node: *node,
+                word: *word,
+                breed: *breed,
+                runs: *runs,
             },
             Frame::Share {
                 node,

@@ -10,8 +10,10 @@ pub mod locals;
 pub mod sound;
 #[cfg(test)]
 mod tests;
+pub mod turns;
 
 pub use exits::Exit;
 pub use frames::{Frame, Next};
 pub use hands::Hands;
 pub use locals::{Local, Locals};
+pub use turns::{Answered, Answers, Gathered, Turns};

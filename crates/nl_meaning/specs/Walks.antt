@@ -112,8 +112,8 @@ abbrev pub walk : Eval → Node → ℕ → Site → AgentKind → List ℕ → 
 walk prev t index site which [] s = goes_on s
 walk prev t index site which (m ∷ ms) s =
     choose (lives (rest_of s) which m)
-    (with_part t index (span t) s (λ block. spend s (λ s1.
-    turn_over site (prev block (at_site (asked which m site) s1)) (λ s2. walk prev t index site which ms s2))))
+    (with_part t index (span t) s (λ block. spend (at_site (asked which m site) s) (λ s1.
+    turn_over site (prev block s1) (λ s2. walk prev t index site which ms s2))))
     (walk prev t index site which ms s)
 
 abbrev pub walk_group : Eval → Node → ℕ → Group → State → Outcome
@@ -188,8 +188,8 @@ abbrev pub collect : Over → Eval → Node → ℕ → Site → AgentKind → L
 collect word prev t index site which [] made s next = next made s
 collect word prev t index site which (m ∷ ms) made s next =
     choose (lives (rest_of s) which m)
-    (with_part t index (span t) s (λ block. spend s (λ s1.
-    valued site (span t) (prev block (at_site (asked which m site) s1)) (λ value s2.
+    (with_part t index (span t) s (λ block. spend (at_site (asked which m site) s) (λ s1.
+    valued site (span t) (prev block s1) (λ value s2.
     replied (reply_to word value) (span t) m value made s2 (λ more s3. collect word prev t index site which ms more s3 next)))))
     (collect word prev t index site which ms made s next)
 
