@@ -1,0 +1,3 @@
+pub mod Laws
+pub mod Rising
+pub mod Threads

@@ -1,0 +1,4 @@
+//! Lists of keys that are kept as what stands after and before each key.
+#![tactic(auto)]
+
+pub mod laws;
