@@ -1,0 +1,14 @@
+//! Records of agents, under keys, with the places that a record has in chains of records.
+#![tactic(auto)]
+
+pub mod fields;
+pub mod places;
+pub mod record;
+pub mod records;
+pub mod steps;
+
+pub use fields::{Body, Fields};
+pub use places::{Border, place_at, set_next, set_place, set_previous};
+pub use record::{Place, Record};
+pub use records::Records;
+pub use steps::Steps;
