@@ -1,0 +1,4 @@
+pub mod Borders
+pub mod Filings
+pub mod Indexes
+pub mod Moves
