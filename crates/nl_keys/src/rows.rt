@@ -40,7 +40,7 @@ pub fn whole_at(
     key: &WholeKey,
     table: &Table,
 ) -> Result<i64, KeyRefusal>
-    ensures { Reads (spec.whole_at before.now key.now (table_view table.now)) result }
+    ensures { Reads (spec.whole_at before.now (spec.whole_row key.now) (table_view table.now)) result }
 {
     match value_at(table, key.name) {
         None => Ok(key.usual),
@@ -58,7 +58,7 @@ pub fn truth_at(
     key: &TruthKey,
     table: &Table,
 ) -> Result<bool, KeyRefusal>
-    ensures { Reads (spec.truth_at before.now key.now (table_view table.now)) result }
+    ensures { Reads (spec.truth_at before.now (spec.truth_row key.now) (table_view table.now)) result }
 {
     match value_at(table, key.name) {
         None => Ok(key.usual),
@@ -71,7 +71,7 @@ pub fn truth_at(
 
 /// The text at a row's key.
 pub fn text_at(alloc: Global, key: &TextKey, table: &Table) -> Result<Str, KeyRefusal>
-    ensures { Reads (spec.text_at key.now (table_view table.now)) result }
+    ensures { Reads (spec.text_at (spec.text_row key.now) (table_view table.now)) result }
 {
     match value_at(table, key.name) {
         None => Ok(Str::of(alloc, key.usual.as_bytes())?),

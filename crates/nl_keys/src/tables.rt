@@ -60,8 +60,8 @@ pub fn all_known(
     }
 }
 
-// Whether an item is a floating-point number.
-fn has_float(items: &[Value]) -> bool
+/// Whether an item is a floating-point number.
+pub fn has_float(items: &[Value]) -> bool
     ensures { result ≡ spec.has_float (items_view items.now) }
 {
     let mut left = items;
