@@ -1,5 +1,5 @@
 //! Rows of a table of keys, and what stands at them.
-ghost use Rattle.std.specs.Prelude.{◌≡◌};
+ghost use Rattle.std.specs.Prelude.{◌≡◌, ◌≤ℤ◌, IfOk};
 ghost use Rattle.toml.specs.View.{table_view};
 ghost use Rattle.nl_keys.specs.Reading.{Reads};
 ghost use Rattle.nl_keys.specs.Rows as spec;
@@ -40,7 +40,12 @@ pub fn whole_at(
     key: &WholeKey,
     table: &Table,
 ) -> Result<i64, KeyRefusal>
-    ensures { Reads (spec.whole_at before.now (spec.whole_row key.now) (table_view table.now)) result }
+    ensures reads { Reads
+        (spec.whole_at before.now (spec.whole_row key.now) (table_view table.now)) result }
+    ensures least { key.now.least ≤ℤ key.now.usual
+        → IfOk result (λ number. key.now.least ≤ℤ number) }
+    ensures most { key.now.usual ≤ℤ key.now.most
+        → IfOk result (λ number. number ≤ℤ key.now.most) }
 {
     match value_at(table, key.name) {
         None => Ok(key.usual),

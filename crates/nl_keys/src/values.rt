@@ -1,5 +1,5 @@
 //! One value of a table.
-ghost use Rattle.std.specs.Prelude.{◌≡◌, option_map};
+ghost use Rattle.std.specs.Prelude.{◌≡◌, ◌≤ℤ◌, IfOk, option_map};
 ghost use Rattle.std.specs.Result.{result_map_both};
 ghost use Rattle.toml.specs.Data.{get_member};
 ghost use Rattle.toml.specs.View.{table_view, view};
@@ -28,7 +28,9 @@ pub fn other_kind(value: &Value) -> PlanKind
 
 /// A whole number within bounds.
 pub fn whole_in(least: i64, most: i64, value: &Value) -> Result<i64, PlanKind>
-    ensures { result ≡ spec.whole_in least most (view value.now) }
+    ensures value { result ≡ spec.whole_in least most (view value.now) }
+    ensures least { IfOk result (λ number. least ≤ℤ number) }
+    ensures most { IfOk result (λ number. number ≤ℤ most) }
 {
     match value.as_integer() {
         Some(number) => {
