@@ -1,4 +1,5 @@
 pub mod Borders
 pub mod Filings
+pub mod Filters
 pub mod Indexes
 pub mod Moves

@@ -3,6 +3,7 @@
 
 pub mod chains;
 pub mod homes;
+pub mod laws;
 pub mod row;
 
 pub use chains::{Chain, Chains};
