@@ -1,0 +1,13 @@
+use Rattle.std.proofs.Common.{ap}
+use Rattle.nl_records.specs.declared.fields.Fields.{Fields}
+use Rattle.nl_index_trials.proofs.Keeping.{filing-more, filing-same, may-add}
+use Rattle.nl_index_trials.proofs.filing.Filing.bear.Goals as goal
+
+pub invariant_of-self : goal.invariant_of-self
+invariant_of-self c = filing-same _ _ _ _ _ _ c.in_default.ensures.kept c.self.invariant
+
+pub add-requires-clause-away : goal.add-requires-clause-away
+add-requires-clause-away c = may-add _ _ _ _ _ _ _ c.new.result c.self.invariant c.in-Ok.ensures.vacant c.in-Ok.ensures.put (ap (λ (f : Fields). f.serial) c.new.ensures.fields)
+
+pub invariant_of-self-2 : goal.invariant_of-self-2
+invariant_of-self-2 c = filing-more _ _ _ _ _ _ _ _ _ c.new.result c.self.invariant c.in-Ok.ensures.vacant c.in-Ok.ensures.put (ap (λ (f : Fields). f.serial) c.new.ensures.fields) c.add.ensures.added c.add.ensures.others c.add.ensures.size
