@@ -139,8 +139,22 @@ impl Chains {
     {
         let from = homes_at(self.shape, records, key);
         let patch = patch_under(self.shape, &to);
-        move_last(&mut self.patches, records, 1, from.patch, patch as usize, key);
-        move_last(&mut self.breeds, records, 2, from.breed, breed as usize, key);
+        move_last(
+            &mut self.patches,
+            records,
+            1,
+            from.patch,
+            patch as usize,
+            key,
+        );
+        move_last(
+            &mut self.breeds,
+            records,
+            2,
+            from.breed,
+            breed as usize,
+            key,
+        );
         records.settle(key, Body::Turtle(to), breed);
     }
 }

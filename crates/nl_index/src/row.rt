@@ -87,13 +87,7 @@ fn set_before(
 }
 
 /// Makes the key the last of a chain.
-fn link_last(
-    row: &mut Vec<Border>,
-    records: &mut Records,
-    chain: u8,
-    number: usize,
-    key: usize,
-)
+fn link_last(row: &mut Vec<Border>, records: &mut Records, chain: u8, number: usize, key: usize)
     requires number { number < length row.old.items }
     requires chain { chain < 5 }
     requires held { IsSome (record_at records.old key) }
@@ -101,7 +95,7 @@ fn link_last(
     ensures filed { (home : ℕ → Option ℕ) (lists : ℕ → List ℕ) →
         IsFiled chain (borders_in row.old.items) (record_at records.old) home lists → home key ≡ None →
         IsFiled chain (borders_in row.new.items) (record_at records.new)
-            (at_number home key (Some number)) (put_in (Some number) key lists) }
+        (at_number home key (Some number)) (put_in (Some number) key lists) }
     ensures others { KeepsOthers chain (record_at records.old) (record_at records.new) }
     ensures length { length row.new.items ≡ length row.old.items }
 {
@@ -112,20 +106,14 @@ fn link_last(
 }
 
 /// Takes the key out of its chain.
-fn unlink(
-    row: &mut Vec<Border>,
-    records: &mut Records,
-    chain: u8,
-    number: usize,
-    key: usize,
-)
+fn unlink(row: &mut Vec<Border>, records: &mut Records, chain: u8, number: usize, key: usize)
     requires number { number < length row.old.items }
     requires chain { chain < 5 }
     requires listed { IsIn chain row.old.items (record_at records.old) (Some number) key }
     ensures filed { (home : ℕ → Option ℕ) (lists : ℕ → List ℕ) →
         IsFiled chain (borders_in row.old.items) (record_at records.old) home lists → home key ≡ Some number →
         IsFiled chain (borders_in row.new.items) (record_at records.new)
-            (at_number home key None) (take_from (Some number) key lists) }
+        (at_number home key None) (take_from (Some number) key lists) }
     ensures others { KeepsOthers chain (record_at records.old) (record_at records.new) }
     ensures length { length row.new.items ≡ length row.old.items }
 {
@@ -149,7 +137,7 @@ pub(crate) fn link_in(
     ensures filed { (home : ℕ → Option ℕ) (lists : ℕ → List ℕ) →
         IsFiled chain (borders_in row.old.items) (record_at records.old) home lists → home key ≡ None →
         IsFiled chain (borders_in row.new.items) (record_at records.new)
-            (at_number home key number) (put_in number key lists) }
+        (at_number home key number) (put_in number key lists) }
     ensures others { KeepsOthers chain (record_at records.old) (record_at records.new) }
     ensures length { length row.new.items ≡ length row.old.items }
 {
@@ -173,7 +161,7 @@ pub(crate) fn unlink_from(
     ensures filed { (home : ℕ → Option ℕ) (lists : ℕ → List ℕ) →
         IsFiled chain (borders_in row.old.items) (record_at records.old) home lists → home key ≡ number →
         IsFiled chain (borders_in row.new.items) (record_at records.new)
-            (at_number home key None) (take_from number key lists) }
+        (at_number home key None) (take_from number key lists) }
     ensures others { KeepsOthers chain (record_at records.old) (record_at records.new) }
     ensures length { length row.new.items ≡ length row.old.items }
 {
@@ -200,7 +188,7 @@ pub(crate) fn move_last(
     ensures filed { (home : ℕ → Option ℕ) (lists : ℕ → List ℕ) →
         IsFiled chain (borders_in row.old.items) (record_at records.old) home lists → home key ≡ from →
         IsFiled chain (borders_in row.new.items) (record_at records.new)
-            (at_number home key (Some to)) (put_in (Some to) key (take_from from key lists)) }
+        (at_number home key (Some to)) (put_in (Some to) key (take_from from key lists)) }
     ensures others { KeepsOthers chain (record_at records.old) (record_at records.new) }
     ensures length { length row.new.items ≡ length row.old.items }
 {
