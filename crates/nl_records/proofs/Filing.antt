@@ -102,6 +102,7 @@ filed-places chain borders old new home lists nx pv keep f = record {
     after-same : (n : ℕ) (a : Option ℕ) → IsPlace home n a → after chain borders new n a ≡ after chain borders old n a
     after-same n None na = refl
     after-same n (Some k) na = nx k
+
     before-same : (n : ℕ) (a : Option ℕ) → IsPlace home n a → before chain borders new n a ≡ before chain borders old n a
     before-same n None na = refl
     before-same n (Some k) na = pv k
@@ -118,6 +119,6 @@ previous_of-apart c d (Some r) hc hd ne = grind (arith, common_steps)
 pub filed-other : (c d : ℕ) (borders : ℕ → Border) (old new : ℕ → Option Record) (home : ℕ → Option ℕ) (lists : ℕ → List ℕ) → c < 5 → d < 5 → c ≢ d → KeepsOthers c old new → IsFiled d borders old home lists → IsFiled d borders new home lists
 filed-other c d borders old new home lists hc hd ne e f =
     filed-places d borders old new home lists
-      (λ k. sym (next_of-apart c d (new k) hc hd ne) ∙ ap (next_of d) (e k) ∙ next_of-apart c d (old k) hc hd ne)
-      (λ k. sym (previous_of-apart c d (new k) hc hd ne) ∙ ap (previous_of d) (e k) ∙ previous_of-apart c d (old k) hc hd ne)
-      (λ k h. held-kept c old new k e h) f
+    (λ k. sym (next_of-apart c d (new k) hc hd ne) ∙ ap (next_of d) (e k) ∙ next_of-apart c d (old k) hc hd ne)
+    (λ k. sym (previous_of-apart c d (new k) hc hd ne) ∙ ap (previous_of d) (e k) ∙ previous_of-apart c d (old k) hc hd ne)
+    (λ k h. held-kept c old new k e h) f

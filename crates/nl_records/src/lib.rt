@@ -6,6 +6,8 @@ pub mod places;
 pub mod record;
 pub mod records;
 pub mod steps;
+#[cfg(test)]
+mod tests;
 
 pub use fields::{Body, Fields};
 pub use places::{Border, place_at, set_next, set_place, set_previous};
