@@ -84,10 +84,10 @@ may-add chains at0 at1 shape breeds next key entry f vacant sets serial =
       index = index-where chains at0 at1 (held at0) f.lists stays f.index;
       away = ap is_some vacant;
       above = λ other h _.
-        (let l = f.below other h in
-        let a : serial_at at1 other ≡ serial_at at0 other = ap serial_of (stays other h) in
-        let b : serial_at at1 key ≡ next = ap serial_of (set-here at0 at1 key (Some entry) sets) ∙ serial in
-        rw (a, b) l);
+          (let l = f.below other h in
+          let a : serial_at at1 other ≡ serial_at at0 other = ap serial_of (stays other h) in
+          let b : serial_at at1 key ≡ next = ap serial_of (set-here at0 at1 key (Some entry) sets) ∙ serial in
+          rw (a, b) l);
     }
 
 pub filing-more : (chains chains' : Chains) (at0 at1 at2 : ℕ → Option Record) (shape : Plane) (breeds next key : ℕ) (entry : Record) → IsFiling chains at0 shape breeds next → at0 key ≡ None → Sets at0 at1 key (Some entry) → entry.fields.serial ≡ next →
@@ -125,8 +125,10 @@ filing-less chains chains' at0 at1 at2 shape breeds next key f here removed same
   where
     other : (k : ℕ) → k ≢ key → at2 k ≡ at1 k
     other = set-other at1 at2 key None sets
+
     gone : at2 key ≡ None
     gone = set-here at1 at2 key None sets
+
     go : (o : Option Record) → at0 key ≡ o → IsSome o → IsFiling chains' at2 shape breeds next
     go None e h = absurd (cc)
     go (Some r) e h =
@@ -138,11 +140,11 @@ filing-less chains chains' at0 at1 at2 shape breeds next key f here removed same
             | inr ne ↦ at-other (held at0) key false k ne ∙ sym (ap is_some (other k ne) ∙ bare-held at0 at1 same k)
           ]) (index-where chains' at1 at2 (at_number (held at0) key false) _ (λ k t. other k (λ s. (let z = subst (λ i. at_number (held at0) key false i ≡ true) s t in let y = at-here (held at0) key false in absurd (cc)))) x);
           below = λ k t.
-            (let ne : k ≢ key = λ s. (let z = subst (λ i. held at2 i ≡ true) s t in let y = ap is_some gone in absurd (cc)) in
-            let was : held at0 k ≡ true = sym (ap is_some (other k ne) ∙ bare-held at0 at1 same k) ∙ t in
-            let l = f.below k was in
-            let a : serial_at at2 k ≡ serial_at at0 k = ap serial_of (other k ne) ∙ bare-serial at0 at1 same k in
-            rw a l);
+              (let ne : k ≢ key = λ s. (let z = subst (λ i. held at2 i ≡ true) s t in let y = ap is_some gone in absurd (cc)) in
+              let was : held at0 k ≡ true = sym (ap is_some (other k ne) ∙ bare-held at0 at1 same k) ∙ t in
+              let l = f.below k was in
+              let a : serial_at at2 k ≡ serial_at at0 k = ap serial_of (other k ne) ∙ bare-serial at0 at1 same k in
+              rw a l);
           sized = sized-on shape breeds chains chains' f.sized size;
         }
 
@@ -155,8 +157,10 @@ filing-moved chains chains' at0 at1 shape breeds next key to breed f here refile
   where
     held-same : (k : ℕ) → held at1 k ≡ held at0 k
     held-same k = sym (held-bare (at1 k)) ∙ ap is_some (moves k) ∙ turned-held _ breed (eqb k key) (bare (at0 k)) ∙ held-bare (at0 k)
+
     serial-same : (k : ℕ) → serial_at at1 k ≡ serial_at at0 k
     serial-same k = sym (serial-bare (at1 k)) ∙ ap serial_of (moves k) ∙ turned-serial _ breed (eqb k key) (bare (at0 k)) ∙ serial-bare (at0 k)
+
     go : (o : Option Record) → at0 key ≡ o → IsSome o → IsFiling chains' at1 shape breeds next
     go None e h = absurd (cc)
     go (Some r) e h =

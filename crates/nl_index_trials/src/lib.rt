@@ -2,5 +2,7 @@
 #![tactic(auto)]
 
 pub mod filing;
+#[cfg(test)]
+mod tests;
 
 pub use filing::Filing;
