@@ -1,10 +1,10 @@
 -- Lemmas on agents that are put in chains, taken out or moved.
-use Rattle.std.proofs.Common.{◌≡◌, ◌≢◌, ◌⊎◌, ℕ, ◌<◌, Bool, true, false, List, [], ◌∷◌, ◌++◌, Option, Some, None, IsSome, IsSomeAnd, eqb, cond, refl, sym, ap, ◌∙◌, inl, inr, arith, subst}
+use Rattle.std.proofs.Common.{◌≡◌, ◌≢◌, ℕ, ◌<◌, Bool, true, false, List, [], ◌∷◌, ◌++◌, Option, Some, None, IsSome, IsSomeAnd, eqb, cond, refl, sym, ap, ◌∙◌, inl, inr, arith, subst}
 use Rattle.std.specs.Option.{option_map}
 use Rattle.std.proofs.lemmas.Grind.{common_steps}
 use Rattle.std.proofs.lemmas.Bool.{cases_eq}
 use Rattle.nl_grid.specs.Geometry.{Plane}
-use Rattle.nl_threads.specs.Threads.{at_number, has, put_last, take_out, without}
+use Rattle.nl_threads.specs.Threads.{at_number, has, without}
 use Rattle.nl_threads.specs.Rising.{IsRisingBy}
 use Rattle.nl_threads.proofs.Places.{at-here, at-other, at-each}
 use Rattle.nl_threads.proofs.Threaded.{home-of}
@@ -45,14 +45,14 @@ module _ (chain : ℕ) (number : Fields → Option ℕ) (borders : ℕ → Borde
       let filed' = at_number filed key true in
       let here : home_by number filed' new key ≡ n = home-here number filed' new key (at-here filed key true) ∙ ap (chain_of number) (kept key) ∙ is_n in
       subst (λ (m : Option ℕ). IsFiled chain borders new (home_by number filed' new) (put_in m key lists)) n-is
-        (filed-home chain borders new _ _ (put_in n key lists) (home-changed number filed filed' old new key n (at-other filed key true) (λ k ne. kept k) here) d)
+      (filed-home chain borders new _ _ (put_in n key lists) (home-changed number filed filed' old new key n (at-other filed key true) (λ k ne. kept k) here) d)
 
   pub removed-one : IsFiled chain borders new (at_number (home_by number filed old) key None) (take_from n key lists) → IsFiled chain borders new (home_by number (at_number filed key false) new) (take_from (number f) key lists)
   removed-one d =
       let filed' = at_number filed key false in
       let gone : home_by number filed' new key ≡ None = ap (λ b. cond b (chain_of number (fields_at new key)) None) (at-here filed key false) in
       subst (λ (m : Option ℕ). IsFiled chain borders new (home_by number filed' new) (take_from m key lists)) n-is
-        (filed-home chain borders new _ _ (take_from n key lists) (home-changed number filed filed' old new key None (at-other filed key false) (λ k ne. kept k) gone) d)
+      (filed-home chain borders new _ _ (take_from n key lists) (home-changed number filed filed' old new key None (at-other filed key false) (λ k ne. kept k) gone) d)
 
 -- a key that moves to another chain of the kind
 pub moved-one : (chain : ℕ) (number : Fields → Option ℕ) (borders : ℕ → Border) (filed : ℕ → Bool) (old new : ℕ → Option Record) (lists : ℕ → List ℕ) (key to : ℕ) (n : Option ℕ) (f u : Fields) →
@@ -63,7 +63,7 @@ moved-one chain number borders filed old new lists key to n f u others here is_f
     let at_home : home_by number filed new key ≡ Some to = home-here number filed new key here ∙ ap (chain_of number) is_u ∙ is_to in
     let n-was : n ≡ number f = sym is_n ∙ ap (chain_of number) is_f in
     subst (λ (m : Option ℕ). IsFiled chain borders new (home_by number filed new) (put_in (Some to) key (take_from m key lists))) n-was
-      (filed-home chain borders new _ _ _ (home-changed number filed filed old new key (Some to) (λ k ne. refl) others at_home) d)
+    (filed-home chain borders new _ _ _ (home-changed number filed filed old new key (Some to) (λ k ne. refl) others at_home) d)
 
 -- ---- order of birth
 
@@ -77,6 +77,7 @@ rising-added borders filed old new lists key f kept is_f above d rises = go (by_
   where
     same : (xs : List ℕ) → IsRisingBy (serial_at old) xs → IsRisingBy (serial_at new) xs
     same xs r = rising-same (serial_at old) (serial_at new) xs (λ j h. serial-kept old new j (kept j)) r
+
     below : (b j : ℕ) → chain_of by_birth (fields_at old key) ≡ Some b → has (lists b) j ≡ true → serial_at new j < serial_at new key
     below b j e h =
         let home = home-of (home_by by_birth filed old) (after 0 borders old) (before 0 borders old) lists b j d.threaded h in
@@ -85,6 +86,7 @@ rising-added borders filed old new lists key f kept is_f above d rises = go (by_
         let x = serial-kept old new j (kept j) in
         let y = serial-kept old new key (kept key) in
         rw (x, y) l
+
     go : (o : Option ℕ) → chain_of by_birth (fields_at old key) ≡ o → (n : ℕ) → IsRisingBy (serial_at new) (put_in o key lists n)
     go None e n = same (lists n) (rises n)
     go (Some b) e n = at-each (λ (_ : ℕ) (xs : List ℕ). IsRisingBy (serial_at new) xs) lists b (lists b ++ key ∷ []) (rising-append (serial_at new) (lists b) key (same (lists b) (rises b)) (λ j h. below b j e h)) (λ m _. same (lists m) (rises m)) n
@@ -95,6 +97,7 @@ rising-removed old new lists key o kept rises = go o
   where
     same : (xs : List ℕ) → IsRisingBy (serial_at old) xs → IsRisingBy (serial_at new) xs
     same xs r = rising-same (serial_at old) (serial_at new) xs (λ j h. serial-kept old new j (kept j)) r
+
     go : (o : Option ℕ) → (n : ℕ) → IsRisingBy (serial_at new) (take_from o key lists n)
     go None n = same (lists n) (rises n)
     go (Some b) n = at-each (λ (_ : ℕ) (xs : List ℕ). IsRisingBy (serial_at new) xs) lists b (without key (lists b)) (rising-without (serial_at new) (lists b) key (same (lists b) (rises b))) (λ m _. same (lists m) (rises m)) n
@@ -132,9 +135,9 @@ module _ (old new : ℕ → Option Record) (key : ℕ) (body : Body) (breed : �
 
   pub filed-settled : (chain : ℕ) (borders : ℕ → Border) (home : ℕ → Option ℕ) (lists : ℕ → List ℕ) → IsFiled chain borders old home lists → IsFiled chain borders new home lists
   filed-settled chain borders home lists d = filed-places chain borders old new home lists
-    (settled-each (λ a b. next_of chain a ≡ next_of chain b) (λ o. refl) (next-settled chain))
-    (settled-each (λ a b. previous_of chain a ≡ previous_of chain b) (λ o. refl) (previous-settled chain))
-    (settled-each (λ a b. IsSome b → IsSome a) (λ o h. h) held-settled) d
+      (settled-each (λ a b. next_of chain a ≡ next_of chain b) (λ o. refl) (next-settled chain))
+      (settled-each (λ a b. previous_of chain a ≡ previous_of chain b) (λ o. refl) (previous-settled chain))
+      (settled-each (λ a b. IsSome b → IsSome a) (λ o h. h) held-settled) d
 
   pub serials-settled : (k : ℕ) → serial_at new k ≡ serial_at old k
   serials-settled = settled-each (λ a b. serial_in (option_map (λ (x : Record). x.fields) a) ≡ serial_in (option_map (λ (x : Record). x.fields) b)) (λ o. refl) serial-settled

@@ -1,8 +1,7 @@
 -- Lemmas on an index whose records, or whose test, are others.
-use Rattle.std.proofs.Common.{◌≡◌, ◌≢◌, ◌⊎◌, ℕ, ◌<◌, Bool, true, false, List, Option, Some, None, IsSome, IsSomeAnd, is_some, eqb, cond, refl, sym, ap, ◌∙◌, inl, inr, arith, subst}
+use Rattle.std.proofs.Common.{◌≡◌, ℕ, Bool, true, false, List, Option, Some, None, IsSome, IsSomeAnd, cond, refl, sym, ap, ◌∙◌, subst}
 use mathlib.Core.Path.{fun_ext}
 use Rattle.nl_threads.specs.Threads.{has, IsPlace}
-use Rattle.nl_threads.specs.Rising.{IsRisingBy}
 use Rattle.nl_threads.proofs.Threaded.{home-of, stays_threaded}
 use Rattle.nl_threads.proofs.Rising.{rising-same}
 use Rattle.nl_records.specs.Records.{fields_at}
@@ -33,6 +32,7 @@ filed-where chain borders old new home lists same d = record {
     after-same : (n : ℕ) (a : Option ℕ) → IsPlace home n a → after chain borders new n a ≡ after chain borders old n a
     after-same n None na = refl
     after-same n (Some k) na = ap (λ r. after chain borders (λ _. r) n (Some k)) (same k n na)
+
     before-same : (n : ℕ) (a : Option ℕ) → IsPlace home n a → before chain borders new n a ≡ before chain borders old n a
     before-same n None na = refl
     before-same n (Some k) na = ap (λ r. before chain borders (λ _. r) n (Some k)) (same k n na)
@@ -51,8 +51,8 @@ one-where chain number borders old new filed lists same d = filed-home chain bor
 pub index-where : (chains : Chains) (old new : ℕ → Option Record) (filed : ℕ → Bool) (lists : Lists) → ((k : ℕ) → filed k ≡ true → new k ≡ old k) → IsIndex chains old filed lists → IsIndex chains new filed lists
 index-where chains old new filed lists same x =
     let serials : (n j : ℕ) → has (lists.births n) j ≡ true → serial_at new j ≡ serial_at old j = λ n j h.
-          let home = home-of (home_by by_birth filed old) _ _ lists.births n j x.births.threaded h in
-          ap (λ r. serial_in (fields_at (λ _. r) j)) (same j (home-filed by_birth filed old j n home)) in
+    let home = home-of (home_by by_birth filed old) _ _ lists.births n j x.births.threaded h in
+    ap (λ r. serial_in (fields_at (λ _. r) j)) (same j (home-filed by_birth filed old j n home)) in
     record {
       births = one-where 0 by_birth _ old new filed lists.births same x.births;
       patches = one-where 1 (by_patch chains.shape) _ old new filed lists.patches same x.patches;

@@ -3,11 +3,10 @@
 -- Which keys are filed is told by a test. The chains of a kind are disjoint, so that a key is in one of them at most. There are two chains
 -- of births, that of turtles and that of links, one chain of turtles for each patch, and one for each breed. Links are on no patch, and
 -- in no chain of a breed.
-use Rattle.std.specs.Prelude.{◌≡◌, ℕ, ◌<◌, ◌==◌, Bool, true, false, List, [], ◌∷◌, length, Option, Some, None, IsSome, IsSomeAnd, if◌then◌else◌, unwrap_or}
+use Rattle.std.specs.Prelude.{◌≡◌, ℕ, ◌<◌, ◌==◌, Bool, true, false, List, [], ◌∷◌, length, Option, Some, None, IsSomeAnd, if◌then◌else◌}
 use Rattle.std.specs.Option.{option_map}
 use Rattle.nl_grid.specs.Geometry.{Plane, IsPointOf, patch_at, patches_of}
 use Rattle.nl_grid.specs.declared.point.Point.{Point}
-use Rattle.nl_threads.specs.Threads.{at_number}
 use Rattle.nl_threads.specs.Rising.{IsRisingBy}
 use Rattle.nl_records.specs.Records.{fields_at, no_place, settled}
 use Rattle.nl_records.specs.Filed.{IsFiled}

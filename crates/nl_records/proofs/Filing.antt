@@ -1,13 +1,11 @@
 -- What becomes of the lists that records hold.
-use Rattle.std.proofs.Common.{◌≡◌, ◌≢◌, ◌⊎◌, ℕ, ◌<◌, Bool, true, false, List, Option, Some, None, IsSome, refl, sym, ap, ◌∙◌, inl, inr, arith, subst}
+use Rattle.std.proofs.Common.{◌≡◌, ◌≢◌, ℕ, ◌<◌, List, Option, Some, None, IsSome, refl, sym, ap, ◌∙◌, inl, inr, arith, subst}
 use mathlib.Core.Path.{fun_ext}
-use Rattle.std.specs.Option.{option_map}
 use Rattle.std.proofs.lemmas.Grind.{common_steps}
 use Rattle.std.proofs.lemmas.Bool.{cases_eq}
-use Rattle.nl_threads.specs.Threads.{at_number, put_last, take_out, IsPlace, IsThreaded, Turns}
+use Rattle.nl_threads.specs.Threads.{at_number, put_last, take_out, IsPlace, Turns}
 use Rattle.nl_threads.proofs.Places.{at-other, place-kept}
 use Rattle.nl_threads.proofs.Threaded.{taken_out, put_at_end, stays_threaded}
-use Rattle.nl_records.specs.Records.{fields_at}
 use Rattle.nl_records.specs.Filed.{after, before, next_of, previous_of, apart_from, IsFiled, IsHeld, KeepsOthers, Redirects, Stays}
 use Rattle.nl_records.specs.declared.places.Border.{Border}
 use Rattle.nl_records.specs.declared.record.Record.{Record}

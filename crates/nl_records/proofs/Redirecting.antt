@@ -1,6 +1,5 @@
 -- Lemmas on steps that lead elsewhere from one place.
-use Rattle.std.proofs.Common.{◌≡◌, ◌≢◌, ◌⊎◌, ℕ, Bool, true, false, Option, Some, None, is_some, eqb, cond, ◌&&◌, ◌||◌, refl, sym, ap, ◌∙◌, inl, inr, arith, subst}
-use Rattle.std.proofs.lemmas.Grind.{common_steps}
+use Rattle.std.proofs.Common.{◌≡◌, ◌≢◌, ℕ, Bool, true, false, Option, Some, None, is_some, eqb, cond, ◌&&◌, ◌||◌, refl, sym, ap, ◌∙◌, inl, inr, arith, subst}
 use Rattle.std.proofs.lemmas.Bool.{cases_eq}
 use Rattle.nl_threads.specs.Threads.{at_number, IsPlace, Turns}
 use Rattle.nl_threads.proofs.Places.{place-kept}

@@ -1,7 +1,7 @@
 -- When records, and the borders of chains, hold lists of keys.
 --
 -- Chains of one kind are numbered. The border of each is its first and its last key; where the borders are kept is left open.
-use Rattle.std.specs.Prelude.{◌≡◌, ℕ, ◌<◌, ◌==◌, List, Option, Some, None, is_some, IsSome, ◌&&◌, ◌||◌, Bool, true, false, if◌then◌else◌}
+use Rattle.std.specs.Prelude.{◌≡◌, ℕ, ◌==◌, List, Option, Some, None, is_some, IsSome, ◌&&◌, ◌||◌, Bool, true, false, if◌then◌else◌}
 use Rattle.std.specs.Option.{option_map}
 use Rattle.nl_threads.specs.Threads.{IsThreaded}
 use Rattle.nl_records.specs.Records.{place_of, with_place, no_place}

@@ -1,5 +1,5 @@
 -- What contracts see of records.
-use Rattle.std.specs.Prelude.{◌≡◌, ℕ, ◌==◌, Option, Some, None, if◌then◌else◌}
+use Rattle.std.specs.Prelude.{◌≡◌, ℕ, ◌==◌, Option, None, if◌then◌else◌}
 use Rattle.std.specs.Option.{option_map}
 use Rattle.slab.specs.Slab.{get, HasRoomFor}
 use Rattle.nl_records.specs.declared.fields.Body.{Body}

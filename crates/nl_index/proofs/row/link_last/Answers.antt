@@ -1,4 +1,4 @@
-use Rattle.std.proofs.Common.{◌≡◌, None, Some, sym, subst}
+use Rattle.std.proofs.Common.{None, Some, sym, subst}
 use Rattle.nl_threads.specs.Threads.{IsPlace}
 use Rattle.nl_index.specs.Rows.{borders_in}
 use Rattle.nl_records.proofs.Filing.{filed-last, held-kept, keeps-trans, place-held, IsHeld-kept}
@@ -14,6 +14,6 @@ set_after-requires-clause-held c =
 pub returns-clause-filed : goal.returns-clause-filed
 returns-clause-filed c home lists d none =
     filed-last c.args.chain _ _ _ _ _ _ _ _ home lists c.args.number c.args.key _ d none c.last_of-last.ensures
-      (c.set_place.ensures.after (borders_in c.args.row.now.items) c.args.number) c.set_after.ensures.after (last-stays c.args.chain c.args.number (Some c.args.key) _ _ _ c.set_last.ensures.last)
-      (c.set_place.ensures.before (borders_in c.args.row.now.items) c.args.number) c.set_after.ensures.before (last-redirects c.args.chain c.args.number (Some c.args.key) _ _ _ c.set_last.ensures.last)
-      (λ j. held-kept c.args.chain _ _ j (keeps-trans c.args.chain _ _ _ c.set_place.ensures.others c.set_after.ensures.others)) c.requires.held
+    (c.set_place.ensures.after (borders_in c.args.row.now.items) c.args.number) c.set_after.ensures.after (last-stays c.args.chain c.args.number (Some c.args.key) _ _ _ c.set_last.ensures.last)
+    (c.set_place.ensures.before (borders_in c.args.row.now.items) c.args.number) c.set_after.ensures.before (last-redirects c.args.chain c.args.number (Some c.args.key) _ _ _ c.set_last.ensures.last)
+    (λ j. held-kept c.args.chain _ _ j (keeps-trans c.args.chain _ _ _ c.set_place.ensures.others c.set_after.ensures.others)) c.requires.held

@@ -1,4 +1,4 @@
-use Rattle.std.proofs.Common.{◌≡◌, None, Some}
+use Rattle.std.proofs.Common.{None, Some}
 use Rattle.nl_threads.specs.Threads.{at_number}
 use Rattle.nl_threads.proofs.Places.{at-here}
 use Rattle.nl_index.specs.Rows.{take_from}

@@ -1,4 +1,4 @@
-use Rattle.std.proofs.Common.{◌≡◌, Some, sym, subst}
+use Rattle.std.proofs.Common.{Some, sym, subst}
 use Rattle.nl_threads.specs.Threads.{IsPlace}
 use Rattle.nl_records.proofs.Filing.{filed-without, held-kept, keeps-trans, place-held, IsHeld-kept}
 use Rattle.nl_index.proofs.row.unlink.Goals as goal
@@ -20,5 +20,5 @@ set_before-requires-clause-held c =
 pub returns-clause-filed : goal.returns-clause-filed
 returns-clause-filed c home lists d here =
     filed-without c.args.chain _ _ _ _ _ _ home lists c.args.number c.args.key _ _ d here c.place_at-place.ensures.previous c.place_at-place.ensures.next
-      c.set_after.ensures.after c.set_after.ensures.before c.set_before.ensures.before c.set_before.ensures.after
-      (λ j. held-kept c.args.chain _ _ j (keeps-trans c.args.chain _ _ _ c.set_after.ensures.others c.set_before.ensures.others))
+    c.set_after.ensures.after c.set_after.ensures.before c.set_before.ensures.before c.set_before.ensures.after
+    (λ j. held-kept c.args.chain _ _ j (keeps-trans c.args.chain _ _ _ c.set_after.ensures.others c.set_before.ensures.others))

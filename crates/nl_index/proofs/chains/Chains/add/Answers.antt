@@ -1,11 +1,10 @@
-use Rattle.std.proofs.Common.{◌≡◌, ◌≢◌, ◌∙◌, ℕ, Bool, true, false, Option, Some, None, sym, ap, subst, refl, inl, inr, arith, cond, eqb, IsSomeAnd}
+use Rattle.std.proofs.Common.{◌≡◌, ◌∙◌, ℕ, true, Some, sym, ap, subst, inl, inr, arith, IsSomeAnd}
 use Rattle.std.proofs.lemmas.Bool.{cases_eq}
-use Rattle.nl_threads.specs.Threads.{at_number}
-use Rattle.nl_threads.proofs.Places.{at-here, at-other}
+use Rattle.nl_threads.proofs.Places.{at-other}
 use Rattle.nl_records.specs.Records.{record_at, fields_at}
-use Rattle.nl_records.proofs.Filing.{filed-other, filed-home}
-use Rattle.nl_index.specs.Index.{by_birth, by_breed, by_patch, chain_of, home_by, Fits}
-use Rattle.nl_index.proofs.Moves.{home-away, home-here}
+use Rattle.nl_records.proofs.Filing.{filed-other}
+use Rattle.nl_index.specs.Index.{by_birth, by_breed, by_patch, home_by, Fits}
+use Rattle.nl_index.proofs.Moves.{home-away}
 use Rattle.nl_index.proofs.Filings.{added-one, fields-kept, fits-kept, rising-added}
 use Rattle.nl_index.proofs.chains.Chains.add.Goals as goal
 
@@ -43,9 +42,9 @@ returns-clause-added c filed lists f x away above is_f =
     let o3 = c.link_in-3.ensures.others in
     let kept : (k : ℕ) → fields_at at3 k ≡ fields_at at0 k = λ k. fields-kept 2 _ _ o3 k ∙ fields-kept 1 _ _ o2 k ∙ fields-kept 0 _ _ o1 k in
     let b = filed-other 2 0 _ _ _ _ _ (omega arith) (omega arith) (λ e. absurd (omega arith)) o3 (filed-other 1 0 _ _ _ _ _ (omega arith) (omega arith) (λ e. absurd (omega arith)) o2
-          (c.link_in.ensures.filed _ _ x.births (home-away by_birth filed at0 key away))) in
+    (c.link_in.ensures.filed _ _ x.births (home-away by_birth filed at0 key away))) in
     let p = filed-other 2 1 _ _ _ _ _ (omega arith) (omega arith) (λ e. absurd (omega arith)) o3
-          (c.link_in-2.ensures.filed _ _ (filed-other 0 1 _ _ _ _ _ (omega arith) (omega arith) (λ e. absurd (omega arith)) o1 x.patches) (home-away (by_patch shape) filed at0 key away)) in
+    (c.link_in-2.ensures.filed _ _ (filed-other 0 1 _ _ _ _ _ (omega arith) (omega arith) (λ e. absurd (omega arith)) o1 x.patches) (home-away (by_patch shape) filed at0 key away)) in
     let d = c.link_in-3.ensures.filed _ _ (filed-other 1 2 _ _ _ _ _ (omega arith) (omega arith) (λ e. absurd (omega arith)) o2 (filed-other 0 2 _ _ _ _ _ (omega arith) (omega arith) (λ e. absurd (omega arith)) o1 x.breeds)) (home-away by_breed filed at0 key away) in
     record {
       births = added-one 0 by_birth _ filed at0 at3 lists.births key (Some c.homes_at-homes.result.births) f kept is_f homes.births b;

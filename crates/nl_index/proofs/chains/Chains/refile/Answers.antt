@@ -1,12 +1,9 @@
-use Rattle.std.proofs.Common.{◌≡◌, ◌≢◌, ◌∙◌, ℕ, Bool, true, false, Option, Some, None, sym, ap, subst, refl, inl, inr, arith, cond, eqb, IsSomeAnd}
+use Rattle.std.proofs.Common.{◌≡◌, ◌≢◌, ◌∙◌, ℕ, Some, None, sym, ap, subst, refl, inl, inr, arith, cond, IsSomeAnd}
 use Rattle.std.proofs.lemmas.Bool.{cases_eq}
-use Rattle.nl_threads.specs.Threads.{at_number}
-use Rattle.nl_threads.proofs.Places.{at-here, at-other}
 use Rattle.nl_records.specs.Records.{record_at, fields_at}
 use Rattle.nl_records.proofs.Filing.{filed-other, filed-home}
 use Rattle.nl_index.specs.Index.{by_birth, by_breed, by_patch, chain_of, home_by, Fits}
-use Rattle.nl_index.proofs.Moves.{home-away, home-here}
-use Rattle.nl_grid.specs.Geometry.{patch_at}
+use Rattle.nl_index.proofs.Moves.{home-here}
 use Rattle.nl_records.specs.Records.{settled, Sets}
 use Rattle.nl_records.specs.declared.fields.Body.{Body}
 use Rattle.nl_records.specs.declared.fields.Body.TheVariants.{Turtle}
@@ -59,7 +56,7 @@ returns-clause-refiled c filed lists f x here is_f =
     record {
       births = filed-home 0 _ _ _ _ _ (λ k. ap (λ o. cond (filed k) o None) (born k)) b;
       patches = subst (λ (n : ℕ). IsFiled 1 (borders_in c.move_last.new.row.items) at3 (home_by (by_patch shape) filed at3) (put_in (Some n) key (take_from (by_patch shape f) key lists.patches))) c.patch_under-patch.ensures.patch
-        (moved-one 1 (by_patch shape) _ filed at0 at3 lists.patches key c.patch_under-patch.result c.homes_at-from.result.patch f u others here is_f homes.patch is_u to_patch p);
+          (moved-one 1 (by_patch shape) _ filed at0 at3 lists.patches key c.patch_under-patch.result c.homes_at-from.result.patch f u others here is_f homes.patch is_u to_patch p);
       breeds = moved-one 2 by_breed _ filed at0 at3 lists.breeds key breed c.homes_at-from.result.breed f u others here is_f homes.breed is_u refl d;
       rising = λ n. rising-settled at0 at3 (lists.births n) serials (x.rising n);
       fit = λ k h. fits-kept shape _ _ (fields_at at3 k) c.move_last-2.ensures.length (elim (cases_eq k key) [

@@ -1,11 +1,11 @@
-use Rattle.std.proofs.Common.{◌≡◌, ◌≢◌, ◌∙◌, ℕ, Bool, true, false, Option, Some, None, sym, ap, subst, refl, inl, inr, arith, cond, eqb, IsSomeAnd}
+use Rattle.std.proofs.Common.{◌≡◌, ◌∙◌, ℕ, true, false, Some, sym, subst, inl, inr, arith, IsSomeAnd}
 use Rattle.std.proofs.lemmas.Bool.{cases_eq}
 use Rattle.nl_threads.specs.Threads.{at_number}
 use Rattle.nl_threads.proofs.Places.{at-here, at-other}
 use Rattle.nl_records.specs.Records.{record_at, fields_at}
-use Rattle.nl_records.proofs.Filing.{filed-other, filed-home}
-use Rattle.nl_index.specs.Index.{by_birth, by_breed, by_patch, chain_of, home_by, Fits}
-use Rattle.nl_index.proofs.Moves.{home-away, home-here}
+use Rattle.nl_records.proofs.Filing.{filed-other}
+use Rattle.nl_index.specs.Index.{by_birth, by_breed, by_patch, home_by, Fits}
+use Rattle.nl_index.proofs.Moves.{home-here}
 use Rattle.nl_index.proofs.Filings.{removed-one, fields-kept, fits-kept, rising-removed}
 use Rattle.nl_index.proofs.chains.Chains.remove.Goals as goal
 
@@ -44,9 +44,9 @@ returns-clause-removed c filed lists f x here is_f =
     let o3 = c.unlink_from-3.ensures.others in
     let kept : (k : ℕ) → fields_at at3 k ≡ fields_at at0 k = λ k. fields-kept 2 _ _ o3 k ∙ fields-kept 1 _ _ o2 k ∙ fields-kept 0 _ _ o1 k in
     let b = filed-other 2 0 _ _ _ _ _ (omega arith) (omega arith) (λ e. absurd (omega arith)) o3 (filed-other 1 0 _ _ _ _ _ (omega arith) (omega arith) (λ e. absurd (omega arith)) o2
-          (c.unlink_from.ensures.filed _ _ x.births (home-here by_birth filed at0 key here ∙ homes.births))) in
+    (c.unlink_from.ensures.filed _ _ x.births (home-here by_birth filed at0 key here ∙ homes.births))) in
     let p = filed-other 2 1 _ _ _ _ _ (omega arith) (omega arith) (λ e. absurd (omega arith)) o3
-          (c.unlink_from-2.ensures.filed _ _ (filed-other 0 1 _ _ _ _ _ (omega arith) (omega arith) (λ e. absurd (omega arith)) o1 x.patches) (home-here (by_patch shape) filed at0 key here ∙ homes.patch)) in
+    (c.unlink_from-2.ensures.filed _ _ (filed-other 0 1 _ _ _ _ _ (omega arith) (omega arith) (λ e. absurd (omega arith)) o1 x.patches) (home-here (by_patch shape) filed at0 key here ∙ homes.patch)) in
     let d = c.unlink_from-3.ensures.filed _ _ (filed-other 1 2 _ _ _ _ _ (omega arith) (omega arith) (λ e. absurd (omega arith)) o2 (filed-other 0 2 _ _ _ _ _ (omega arith) (omega arith) (λ e. absurd (omega arith)) o1 x.breeds)) (home-here by_breed filed at0 key here ∙ homes.breed) in
     let was : (k : ℕ) → at_number filed key false k ≡ true → filed k ≡ true = λ k h. elim (cases_eq k key) [
       | inl e ↦ (let z = at-here filed key false in let y = subst (λ i. at_number filed key false i ≡ true) e h in absurd (cc))
