@@ -1,0 +1,4 @@
+pub mod Turning
+pub mod Telling
+pub mod Groups
+pub mod Births
