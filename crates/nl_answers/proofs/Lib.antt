@@ -1,0 +1,10 @@
+pub mod Best
+pub mod Rising
+pub mod Passing
+pub mod Ranking
+pub mod Collecting
+pub mod Fitting
+pub mod Giving
+pub mod Choosing
+pub mod Turning
+pub mod Still

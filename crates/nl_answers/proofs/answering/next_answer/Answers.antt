@@ -1,0 +1,100 @@
+-- The next turn comes, or none is left.
+use Rattle.std.proofs.Common.{rules, length, ◌≡◌, ◌+◌, ◌<◌, ℕ, List, Some, drop, get_or, slice_get, ap, ◌∙◌, sym, subst}
+use Rattle.std.specs.Option.{option_map}
+use Rattle.nl_fixed.specs.declared.span.Span.{Span}
+use Rattle.nl_acts.specs.declared.fail.ErrorKind.TheVariants.{WrongType}
+use Rattle.nl_meaning.specs.State.{fails}
+use Rattle.nl_meaning.specs.Walks.{members_kept}
+use Rattle.nl_frames.specs.Ground.{Ground}
+use Rattle.nl_frames.specs.Standing.{AnsweringFits}
+use Rattle.nl_frames.specs.Seen.{ended, ground, state_of}
+use Rattle.nl_frames.specs.declared.exits.Exit.{Exit}
+use Rattle.nl_turns.specs.Turning.{first_of}
+use Rattle.nl_answers.proofs.Collecting.{members_ascend_on, place_below}
+use Rattle.nl_answers.proofs.Fitting.{ascend_front, members_push}
+use Rattle.nl_answers.proofs.Turning.{all_answered, no_block, place_read, turn_wanted}
+use Rattle.nl_answers.proofs.answering.next_answer.Goals as goal
+
+pub finish-requires-clause-ascend : goal.finish-requires-clause-ascend
+finish-requires-clause-ascend g c =
+    ascend_front c.args.gathered (members_kept c.args.made) (drop c.args.turns.at c.args.turns.members) c.requires.ascend
+
+pub returns-in_default-clause-meaning : goal.returns-in_default-clause-meaning
+returns-in_default-clause-meaning g c = λ prev units thrifty.
+    let code = c.args.code.now in
+    let turns = c.args.turns in
+    let r = (g.S.Store.world c.args.hands.now.stage.store).rest in
+    c.in_ok-exit.ensures.meaning units
+    ∙ all_answered code prev c.args.node c.args.index c.args.word c.args.gathered turns c.args.made (state_of code.names c.args.hands.now units) c.first_living.result
+    c.in_default.is (c.first_living.ensures ∙ ap (λ (ms : List ℕ). option_map (λ i. turns.at + i) (first_of r turns.which (drop turns.at ms))) c.as_slice-members.ensures)
+
+pub bounds-members-at : goal.bounds-members-at
+bounds-members-at g c =
+    place_below (g.S.Store.world c.args.hands.now.stage.store).rest c.args.turns.which c.as_slice-members.result.now c.args.turns.at c.in-Some.at c.first_living.result c.in-Some.is c.first_living.ensures
+
+pub offset_bounds-members-at : goal.offset_bounds-members-at
+offset_bounds-members-at g c =
+    let inside : c.in-Some.at < length c.as_slice-members.result.now = place_below (g.S.Store.world c.args.hands.now.stage.store).rest c.args.turns.which c.as_slice-members.result.now c.args.turns.at c.in-Some.at c.first_living.result c.in-Some.is c.first_living.ensures in
+    search rules
+
+pub returns-in_default-part-clause-meaning : goal.returns-in_default-part-clause-meaning
+returns-in_default-part-clause-meaning g c = λ prev units thrifty.
+    let code = c.args.code.now in
+    let turns = c.args.turns in
+    let r = (g.S.Store.world c.args.hands.now.stage.store).rest in
+    let s = state_of code.names c.args.hands.now units in
+    let ms = c.as_slice-members.result.now in
+    let member = get_or ms c.in-Some.at 0 in
+    let there : slice_get turns.members c.in-Some.at ≡ Some member =
+    ap (λ (l : List ℕ). slice_get l c.in-Some.at) (sym c.as_slice-members.ensures) ∙ place_read ms c.in-Some.at (place_below r turns.which ms turns.at c.in-Some.at c.first_living.result c.in-Some.is c.first_living.ensures) in
+    ap (λ (e : Exit). ended e s) c.fault.ensures
+    ∙ ap (λ (p : Span). fails WrongType p s) c.span.ensures
+    ∙ no_block code prev c.args.node c.args.index c.args.word c.args.gathered turns c.args.made s c.in-Some.at member c.first_living.result
+    c.in-Some.is (c.first_living.ensures ∙ ap (λ (l : List ℕ). option_map (λ i. turns.at + i) (first_of r turns.which (drop turns.at l))) c.as_slice-members.ensures) there c.in_default-part.ensures.value
+
+pub agent_at-agent-requires-clause-member : goal.agent_at-agent-requires-clause-member
+agent_at-agent-requires-clause-member g c =
+    let ms = c.as_slice-members.result.now in
+    ap (λ (l : List ℕ). slice_get l c.in-Some.at) (sym c.as_slice-members.ensures)
+    ∙ place_read ms c.in-Some.at (place_below (g.S.Store.world c.args.hands.now.stage.store).rest c.args.turns.which ms c.args.turns.at c.in-Some.at c.first_living.result c.in-Some.is c.first_living.ensures)
+
+pub overflow_add-turns : goal.overflow_add-turns
+overflow_add-turns g c =
+    let inside : c.in-Some.at < length c.as_slice-members.result.now = place_below (g.S.Store.world c.args.hands.now.stage.store).rest c.args.turns.which c.as_slice-members.result.now c.args.turns.at c.in-Some.at c.first_living.result c.in-Some.is c.first_living.ensures in
+    search rules
+
+pub returns-clause-meaning : goal.returns-clause-meaning
+returns-clause-meaning g c = λ prev units thrifty.
+    let code = c.args.code.now in
+    let turns = c.args.turns in
+    let r = (g.S.Store.world c.args.hands.now.stage.store).rest in
+    let ms = c.as_slice-members.result.now in
+    let place = c.in-Some.at in
+    let member = get_or ms place 0 in
+    let there : slice_get turns.members place ≡ Some member =
+    ap (λ (l : List ℕ). slice_get l place) (sym c.as_slice-members.ensures) ∙ place_read ms place (place_below r turns.which ms turns.at place c.first_living.result c.in-Some.is c.first_living.ensures) in
+    let first = c.first_living.ensures ∙ ap (λ (l : List ℕ). option_map (λ i. turns.at + i) (first_of r turns.which (drop turns.at l))) c.as_slice-members.ensures in
+    turn_wanted code prev c.args.node c.args.index c.args.word c.args.gathered turns c.args.made (state_of code.names c.args.hands.now units)
+    (state_of code.names c.run_as.new.hands units) place member c.in-Some-part.block c.agent_at-agent.result c.first_living.result c.in-Some.is first there
+    c.in-Some-part.ensures.value c.agent_at-agent.ensures.owner (c.run_as.ensures.state code units)
+
+pub returns-clause-fits : goal.returns-clause-fits
+returns-clause-fits g c =
+    let now = ground c.args.hands.now in
+    let turns = c.args.turns in
+    let r = (g.S.Store.world c.args.hands.now.stage.store).rest in
+    let ms = c.as_slice-members.result.now in
+    let place = c.in-Some.at in
+    let member = get_or ms place 0 in
+    let there : slice_get turns.members place ≡ Some member =
+    ap (λ (l : List ℕ). slice_get l place) (sym c.as_slice-members.ensures) ∙ place_read ms place (place_below r turns.which ms turns.at place c.first_living.result c.in-Some.is c.first_living.ensures) in
+    let first = c.first_living.ensures ∙ ap (λ (l : List ℕ). option_map (λ i. turns.at + i) (first_of r turns.which (drop turns.at l))) c.as_slice-members.ensures in
+    let kept = members_kept c.args.made in
+    let fit : AnsweringFits now member (record turns { at = place + 1 }) c.args.made = record {
+      turns = record { members = c.requires.turns.members; site = c.requires.turns.site };
+      values = c.requires.values;
+      members = members_push now turns.which kept turns.members place member c.requires.members c.requires.turns.members there;
+    } in (
+      subst (λ (x : Ground). AnsweringFits x member (record turns { at = place + 1 }) c.args.made) (sym c.run_as.ensures.stands.same) fit,
+      members_ascend_on c.args.gathered kept turns.members turns.at place member (first_of r turns.which (drop turns.at turns.members)) (sym c.in-Some.is ∙ first) there c.requires.ascend,
+    )

@@ -1,0 +1,3 @@
+pub mod Extremes
+pub mod Turns
+pub mod inner
