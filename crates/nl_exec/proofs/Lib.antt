@@ -1,0 +1,6 @@
+pub mod Stack
+pub mod Works
+pub mod Steadying
+pub mod Stops
+pub mod Opening
+pub mod Entering

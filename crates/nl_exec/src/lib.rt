@@ -1,0 +1,13 @@
+//! The machine: it runs texts over a store, and stops at any unit.
+#![tactic(auto)]
+
+pub mod dispatch;
+pub mod endings;
+pub mod focus;
+pub mod levels;
+pub mod phase;
+pub mod run;
+pub mod slices;
+
+pub use endings::End;
+pub use slices::{Machine, Turn};
