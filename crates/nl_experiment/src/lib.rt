@@ -1,0 +1,17 @@
+//! The experiment: what its file says, its runs, its widgets, and its texts beside a program.
+#![tactic(auto)]
+
+pub mod experiment;
+pub mod faults;
+pub mod numbers;
+pub mod widgets;
+
+pub use experiment::Experiment;
+pub use faults::{PlanFault, PlanRefusal};
+pub use nl_fields::Fields;
+pub use nl_keys::PlanKind;
+pub use nl_lone::{Inner, InnerKind};
+pub use nl_sweep::{Choice, Setting, Settings, Varies, Vary};
+
+#[cfg(test)]
+mod tests;
