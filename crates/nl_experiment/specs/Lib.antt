@@ -1,3 +1,5 @@
+pub mod Laws
 pub mod Numbers
 pub mod Plan
+pub mod Texts
 pub mod Widgets

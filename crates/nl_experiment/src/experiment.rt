@@ -6,6 +6,7 @@ ghost use Rattle.nl_experiment.specs.Plan.{Says, experiment_says};
 
 use crate::faults::{PlanRefusal, of_keys};
 use crate::numbers::run_among;
+use crate::texts::Texts;
 use crate::widgets::widgets_of;
 use nl_fields::{Fields, fields_of};
 use nl_fixed::{Names, NoMemory};
@@ -13,6 +14,7 @@ use nl_grid::Shape;
 use nl_keys::PlanKind;
 use nl_keys::faults::fault_at;
 use nl_sweep::{Order, Settings, World, all_have_worlds, runs};
+use nl_tree::Program;
 use std::alloc::Global;
 use std::marker::Model;
 
@@ -104,11 +106,12 @@ fn judged(alloc: Global, fields: Fields) -> Result<Experiment, PlanRefusal>
 }
 
 impl Experiment {
-    ghost use Rattle.std.specs.Prelude.{◌≡◌, ◌<◌, ◌≤◌, IfOk};
+    ghost use Rattle.std.specs.Prelude.{◌≡◌, ◌<◌, ◌≤◌, IfOk, IfErr};
     ghost use Rattle.nl_tree.specs.Names.{AreWidgets};
     ghost use Rattle.nl_sweep.specs.Sweep.{IsRun, plane_of_run, runs_of, seed_of, settings_of};
     ghost use Rattle.nl_experiment.specs.Numbers.{AreDigits, number_of, run_among};
     ghost use Rattle.nl_experiment.specs.Plan.{Says, experiment_says, order_of, world_of};
+    ghost use Rattle.nl_experiment.specs.Texts.{AreTreesFor, RefusesTexts, texts_of, trees_of};
     ghost use Rattle.nl_experiment.specs.Widgets.{widgets_of};
 
     /// The experiment that a file is, or its first fault. Its texts are not looked at.
@@ -143,6 +146,16 @@ impl Experiment {
         ensures { result.now ≡ self.now }
     {
         &self.fields
+    }
+
+    /// The trees of the texts beside a program, or the first fault of a text in the order of their keys: `setup`, `go`, `until`, `metric 1`
+    /// and so on. The line and the column of a fault are those in its own text.
+    pub fn texts(&self, alloc: Global, program: &Program) -> Result<Texts, PlanRefusal>
+        ensures trees { IfOk result (λ texts.
+            AreTreesFor program.now (texts_of self.now) (trees_of texts)) }
+        ensures fault { IfErr result (RefusesTexts program.now (texts_of self.now)) }
+    {
+        crate::texts::texts_of(alloc, &self.fields, program)
     }
 
     /// The settings of a run: the varied variables in order.

@@ -3,7 +3,9 @@
 
 pub mod experiment;
 pub mod faults;
+pub mod laws;
 pub mod numbers;
+pub mod texts;
 pub mod widgets;
 
 pub use experiment::Experiment;
@@ -12,6 +14,7 @@ pub use nl_fields::Fields;
 pub use nl_keys::PlanKind;
 pub use nl_lone::{Inner, InnerKind};
 pub use nl_sweep::{Choice, Setting, Settings, Varies, Vary};
+pub use texts::Texts;
 
 #[cfg(test)]
 mod tests;
