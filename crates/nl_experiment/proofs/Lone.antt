@@ -1,5 +1,5 @@
 -- Texts one after another.
-use Rattle.std.proofs.Common.{◌≡◌, ◌⊎◌, inl, inr, ℕ, ◌+◌, List, [], ◌∷◌, ◌++◌, length, Result, Ok, Err, append_assoc, subst, sym, arith}
+use Rattle.std.proofs.Common.{◌≡◌, inl, inr, ℕ, ◌+◌, List, [], ◌∷◌, ◌++◌, length, Result, Ok, Err, append_assoc, subst, sym, arith}
 use Rattle.std.specs.Prelude.{IfErr, IsErrAnd}
 use Rattle.std.proofs.lemmas.List.{append-nil}
 use Rattle.nl_fixed.specs.Nouns.{Bytes, Texts}
@@ -8,7 +8,7 @@ use Rattle.nl_tree.specs.Tree.{Node}
 use Rattle.nl_tree.specs.declared.declared.Form.TheVariants as form
 use Rattle.nl_fields.specs.Keys.{go_key, setup_key}
 use Rattle.nl_fields.specs.declared.fields.Fields.{Fields}
-use Rattle.nl_experiment.specs.Texts.{AreTreesFor, HasTree, IsBadText, IsFirstBad, IsTreeFor, LoneText, RefusesTexts, lone, metric, metrics_from, texts_of, until_texts}
+use Rattle.nl_experiment.specs.Texts.{AreTreesFor, IsFirstBad, IsTreeFor, LoneText, RefusesTexts, lone, metric, metrics_from, texts_of, until_texts}
 use Rattle.nl_experiment.specs.declared.faults.PlanFault.{PlanFault}
 use Rattle.nl_experiment.specs.declared.faults.PlanRefusal.{PlanRefusal}
 

@@ -1,4 +1,4 @@
-use Rattle.std.proofs.Common.{◌≡◌, ◌+◌, length, arith}
+use Rattle.std.proofs.Common.{◌+◌, arith}
 use Rattle.nl_tree.specs.Views.{plain}
 use Rattle.nl_experiment.specs.Texts.{metrics_from}
 use Rattle.nl_experiment.proofs.Lone.{counted_more, left_first, left_more}
