@@ -94,6 +94,14 @@ members_push g kind.Patch xs ms p m fit all here = pass_push (patch_in g) xs m f
 members_push g kind.Turtle xs ms p m fit all here = tt
 members_push g kind.Link xs ms p m fit all here = tt
 
+pub members_one : (g : Ground) (which : AgentKind) (ms : List ℕ) (p m : ℕ) → MembersFit g which ms → slice_get ms p ≡ Some m → MembersFit g which (m ∷ [])
+members_one g which ms p m all here = members_push g which [] ms p m (none_fit which) all here
+  where
+    none_fit : (k : AgentKind) → MembersFit g k []
+    none_fit kind.Patch = refl
+    none_fit kind.Turtle = tt
+    none_fit kind.Link = tt
+
 -- ---- as values
 
 pub listed_fits : (g : Ground) (which : AgentKind) (numbers : List ℕ) → MembersFit g which numbers → IsTrue (fits g (listed_value which numbers))

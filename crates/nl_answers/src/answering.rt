@@ -1,5 +1,5 @@
 //! Turns of members that run a block of one expression.
-ghost use Rattle.std.specs.Prelude.{◌≡◌, ◌<◌, ◌+◌, ◌∷◌, ◌++◌, ℕ, Some, drop, slice_get, IfOk, IfErr, IsTrue};
+ghost use Rattle.std.specs.Prelude.{◌≡◌, ◌<◌, ◌+◌, ◌∷◌, [], ◌++◌, ℕ, drop, IfOk, IfErr, IsTrue};
 ghost use Rattle.std.specs.List.{list_all};
 ghost use Rattle.nl_value.specs.Plain.{Plain};
 ghost use Rattle.nl_value.specs.Views.{plain};
@@ -26,23 +26,21 @@ use nl_frames::ends::fault;
 use nl_frames::{Answered, Answers, Exit, Frame, Gathered, Hands, Next, Turns};
 use nl_meaning::Site;
 use nl_turns::living::{first_living, owner_of};
-use nl_value::Value;
+use nl_value::{AgentKind, Value};
 use std::alloc::Global;
 
 // ---- who runs
 
-// The agent of a place among the members.
+// The agent that a member is.
 #[inline]
-fn agent_at<S: Store>(hands: &Hands<S>, turns: &Turns, member: u64, at: usize) -> Owner
-    requires member { slice_get turns.now.members at ≡ Some member }
-    requires turns { TurnsFit (ground hands.now) turns.now }
-    ensures owner { result ≡ owner_of turns.now.which member }
+fn agent_of<S: Store>(hands: &Hands<S>, which: AgentKind, member: u64) -> Owner
+    requires { MembersFit (ground hands.now) which (member ∷ []) }
+    ensures owner { result ≡ owner_of which member }
     ensures fits { IsTrue (agent_fits (ground hands.now) result) }
 {
     // What the numbers of patches rest on: the store stands for a world.
     let _stands = hands.stage.store.shape();
-    let _at = at;
-    owner_of(turns.which, member)
+    owner_of(which, member)
 }
 
 // A member runs, asked by whoever ran before all of them.
@@ -109,7 +107,7 @@ pub fn next_answer<S: Store>(
     let Some(block) = code.part(node, index) else {
         return Ok(Next::Answer(fault(ErrorKind::WrongType, code.span(node), hands.site)));
     };
-    let agent = agent_at(hands, &turns, member, at);
+    let agent = agent_of(hands, turns.which, member);
     run_as(hands, agent, turns.site);
     turns.at = at + 1;
     let frame = Frame::Answering {

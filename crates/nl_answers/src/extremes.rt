@@ -3,7 +3,7 @@ ghost use Rattle.std.specs.Prelude.{◌≡◌, ℕ, map, IfOk, IsTrue};
 ghost use Rattle.std.specs.List.{list_all};
 ghost use Rattle.nl_value.specs.Order.{count_of};
 ghost use Rattle.nl_value.specs.Views.{plain};
-ghost use Rattle.nl_meaning.specs.State.{State};
+ghost use Rattle.nl_code.specs.Code.{Code as Nodes};
 ghost use Rattle.nl_meaning.specs.Walks.{extremes, members_kept, one_extreme};
 ghost use Rattle.nl_frames.specs.inner.Seen.{answered};
 ghost use Rattle.nl_frames.specs.Means.{EndsAs, Stands};
@@ -13,7 +13,6 @@ ghost use Rattle.nl_answers.specs.Extremes.{beyond, IsBestOf};
 ghost use Rattle.nl_answers.specs.inner.Passes.{better};
 
 use nl_agents::Store;
-use nl_code::Code;
 use nl_fixed::{NoMemory, Num};
 use nl_frames::{Answered, Exit, Hands};
 use nl_query::agents::agent_or_nobody;
@@ -77,7 +76,6 @@ pub fn extremes(alloc: Global, up: bool, answers: &[Answered]) -> Result<Vec<u64
 /// One of the members with the greatest number, or with the least, by one draw; nobody where there is none.
 pub fn one_extreme<S: Store>(
     alloc: Global,
-    code: &Code,
     hands: &mut Hands<S>,
     which: AgentKind,
     up: bool,
@@ -85,14 +83,13 @@ pub fn one_extreme<S: Store>(
 ) -> Result<Exit, NoMemory>
     requires fit { HandsFit hands.old }
     requires members { MembersFit (ground hands.old) which (members_kept (map answered answers.now)) }
-    ensures meaning { IfOk result (λ exit. EndsAs code.now exit hands.new hands.old
+    ensures meaning { IfOk result (λ exit. (c : Nodes) → EndsAs c exit hands.new hands.old
         (λ s. one_extreme up which (map answered answers.now) s)) }
     ensures fits { IfOk result (λ exit. ExitFits (ground hands.new) exit) }
     ensures stands { IfOk result (λ exit. Stands hands.new hands.old) }
 {
     // What the numbers of patches rest on: the store stands for a world.
     let _stands = hands.stage.store.shape();
-    let _code = code;
     let members = extremes(alloc, up, answers)?;
     let chosen = hands.stage.stream.choose(&members);
     Ok(Exit::Gives(agent_or_nobody(which, chosen)))

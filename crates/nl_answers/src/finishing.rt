@@ -4,11 +4,12 @@ ghost use Rattle.std.specs.List.{list_all};
 ghost use Rattle.std.specs.List.Sorted.{IsStrictlyIncreasing};
 ghost use Rattle.nl_tree.specs.Tree.{span};
 ghost use Rattle.nl_code.specs.Code.{node_at};
+ghost use Rattle.nl_meaning.specs.State.{State};
 ghost use Rattle.nl_meaning.specs.Walks.{listed_extremes, listed_members, members_kept, value_of_one};
 ghost use Rattle.nl_frames.specs.Frames.{finished};
-ghost use Rattle.nl_frames.specs.Ground.{fits};
+ghost use Rattle.nl_frames.specs.Ground.{Ground, fits};
 ghost use Rattle.nl_frames.specs.Means.{EndsAs, Stands};
-ghost use Rattle.nl_frames.specs.Seen.{ground};
+ghost use Rattle.nl_frames.specs.Seen.{ended, ground};
 ghost use Rattle.nl_frames.specs.Standing.{ExitFits, HandsFit, MembersAscend, MembersFit};
 ghost use Rattle.nl_frames.specs.declared.turns.Gathered.TheVariants as gathered;
 
@@ -26,42 +27,23 @@ use nl_value::{AgentKind, Value};
 use std::alloc::Global;
 
 // The set of all members that answered.
-fn all_members<S: Store>(
-    alloc: Global,
-    code: &Code,
-    hands: &Hands<S>,
-    which: AgentKind,
-    made: &Answers,
-) -> Result<Exit, NoMemory>
-    requires ascend { IsStrictlyIncreasing (members_kept made.now) }
-    requires members { MembersFit (ground hands.now) which (members_kept made.now) }
-    ensures meaning { IfOk result (λ exit.
-        EndsAs code.now exit hands.now hands.now (listed_members which made.now)) }
-    ensures fits { IfOk result (λ exit. ExitFits (ground hands.now) exit) }
+fn all_members(alloc: Global, which: AgentKind, made: &Answers) -> Result<Exit, NoMemory>
+    requires { IsStrictlyIncreasing (members_kept made.now) }
+    ensures meaning { IfOk result (λ exit. (s : State) → ended exit s ≡ listed_members which made.now s) }
+    ensures fits { IfOk result (λ exit. (g : Ground) →
+        MembersFit g which (members_kept made.now) → ExitFits g exit) }
 {
-    let _code = code;
-    let _hands = hands;
     let members = members_of(alloc, made.as_slice())?;
     Ok(Exit::Gives(listed_value(which, members)))
 }
 
 // The set of the members with the greatest number, or with the least.
-fn all_extremes<S: Store>(
-    alloc: Global,
-    code: &Code,
-    hands: &Hands<S>,
-    which: AgentKind,
-    up: bool,
-    made: &Answers,
-) -> Result<Exit, NoMemory>
-    requires ascend { IsStrictlyIncreasing (members_kept made.now) }
-    requires members { MembersFit (ground hands.now) which (members_kept made.now) }
-    ensures meaning { IfOk result (λ exit.
-        EndsAs code.now exit hands.now hands.now (listed_extremes up which made.now)) }
-    ensures fits { IfOk result (λ exit. ExitFits (ground hands.now) exit) }
+fn all_extremes(alloc: Global, which: AgentKind, up: bool, made: &Answers) -> Result<Exit, NoMemory>
+    requires { IsStrictlyIncreasing (members_kept made.now) }
+    ensures meaning { IfOk result (λ exit. (s : State) → ended exit s ≡ listed_extremes up which made.now s) }
+    ensures fits { IfOk result (λ exit. (g : Ground) →
+        MembersFit g which (members_kept made.now) → ExitFits g exit) }
 {
-    let _code = code;
-    let _hands = hands;
     let members = extremes(alloc, up, made.as_slice())?;
     Ok(Exit::Gives(listed_value(which, members)))
 }
@@ -100,12 +82,12 @@ fn of_set<S: Store>(
     ensures stands { IfOk result (λ exit. Stands hands.new hands.old) }
 {
     match word {
-        Over::With => all_members(alloc, code, hands, which, &made),
+        Over::With => all_members(alloc, which, &made),
         Over::All => Ok(Exit::Gives(Value::Truth(true))),
-        Over::WithMax => all_extremes(alloc, code, hands, which, true, &made),
-        Over::WithMin => all_extremes(alloc, code, hands, which, false, &made),
-        Over::MaxOneOf => one_extreme(alloc, code, hands, which, true, made.as_slice()),
-        Over::MinOneOf => one_extreme(alloc, code, hands, which, false, made.as_slice()),
+        Over::WithMax => all_extremes(alloc, which, true, &made),
+        Over::WithMin => all_extremes(alloc, which, false, &made),
+        Over::MaxOneOf => one_extreme(alloc, hands, which, true, made.as_slice()),
+        Over::MinOneOf => one_extreme(alloc, hands, which, false, made.as_slice()),
         Over::SortOn => sorted_on(alloc, code, hands, node, which, made),
         _ => Ok(fault(ErrorKind::WrongType, code.span(node), hands.site)),
     }

@@ -9,7 +9,7 @@ ghost use Rattle.nl_agents.specs.Members.{is_listed};
 ghost use Rattle.nl_query.specs.Orders.{SameNumbers};
 ghost use Rattle.nl_birth.specs.Births as births;
 ghost use Rattle.nl_tree.specs.Tree.{span};
-ghost use Rattle.nl_code.specs.Code.{node_at};
+ghost use Rattle.nl_code.specs.Code.{Code as Nodes, node_at};
 ghost use Rattle.nl_meaning.specs.Walks.{at_stream, first_extremes, in_order_of_numbers, is_number, members_kept, some_extremes};
 ghost use Rattle.nl_frames.specs.inner.Seen.{answered};
 ghost use Rattle.nl_frames.specs.Means.{EndsAs, Stands};
@@ -134,7 +134,6 @@ fn mixed<S: Store>(hands: &mut Hands<S>, mut list: Vec<Answered>) -> Vec<Answere
 // So many members with the greatest numbers, or with the least, of members in a shuffled order.
 fn first_extremes<S: Store>(
     alloc: Global,
-    code: &Code,
     hands: &mut Hands<S>,
     which: AgentKind,
     up: bool,
@@ -144,12 +143,11 @@ fn first_extremes<S: Store>(
     requires fit { HandsFit hands.old }
     requires members { MembersFit (ground hands.old) which (members_kept answers) }
     requires ascend { IsStrictlyIncreasing (members_kept answers) }
-    ensures meaning { IfOk result (λ exit. EndsAs code.now exit hands.new hands.old
+    ensures meaning { IfOk result (λ exit. (c : Nodes) → EndsAs c exit hands.new hands.old
         (λ s. first_extremes up which count answers s)) }
     ensures fits { IfOk result (λ exit. ExitFits (ground hands.new) exit) }
     ensures stands { IfOk result (λ exit. Stands hands.new hands.old) }
 {
-    let _code = code;
     let members = members_of(alloc, answers.as_slice())?;
     let list = mixed(hands, answers.into_vec());
     let first = first_members(alloc, up, count, &list)?;
@@ -212,5 +210,5 @@ pub fn some_extremes<S: Store>(
     if is_below_zero(number) {
         return Ok(fault(ErrorKind::Domain, code.span(node), hands.site));
     }
-    first_extremes(alloc, code, hands, which, up, wanted as usize, answers)
+    first_extremes(alloc, hands, which, up, wanted as usize, answers)
 }

@@ -11,7 +11,7 @@ use Rattle.nl_frames.specs.Seen.{ended, ground, state_of}
 use Rattle.nl_frames.specs.declared.exits.Exit.{Exit}
 use Rattle.nl_turns.specs.Turning.{first_of}
 use Rattle.nl_answers.proofs.Collecting.{members_ascend_on, place_below}
-use Rattle.nl_answers.proofs.Fitting.{ascend_front, members_push}
+use Rattle.nl_answers.proofs.Fitting.{ascend_front, members_one, members_push}
 use Rattle.nl_answers.proofs.Turning.{all_answered, no_block, place_read, turn_wanted}
 use Rattle.nl_answers.proofs.answering.next_answer.Goals as goal
 
@@ -52,11 +52,14 @@ returns-in_default-part-clause-meaning g c = λ prev units thrifty.
     ∙ no_block code prev c.args.node c.args.index c.args.word c.args.gathered turns c.args.made s c.in-Some.at member c.first_living.result
     c.in-Some.is (c.first_living.ensures ∙ ap (λ (l : List ℕ). option_map (λ i. turns.at + i) (first_of r turns.which (drop turns.at l))) c.as_slice-members.ensures) there c.in_default-part.ensures.value
 
-pub agent_at-agent-requires-clause-member : goal.agent_at-agent-requires-clause-member
-agent_at-agent-requires-clause-member g c =
+pub agent_of-agent-requires : goal.agent_of-agent-requires
+agent_of-agent-requires g c =
+    let turns = c.args.turns in
     let ms = c.as_slice-members.result.now in
-    ap (λ (l : List ℕ). slice_get l c.in-Some.at) (sym c.as_slice-members.ensures)
-    ∙ place_read ms c.in-Some.at (place_below (g.S.Store.world c.args.hands.now.stage.store).rest c.args.turns.which ms c.args.turns.at c.in-Some.at c.first_living.result c.in-Some.is c.first_living.ensures)
+    let place = c.in-Some.at in
+    let inside = place_below (g.S.Store.world c.args.hands.now.stage.store).rest turns.which ms turns.at place c.first_living.result c.in-Some.is c.first_living.ensures in
+    members_one (ground c.args.hands.now) turns.which turns.members place (get_or ms place 0) c.requires.turns.members
+    (ap (λ (l : List ℕ). slice_get l place) (sym c.as_slice-members.ensures) ∙ place_read ms place inside)
 
 pub overflow_add-turns : goal.overflow_add-turns
 overflow_add-turns g c =
@@ -75,8 +78,8 @@ returns-clause-meaning g c = λ prev units thrifty.
     ap (λ (l : List ℕ). slice_get l place) (sym c.as_slice-members.ensures) ∙ place_read ms place (place_below r turns.which ms turns.at place c.first_living.result c.in-Some.is c.first_living.ensures) in
     let first = c.first_living.ensures ∙ ap (λ (l : List ℕ). option_map (λ i. turns.at + i) (first_of r turns.which (drop turns.at l))) c.as_slice-members.ensures in
     turn_wanted code prev c.args.node c.args.index c.args.word c.args.gathered turns c.args.made (state_of code.names c.args.hands.now units)
-    (state_of code.names c.run_as.new.hands units) place member c.in-Some-part.block c.agent_at-agent.result c.first_living.result c.in-Some.is first there
-    c.in-Some-part.ensures.value c.agent_at-agent.ensures.owner (c.run_as.ensures.state code units)
+    (state_of code.names c.run_as.new.hands units) place member c.in-Some-part.block c.agent_of-agent.result c.first_living.result c.in-Some.is first there
+    c.in-Some-part.ensures.value c.agent_of-agent.ensures.owner (c.run_as.ensures.state code units)
 
 pub returns-clause-fits : goal.returns-clause-fits
 returns-clause-fits g c =

@@ -20,8 +20,8 @@ agent_or_nobody-requires g c =
     (subst (λ (l : List ℕ). MatchOption c.choose-chosen.result (l ≡ []) (Contains l)) (c.deref.ensures.value ∙ c.in_ok-members.ensures) c.choose-chosen.ensures.member)
 
 pub returns-clause-meaning : goal.returns-clause-meaning
-returns-clause-meaning g c = λ units.
-    extreme_given c.args.up c.args.which (map answered c.args.answers.now) (state_of c.args.code.now.names c.args.hands.now units) c.deref.result.now c.choose-chosen.result _ _
+returns-clause-meaning g c = λ code units.
+    extreme_given c.args.up c.args.which (map answered c.args.answers.now) (state_of code.names c.args.hands.now units) c.deref.result.now c.choose-chosen.result _ _
     (c.deref.ensures.value ∙ c.in_ok-members.ensures) c.agent_or_nobody.ensures c.choose-chosen.ensures.choice c.choose-chosen.ensures.state
 
 pub returns-clause-fits : goal.returns-clause-fits

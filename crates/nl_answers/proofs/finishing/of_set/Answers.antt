@@ -6,7 +6,7 @@ use Rattle.nl_code.specs.Code.{node_at}
 use Rattle.nl_code.specs.declared.words.Over.{Over}
 use Rattle.nl_meaning.specs.Walks.{Answer, one_extreme}
 use Rattle.nl_frames.specs.Frames.{finished}
-use Rattle.nl_frames.specs.Seen.{state_of}
+use Rattle.nl_frames.specs.Seen.{ground, state_of}
 use Rattle.nl_frames.specs.declared.turns.Gathered.TheVariants as gathered
 use Rattle.nl_answers.proofs.finishing.of_set.Goals as goal
 
@@ -15,7 +15,7 @@ returns-in-With-clause-meaning g c =
     IfOk-weaker c.all_members.result _ _
     (λ exit meant. λ units.
     let s = state_of c.args.code.now.names c.args.hands.now units in
-    meant units ∙ sym (ap (λ (word : Over). finished (gathered.OfSet word) c.args.which (span (node_at c.args.code.now c.args.node)) c.args.made s) c.in-With.is))
+    meant s ∙ sym (ap (λ (word : Over). finished (gathered.OfSet word) c.args.which (span (node_at c.args.code.now c.args.node)) c.args.made s) c.in-With.is))
     c.all_members.ensures.meaning
 
 pub returns-in-WithMax-clause-meaning : goal.returns-in-WithMax-clause-meaning
@@ -23,7 +23,7 @@ returns-in-WithMax-clause-meaning g c =
     IfOk-weaker c.all_extremes.result _ _
     (λ exit meant. λ units.
     let s = state_of c.args.code.now.names c.args.hands.now units in
-    meant units ∙ sym (ap (λ (word : Over). finished (gathered.OfSet word) c.args.which (span (node_at c.args.code.now c.args.node)) c.args.made s) c.in-WithMax.is))
+    meant s ∙ sym (ap (λ (word : Over). finished (gathered.OfSet word) c.args.which (span (node_at c.args.code.now c.args.node)) c.args.made s) c.in-WithMax.is))
     c.all_extremes.ensures.meaning
 
 pub returns-in-WithMin-clause-meaning : goal.returns-in-WithMin-clause-meaning
@@ -31,7 +31,7 @@ returns-in-WithMin-clause-meaning g c =
     IfOk-weaker c.all_extremes-in-WithMin.result _ _
     (λ exit meant. λ units.
     let s = state_of c.args.code.now.names c.args.hands.now units in
-    meant units ∙ sym (ap (λ (word : Over). finished (gathered.OfSet word) c.args.which (span (node_at c.args.code.now c.args.node)) c.args.made s) c.in-WithMin.is))
+    meant s ∙ sym (ap (λ (word : Over). finished (gathered.OfSet word) c.args.which (span (node_at c.args.code.now c.args.node)) c.args.made s) c.in-WithMin.is))
     c.all_extremes-in-WithMin.ensures.meaning
 
 pub returns-in-MaxOneOf-clause-meaning : goal.returns-in-MaxOneOf-clause-meaning
@@ -39,7 +39,7 @@ returns-in-MaxOneOf-clause-meaning g c =
     IfOk-weaker c.one_extreme.result _ _
     (λ exit meant. λ units.
     let s = state_of c.args.code.now.names c.args.hands.now units in
-    meant units
+    meant c.args.code.now units
     ∙ ap (λ (made : List Answer). one_extreme true c.args.which made s) c.as_slice.ensures
     ∙ sym (ap (λ (word : Over). finished (gathered.OfSet word) c.args.which (span (node_at c.args.code.now c.args.node)) c.args.made s) c.in-MaxOneOf.is))
     c.one_extreme.ensures.meaning
@@ -49,7 +49,7 @@ returns-in-MinOneOf-clause-meaning g c =
     IfOk-weaker c.one_extreme-in-MinOneOf.result _ _
     (λ exit meant. λ units.
     let s = state_of c.args.code.now.names c.args.hands.now units in
-    meant units
+    meant c.args.code.now units
     ∙ ap (λ (made : List Answer). one_extreme false c.args.which made s) c.as_slice-in-MinOneOf.ensures
     ∙ sym (ap (λ (word : Over). finished (gathered.OfSet word) c.args.which (span (node_at c.args.code.now c.args.node)) c.args.made s) c.in-MinOneOf.is))
     c.one_extreme-in-MinOneOf.ensures.meaning
@@ -61,3 +61,12 @@ returns-in-SortOn-clause-meaning g c =
     let s = state_of c.args.code.now.names c.args.hands.now units in
     meant units ∙ sym (ap (λ (word : Over). finished (gathered.OfSet word) c.args.which (span (node_at c.args.code.now c.args.node)) c.args.made s) c.in-SortOn.is))
     c.sorted_on.ensures.meaning
+
+pub returns-in-With-clause-fits : goal.returns-in-With-clause-fits
+returns-in-With-clause-fits g c = IfOk-weaker c.all_members.result _ _ (λ exit fit. fit (ground c.args.hands.now) c.requires.members) c.all_members.ensures.fits
+
+pub returns-in-WithMax-clause-fits : goal.returns-in-WithMax-clause-fits
+returns-in-WithMax-clause-fits g c = IfOk-weaker c.all_extremes.result _ _ (λ exit fit. fit (ground c.args.hands.now) c.requires.members) c.all_extremes.ensures.fits
+
+pub returns-in-WithMin-clause-fits : goal.returns-in-WithMin-clause-fits
+returns-in-WithMin-clause-fits g c = IfOk-weaker c.all_extremes-in-WithMin.result _ _ (λ exit fit. fit (ground c.args.hands.now) c.requires.members) c.all_extremes-in-WithMin.ensures.fits

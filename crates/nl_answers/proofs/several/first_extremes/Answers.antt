@@ -22,8 +22,8 @@ listed_value-requires g c =
     (subst (λ (ms : List ℕ). IsStrictlyIncreasing ms) (sym (c.deref-2.ensures.value ∙ c.in_ok-members.ensures ∙ ap members_kept c.as_slice.ensures)) c.requires.ascend))
 
 pub returns-clause-meaning : goal.returns-clause-meaning
-returns-clause-meaning g c = λ units.
-    let names = c.args.code.now.names in
+returns-clause-meaning g c = λ code units.
+    let names = code.names in
     let s = state_of names c.args.hands.now units in
     let list = c.into_vec.result.items in
     ap (λ (x : State). gives (plain c.listed_value.result) x) (c.mixed-list.ensures.state names units)

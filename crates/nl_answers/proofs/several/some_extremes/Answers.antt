@@ -12,7 +12,7 @@ pub returns-clause-meaning : goal.returns-clause-meaning
 returns-clause-meaning g c =
     IfOk-weaker c.first_extremes.result _ _
     (λ exit meant. λ units.
-    meant units
+    meant c.args.code.now units
     ∙ enough_given c.args.up c.args.which c.args.number c.args.answers (span (node_at c.args.code.now c.args.node)) (state_of c.args.code.now.names c.args.hands.now units)
     c.wanted_of-wanted.result c.wanted_of-wanted.ensures c.numbers_in.result (c.numbers_in.ensures ∙ ap (λ (xs : List Answer). length (filter is_number xs)) c.as_slice.ensures)
     c.if-numbers_in-wanted.false c.is_below_zero.result c.is_below_zero.ensures c.if-is_below_zero.false)
