@@ -10,3 +10,5 @@ pub mod orders;
 pub mod replies;
 pub mod sets;
 pub mod several;
+#[cfg(test)]
+mod tests;

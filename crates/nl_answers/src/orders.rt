@@ -56,8 +56,8 @@ fn all_have_order<L: Life>(kind: OrderKind, answers: &[Answered], life: &L) -> b
     true
 }
 
-// Whether all values have an order with the first one.
-fn are_comparable<L: Life>(answers: &[Answered], life: &L) -> bool
+/// Whether all values have an order with the first one.
+pub fn are_comparable<L: Life>(answers: &[Answered], life: &L) -> bool
     ensures { result ≡ are_comparable (L.living life.now) (map answered answers.now) }
 {
     match answers {
@@ -114,8 +114,8 @@ fn agents_of(alloc: Global, all: Vec<Placed>) -> Result<Items, NoMemory>
     Ok(Items::of_vec(agents))
 }
 
-// The agents in the order of what they answered; those with equal values in the order of agents.
-fn in_order<L: Life>(
+/// The agents in the order of what they answered; those with equal values in the order of agents.
+pub fn in_order<L: Life>(
     alloc: Global,
     which: AgentKind,
     answers: Answers,

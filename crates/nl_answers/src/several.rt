@@ -89,8 +89,8 @@ fn members_in(alloc: Global, ranks: &[Ranked]) -> Result<Vec<u64>, NoMemory>
     Ok(members)
 }
 
-// So many members whose numbers come first.
-fn first_members(
+/// So many members whose numbers come first, in ascending order.
+pub fn first_members(
     alloc: Global,
     up: bool,
     count: usize,
