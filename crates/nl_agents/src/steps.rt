@@ -4,7 +4,7 @@ ghost use Rattle.std.specs.Prelude.{◌≡◌, ◌+◌, ◌<◌};
 use std::marker::Model;
 use std::sync::ledger::{Blank, Book, Ledger, Share};
 
-/// How many records of agents were read, for any ledger L. It takes no bytes, and nothing but a read of a record makes it rise.
+/// How many records of agents were read, for any ledger L. It takes no bytes. What reads a record ticks it once for each.
 #[derive(Drop)]
 pub struct Steps<L: Ledger> {
     book: Book<L>,
@@ -31,5 +31,12 @@ impl<L: Ledger> Steps<L> {
     {
         let (book, share) = blank.open::<L>();
         Steps { book, share }
+    }
+
+    /// Counts one read.
+    pub fn tick(&mut self)
+        ensures { self.new ≡ self.old + 1 }
+    {
+        self.book.add(&mut self.share, 1);
     }
 }

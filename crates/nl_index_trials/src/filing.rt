@@ -4,11 +4,11 @@ ghost use Rattle.nl_grid.specs.Geometry.{IsPointOf};
 ghost use Rattle.nl_records.specs.Records.{record_at, fields_at};
 ghost use Rattle.nl_index.specs.Index.{HasBreedChain, IsTurtle, StandsOn};
 
-use nl_agents::Variables;
+use nl_agents::{Steps, Variables};
 use nl_fixed::NoMemory;
 use nl_grid::{Point, Shape};
 use nl_index::{Chain, Chains};
-use nl_records::{Body, Fields, Record, Records, Steps};
+use nl_records::{Body, Fields, Record, Records};
 use std::alloc::Global;
 use std::marker::{Brand, Model};
 use std::sync::ledger::{Blank, Ledger};

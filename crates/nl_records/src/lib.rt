@@ -5,7 +5,6 @@ pub mod fields;
 pub mod places;
 pub mod record;
 pub mod records;
-pub mod steps;
 #[cfg(test)]
 mod tests;
 
@@ -13,4 +12,3 @@ pub use fields::{Body, Fields};
 pub use places::{Border, place_at, set_next, set_place, set_previous};
 pub use record::{Place, Record};
 pub use records::Records;
-pub use steps::Steps;

@@ -6,7 +6,7 @@ ghost use Rattle.nl_records.specs.declared.places.Border.{Border};
 
 use crate::record::Place;
 use crate::records::Records;
-use crate::steps::Steps;
+use nl_agents::Steps;
 use std::marker::Brand;
 use std::sync::ledger::{Blank, Ledger};
 

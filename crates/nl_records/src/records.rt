@@ -5,7 +5,7 @@ ghost use Rattle.nl_records.specs.Records.{record_at, fields_at, HasRoom, SameRe
 
 use crate::fields::{Body, Fields};
 use crate::record::{Place, Record};
-use crate::steps::Steps;
+use nl_agents::Steps;
 use nl_fixed::NoMemory;
 use slab::Slab;
 use std::alloc::Global;

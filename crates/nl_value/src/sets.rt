@@ -51,6 +51,14 @@ impl Serials {
         self.list.as_slice()
     }
 
+    /// The numbers, ascending, as a vector, without a copy.
+    pub fn into_vec(self) -> Vec<u64>
+        ensures value { result.items ≡ self }
+        ensures ascending { IsStrictlyIncreasing self }
+    {
+        self.list
+    }
+
     /// How many numbers there are.
     pub fn len(&self) -> usize
         ensures { result ≡ length self.now }
