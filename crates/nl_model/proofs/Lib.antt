@@ -1,0 +1,6 @@
+pub mod Widgets
+pub mod Programs
+pub mod OneFault
+pub mod OneVerdict
+pub mod EachVerdict
+pub mod FirstBytes

@@ -1,0 +1,5 @@
+pub mod ModelFault
+pub mod Verdict
+pub mod FaultText
+pub mod Laws
+pub mod inner

@@ -1,0 +1,2 @@
+-- What the parts of the reading of a program owe to each other.
+pub mod ProgramParts
