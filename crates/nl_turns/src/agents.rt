@@ -60,14 +60,6 @@ pub fn members<S: Store>(alloc: Global, set: &AgentSet, store: &S) -> Result<Ser
     members_by::<S, Brand>(alloc, Blank::new(1), set, store)
 }
 
-/// The numbers of a list as a vector.
-pub fn numbers_of(alloc: Global, numbers: &Serials) -> Result<Vec<u64>, NoMemory>
-    ensures { IfOk result (λ list. list.items ≡ numbers.now) }
-{
-    let list = numbers.as_slice().to_vec(alloc)?;
-    Ok(list)
-}
-
 // The same as a list of turns.
 fn in_order<S: Store>(alloc: Global, set: &AgentSet, store: &S) -> Result<Walk, NoMemory>
     requires { IsTrue (set_fits (S.world store.now).rest set.now) }
@@ -77,8 +69,7 @@ fn in_order<S: Store>(alloc: Global, set: &AgentSet, store: &S) -> Result<Walk, 
     ensures ascend { IfOk result (λ walk. IsStrictlyIncreasing walk) }
 {
     let members = members(alloc, set, store)?;
-    let list = numbers_of(alloc, &members)?;
-    Ok(Walk::of_vec(list))
+    Ok(Walk::of_vec(members.into_vec()))
 }
 
 /// The agents in random order: one shuffle of them.
@@ -111,8 +102,7 @@ fn shuffled_set<S: Store>(
     ensures stands { Stands hands.new hands.old }
 {
     let members = members(alloc, set, &hands.stage.store)?;
-    let list = numbers_of(alloc, &members)?;
-    Ok(mixed(hands, list))
+    Ok(mixed(hands, members.into_vec()))
 }
 
 // ---- who is asked

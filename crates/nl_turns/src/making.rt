@@ -21,7 +21,7 @@ ghost use Rattle.nl_frames.specs.Work.{frame_work, next_work};
 ghost use Rattle.nl_frames.specs.declared.frames.Frame.TheVariants as frame;
 ghost use Rattle.nl_turns.specs.Births.{as_told, Makes};
 
-use crate::agents::{members, mixed, numbers_of};
+use crate::agents::{members, mixed};
 use crate::walking::next_turn;
 use nl_acts::{ActFail, ErrorKind};
 use nl_agents::{Owner, Store};
@@ -299,26 +299,25 @@ fn kind_made(word: Making) -> AgentKind
 
 // The new ones run the block, where there is one, in random order.
 fn run_by_new<S: Store>(
-    alloc: Global,
     code: &Code,
     hands: &mut Hands<S>,
     node: u32,
     which: AgentKind,
     made: Serials,
-) -> Result<Next, NoMemory>
+) -> Next
     requires made { (numbers : List ℕ) → MembersFit (ground hands.old) which numbers }
     requires fit { HandsFit hands.old }
     ensures meaning { let t = node_at code.now node in
-        IfOk result (λ next. Means code.now next hands.new hands.old
-        (λ prev s. run_by_new prev t 1 which made (slice_get (parts t) 1) s)) }
-    ensures falls { IfOk result (λ next. next_work code.now next ≡ 0) }
-    ensures fits { IfOk result (λ next. NextFits (ground hands.new) next) }
-    ensures stands { IfOk result (λ next. Stands hands.new hands.old) }
+        Means code.now result hands.new hands.old
+        (λ prev s. run_by_new prev t 1 which made (slice_get (parts t) 1) s) }
+    ensures falls { next_work code.now result ≡ 0 }
+    ensures fits { NextFits (ground hands.new) result }
+    ensures stands { Stands hands.new hands.old }
 {
     let Some(_block) = code.part(node, 1) else {
-        return Ok(Next::Answer(Exit::Gives(Value::Nobody)));
+        return Next::Answer(Exit::Gives(Value::Nobody));
     };
-    let list = numbers_of(alloc, &made)?;
+    let list = made.into_vec();
     let members = mixed(hands, list);
     let turns = Turns {
         which,
@@ -326,7 +325,7 @@ fn run_by_new<S: Store>(
         at: 0,
         site: hands.site,
     };
-    Ok(next_turn(code, hands, node, 1, turns))
+    next_turn(code, hands, node, 1, turns)
 }
 
 /// A dead agent leaves; else the agents are made, all of them before the block is run.
@@ -359,7 +358,7 @@ pub fn resume_making<S: Store>(
         return Ok(Next::Answer(exit));
     }
     match made_of(alloc, hands, word, breed, runs, value) {
-        Ok(made) => run_by_new(alloc, code, hands, node, kind_made(word), made),
+        Ok(made) => Ok(run_by_new(code, hands, node, kind_made(word), made)),
         Err(ActFail::Error(kind)) => { Ok(Next::Answer(fault(kind, code.span(node), hands.site))) }
         Err(ActFail::NoMemory) => Err(NoMemory),
     }

@@ -11,5 +11,5 @@ use Rattle.nl_turns.proofs.agents.in_order.Goals as goal
 pub returns-clause-fits : goal.returns-clause-fits
 returns-clause-fits g c =
     let r = (g.S.Store.world c.args.store.now).rest in
-    let same : members_of r c.args.set.now ≡ c.of_vec.result = sym (c.of_vec.ensures ∙ c.in_ok-list.ensures ∙ c.in_ok-members.ensures) in
+    let same : members_of r c.args.set.now ≡ c.of_vec.result = sym (c.of_vec.ensures ∙ c.into_vec.ensures.value ∙ c.in_ok-members.ensures) in
     subst (λ (xs : List ℕ). MembersFit (ground_of r) (set_kind c.args.set.now) xs) same (members_fit r c.args.set.now)

@@ -14,13 +14,13 @@ use Rattle.nl_turns.proofs.agents.shuffled_set.Goals as goal
 pub returns-clause-fits : goal.returns-clause-fits
 returns-clause-fits g c =
     let r = (g.S.Store.world c.args.hands.now.stage.store).rest in
-    let same : c.in_ok-list.list.items ≡ members_of r c.args.set.now = c.in_ok-list.ensures ∙ c.in_ok-members.ensures in
+    let same : c.into_vec.result.items ≡ members_of r c.args.set.now = c.into_vec.ensures.value ∙ c.in_ok-members.ensures in
     subst (λ (now : Ground). MembersFit now (set_kind c.args.set.now) c.mixed.result) (sym c.mixed.ensures.stands.same)
     (mixed_fit r c.args.set.now c.mixed.result (subst (λ (xs : List ℕ). IsPermutation xs c.mixed.result) same c.mixed.ensures.members))
 
 pub returns-clause-state : goal.returns-clause-state
 returns-clause-state g c = λ names units.
     let r = (g.S.Store.world c.args.hands.now.stage.store).rest in
-    let same : c.in_ok-list.list.items ≡ members_of r c.args.set.now = c.in_ok-list.ensures ∙ c.in_ok-members.ensures in
+    let same : c.into_vec.result.items ≡ members_of r c.args.set.now = c.into_vec.ensures.value ∙ c.in_ok-members.ensures in
     c.mixed.ensures.state names units
     ∙ ap (λ (xs : List ℕ). at_stream (shuffled xs c.args.hands.now.stage.stream).1 (state_of names c.args.hands.now units)) same

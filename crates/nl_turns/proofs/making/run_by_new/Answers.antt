@@ -17,9 +17,9 @@ returns-clause-meaning g c = λ prev units thrifty.
     let which = c.args.which in
     let s = state_of code.names hands units in
     let stream = hands.stage.stream in
-    let items = c.in_ok-list.list.items in
+    let items = c.into_vec-list.result.items in
     c.next_turn.ensures.meaning prev units thrifty
     ∙ ap (λ (x : State). walk prev t 1 x.site which c.mixed-members.result x) (c.mixed-members.ensures.state code.names units)
     ∙ ap (λ (ms : List ℕ). walk prev t 1 hands.site which ms (at_stream (shuffled items stream).1 s)) c.mixed-members.ensures.walk
-    ∙ ap (λ (l : List ℕ). walk_group prev t 1 (record { which = which; numbers = (shuffled l stream).0 }) (at_stream (shuffled l stream).1 s)) c.in_ok-list.ensures
+    ∙ ap (λ (l : List ℕ). walk_group prev t 1 (record { which = which; numbers = (shuffled l stream).0 }) (at_stream (shuffled l stream).1 s)) c.into_vec-list.ensures.value
     ∙ ap (λ (o : Option Node). run_by_new prev t 1 which c.args.made o s) c.in-Some.ensures.value
