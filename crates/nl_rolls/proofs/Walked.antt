@@ -1,7 +1,8 @@
 -- Lists of keys that have just the items that pass a test, and the numbers of these items in order.
 use Rattle.std.proofs.Common.{◌≡◌, ◌≢◌, ℕ, zero, suc, ◌+◌, ◌<◌, ◌≤◌, Bool, true, false, List, [], ◌∷◌, ◌++◌, length, map, filter, find, Option, Some, None, eqb, cond, refl, sym, ap, ◌∙◌, inl, inr, arith, subst}
+use Rattle.std.specs.Prelude.{slice_index}
 use Rattle.std.specs.Option.{option_map}
-use Rattle.std.specs.List.Sorted.{IsPermutation, IsNonDecreasing}
+use Rattle.std.specs.List.Sorted.{IsPermutation, IsNonDecreasing, IsStrictlyIncreasing}
 use Rattle.std.proofs.lemmas.Grind.{common_steps}
 use Rattle.std.proofs.lemmas.Bool.{cases_eq}
 use Rattle.nl_threads.specs.Threads.{has, IsOnce, without}
@@ -74,6 +75,15 @@ module _ (f : ℕ → ℕ) where
   pub mapped-rising : (ks : List ℕ) → IsRisingBy f ks → IsRisingBy (λ m. m) (map f ks)
   mapped-rising [] r = tt
   mapped-rising (k ∷ ks) r = (λ y h. (let z = mapped-from ks y h in let l = r.0 z.0 z.1 in subst (λ m. f k < m) z.2 l), mapped-rising ks r.1)
+
+-- numbers that rise increase
+pub rising-increasing : (xs : List ℕ) → IsRisingBy (λ m. m) xs → IsStrictlyIncreasing xs
+rising-increasing [] r k l = absurd (omega arith)
+rising-increasing (x ∷ []) r k l = absurd (omega arith)
+rising-increasing (x ∷ y ∷ ys) r zero l = r.0 y (has-first y ys)
+rising-increasing (x ∷ y ∷ ys) r (suc k) l =
+    let e : suc (k + 1) ≡ suc k + 1 = omega arith in
+    subst (λ m. slice_index (y ∷ ys) k < slice_index (x ∷ y ∷ ys) m) e (rising-increasing (y ∷ ys) r.1 k (omega arith))
 
 -- ---- the keys of the items that pass a test
 
