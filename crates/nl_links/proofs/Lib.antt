@@ -1,0 +1,4 @@
+pub mod Borders
+pub mod Filters
+pub mod Holding
+pub mod Joins
