@@ -18,3 +18,5 @@ pub use texts::Texts;
 
 #[cfg(test)]
 mod tests;
+#[cfg(test)]
+mod text_tests;

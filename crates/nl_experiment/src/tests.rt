@@ -2,6 +2,7 @@
 ghost use Rattle.nl_experiment.specs.Numbers.{AreDigits};
 
 use crate::{Experiment, PlanKind, PlanRefusal};
+use nl_fixed::{NoMemory, Str};
 use nl_sweep::Setting;
 use nl_value::Value;
 use std::alloc::Global;
@@ -56,6 +57,18 @@ const DOCUMENTS: &[(&str, Said)] = &[
     ),
     (
         "name = \"x\"\n[world]\nmin-pxcor = 1\n[[vary]]\nname = \"a\"\nfrom = 1\nstep = 1\nto = 100001",
+        Said::Fault(PlanKind::TooManyRuns, "vary"),
+    ),
+    (
+        "name = \"x\"\n[[vary]]\nname = \"a\"\nfrom = 1\nstep = 1\nto = 100001\n[[vary]]\nname = \"b\"",
+        Said::Fault(PlanKind::BadLiteral, "vary 2.values"),
+    ),
+    (
+        "name = \"x\"\nrepetitions = 100000\n[[vary]]\nname = \"a\"\nvalues = [1]",
+        Said::Read,
+    ),
+    (
+        "name = \"x\"\nrepetitions = 100000\n[[vary]]\nname = \"a\"\nvalues = [1, 1]",
         Said::Fault(PlanKind::TooManyRuns, "vary"),
     ),
     (
@@ -257,4 +270,37 @@ fn last(alloc: Global) -> Option<(i64, i64)> {
 #[test]
 fn the_last_of_many_runs_has_the_last_values(rt: HostRuntime) {
     assert_eq!(rt; last(rt.alloc()), Some((1_000, 100)));
+}
+
+// A document of so many globals and as many other names that are varied.
+fn many(alloc: Global, count: usize) -> Result<Str, NoMemory> {
+    let mut text = Str::of(alloc, b"name = \"x\"\n[globals]\n")?;
+    for n in 0..count {
+        let line = format!(in alloc; "g{n} = {n}\n")?;
+        text.append(alloc, line.as_bytes())?;
+    }
+    for n in 0..count {
+        let entry = format!(in alloc; "[[vary]]\nname = \"v{n}\"\nvalues = [{n}]\n")?;
+        text.append(alloc, entry.as_bytes())?;
+    }
+    Ok(text)
+}
+
+// How many widgets there are, and how many settings the first run has.
+fn counts(alloc: Global, count: usize) -> Option<(usize, usize)> {
+    let text = many(alloc, count).ok()?;
+    let experiment = Experiment::read(alloc, text.as_bytes()).ok()?;
+    if experiment.runs() < 1 {
+        return None;
+    }
+    let settings = experiment.settings(alloc, 1).ok()?;
+    Some((
+        experiment.widgets().as_slice().len(),
+        settings.as_slice().len(),
+    ))
+}
+
+#[test]
+fn many_names_are_widgets_and_settings(rt: HostRuntime) {
+    assert_eq!(rt; counts(rt.alloc(), 2_000), Some((4_000, 2_000)));
 }

@@ -14,4 +14,6 @@ pub mod worlds;
 pub use fields::{Fields, fields_of};
 
 #[cfg(test)]
+mod fault_tests;
+#[cfg(test)]
 mod tests;

@@ -9,7 +9,7 @@ use std::alloc::Global;
 
 // What a document comes to.
 #[derive(Clone, Copy, Debug, PartialEq, Eq)]
-enum Said {
+pub(crate) enum Said {
     Read,
     Fault(PlanKind, &'static str),
 }
@@ -21,8 +21,8 @@ fn is_fault(refusal: &KeyRefusal, kind: PlanKind, key: &str) -> bool {
     }
 }
 
-fn says(alloc: Global, document: &str, wanted: Said) -> bool {
-    match (fields_of(alloc, document.as_bytes()), wanted) {
+pub(crate) fn says(alloc: Global, document: &[u8], wanted: Said) -> bool {
+    match (fields_of(alloc, document), wanted) {
         (Ok(_), Said::Read) => true,
         (Err(refusal), Said::Fault(kind, key)) => is_fault(&refusal, kind, key),
         _ => false,
@@ -299,7 +299,10 @@ const DOCUMENTS: &[(&str, Said)] = &[
 #[test]
 fn documents_are_read_or_have_a_first_fault(rt: HostRuntime) {
     for (document, wanted) in DOCUMENTS {
-        assert!(rt; says(rt.alloc(), document, *wanted), "{document}");
+        assert!(rt;
+            says(rt.alloc(), document.as_bytes(), *wanted),
+            "{document}"
+        );
     }
 }
 
@@ -426,4 +429,86 @@ fn counts(alloc: Global, count: usize) -> Option<(usize, usize)> {
 #[test]
 fn many_globals_and_entries_are_read(rt: HostRuntime) {
     assert_eq!(rt; counts(rt.alloc(), 2_000), Some((2_000, 2_000)));
+}
+
+// So many times one text between two others.
+fn repeated(
+    alloc: Global,
+    first: &[u8],
+    text: &[u8],
+    times: usize,
+    last: &[u8],
+) -> Result<Str, NoMemory> {
+    let mut whole = Str::of(alloc, first)?;
+    for _ in 0..times {
+        whole.append(alloc, text)?;
+    }
+    whole.append(alloc, last)?;
+    Ok(whole)
+}
+
+// What a global is told whose text has so many letters.
+fn letters_say(alloc: Global, times: usize, wanted: Said) -> bool {
+    match repeated(
+        alloc,
+        b"name = \"x\"\nglobals.a = '\"",
+        b"x",
+        times,
+        b"\"'\n",
+    ) {
+        Ok(document) => says(alloc, document.as_bytes(), wanted),
+        Err(_) => false,
+    }
+}
+
+// And one whose lists nest so often.
+fn lists_say(alloc: Global, times: usize, wanted: Said) -> bool {
+    let Ok(opened) = repeated(alloc, b"name = \"x\"\nglobals.a = \"", b"[", times, b"") else {
+        return false;
+    };
+    match repeated(alloc, opened.as_bytes(), b"]", times, b"\"\n") {
+        Ok(document) => says(alloc, document.as_bytes(), wanted),
+        Err(_) => false,
+    }
+}
+
+#[test]
+fn literals_are_read_up_to_the_limits_on_values(rt: HostRuntime) {
+    let alloc = rt.alloc();
+    let bad = Said::Fault(PlanKind::BadLiteral, "globals.a");
+    assert!(rt; letters_say(alloc, 999_999, Said::Read));
+    assert!(rt; letters_say(alloc, 1_000_000, bad));
+    assert!(rt; lists_say(alloc, 200, Said::Read));
+    assert!(rt; lists_say(alloc, 201, bad));
+}
+
+// The lengths of the text at `setup` and of the list of metrics.
+fn lengths(alloc: Global, document: &Str) -> Option<(usize, usize)> {
+    let fields = fields_of(alloc, document.as_bytes()).ok()?;
+    Some((
+        fields.setup.as_bytes().len(),
+        fields.metrics.as_slice().len(),
+    ))
+}
+
+// A text of so many letters, and as many metrics.
+fn long(alloc: Global, letters: usize, metrics: usize) -> Option<(usize, usize)> {
+    let text = repeated(
+        alloc,
+        b"name = \"x\"\nsetup = \"",
+        b"x",
+        letters,
+        b"\"\nmetrics = [",
+    )
+    .ok()?;
+    let document = repeated(alloc, text.as_bytes(), b"\"ticks\", ", metrics, b"]\n").ok()?;
+    lengths(alloc, &document)
+}
+
+#[test]
+fn long_texts_and_many_metrics_are_read(rt: HostRuntime) {
+    assert_eq!(rt;
+        long(rt.alloc(), 1_000_000, 20_000),
+        Some((1_000_000, 20_000))
+    );
 }

@@ -202,16 +202,49 @@ fn long_arrays_and_texts_are_read(rt: HostRuntime) {
     assert_eq!(rt; length_of(rt.alloc(), 100_000), Some(100_000));
 }
 
-fn is_too_long(alloc: Global, bytes: usize) -> Option<bool> {
-    let whole = repeated(alloc, b"#", b" ", bytes.saturating_sub(1), b"").ok()?;
+fn is_too_long(alloc: Global, first: &[u8], bytes: usize) -> Option<bool> {
+    let whole = repeated(alloc, first, b" ", bytes.saturating_sub(1), b"").ok()?;
     match table_of(alloc, whole.as_bytes()) {
         Ok(_) => Some(false),
         Err(refusal) => Some(is_fault(&refusal, PlanKind::TooLong, "")),
     }
 }
 
+// A file that is too long is told so, be it TOML or not.
 #[test]
 fn files_have_at_most_so_many_bytes(rt: HostRuntime) {
-    assert_eq!(rt; is_too_long(rt.alloc(), FILE_LIMIT), Some(false));
-    assert_eq!(rt; is_too_long(rt.alloc(), FILE_LIMIT + 1), Some(true));
+    assert_eq!(rt; is_too_long(rt.alloc(), b"#", FILE_LIMIT), Some(false));
+    assert_eq!(rt; is_too_long(rt.alloc(), b"#", FILE_LIMIT + 1), Some(true));
+    assert_eq!(rt; is_too_long(rt.alloc(), b"[", FILE_LIMIT + 1), Some(true));
+}
+
+// The length of the text at `until`, and whether it may be the required one.
+fn other_lengths_of(alloc: Global, times: usize) -> Option<(usize, usize)> {
+    let whole = repeated(alloc, b"until = \"", b"x", times, b"\"").ok()?;
+    let table = table_of(alloc, whole.as_bytes()).ok()?;
+    let until = maybe_text_at(alloc, "until", &table).ok()??;
+    let required = required_text_at(alloc, "until", &table).ok()?;
+    Some((until.as_bytes().len(), required.as_bytes().len()))
+}
+
+// The kind of the fault of the one key of a document, and how long that is as it is told.
+fn unknown_length_of(alloc: Global, before: &str, times: usize) -> Option<(PlanKind, usize)> {
+    let whole = repeated(alloc, b"", b"z", times, b" = 1\ncount = 1\n").ok()?;
+    let table = table_of(alloc, whole.as_bytes()).ok()?;
+    match all_known(alloc, before, &KNOWN, &table) {
+        Err(KeyRefusal::Fault(fault)) => Some((fault.kind, fault.key.as_bytes().len())),
+        _ => None,
+    }
+}
+
+#[test]
+fn long_texts_and_long_keys_are_told_whole(rt: HostRuntime) {
+    assert_eq!(rt;
+        other_lengths_of(rt.alloc(), 100_000),
+        Some((100_000, 100_000))
+    );
+    assert_eq!(rt;
+        unknown_length_of(rt.alloc(), "world.", 100_000),
+        Some((PlanKind::UnknownKey, 100_006))
+    );
 }

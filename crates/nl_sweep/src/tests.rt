@@ -312,6 +312,44 @@ fn thousands_of_variables_are_set(rt: HostRuntime) {
     assert_eq!(rt; joined(rt.alloc(), THREE, &varies, 9), Some(7));
 }
 
+// One variable whose one value is a text of so many letters.
+fn worded(alloc: Global, letters: u64) -> Option<Varies> {
+    let mut text = Str::of(alloc, b"").ok()?;
+    for _ in 0..letters {
+        text.append(alloc, b"x").ok()?;
+    }
+    let mut values = Items::empty(alloc);
+    values.push(alloc, Value::Words(text)).ok()?;
+    let mut varies = Varies::empty(alloc);
+    let name = Str::of(alloc, b"word").ok()?;
+    let choice = Choice::Listed(values);
+    varies.push(alloc, Vary { name, choice }).ok()?;
+    Some(varies)
+}
+
+// How long the text is to which the first run sets the first variable.
+fn word_length(alloc: Global, varies: &Varies) -> Option<usize> {
+    if !has_run(ONCE, varies, 1) {
+        return None;
+    }
+    let settings = settings(alloc, ONCE, varies, 1).ok()?;
+    match settings.as_slice() {
+        [setting] => match &setting.value {
+            Value::Words(text) => Some(text.as_bytes().len()),
+            _ => None,
+        },
+        _ => None,
+    }
+}
+
+#[test]
+fn long_values_are_set(rt: HostRuntime) {
+    let Some(varies) = worded(rt.alloc(), 500_000) else {
+        panic!(rt; "want of memory");
+    };
+    assert_eq!(rt; word_length(rt.alloc(), &varies), Some(500_000));
+}
+
 #[test]
 fn laws_are_stated() {
     crate::laws::runs_go_through_all_combinations();
