@@ -106,7 +106,7 @@ fn judged(alloc: Global, fields: Fields) -> Result<Experiment, PlanRefusal>
 }
 
 impl Experiment {
-    ghost use Rattle.std.specs.Prelude.{◌≡◌, ◌<◌, ◌≤◌, IfOk, IfErr};
+    ghost use Rattle.std.specs.Prelude.{◌≡◌, ◌<◌, ◌≤◌, IfOk, IfErr, is_some};
     ghost use Rattle.nl_tree.specs.Names.{AreWidgets};
     ghost use Rattle.nl_sweep.specs.Sweep.{IsRun, plane_of_run, runs_of, seed_of, settings_of};
     ghost use Rattle.nl_experiment.specs.Numbers.{AreDigits, number_of, run_among};
@@ -154,6 +154,7 @@ impl Experiment {
         ensures trees { IfOk result (λ texts.
             AreTreesFor program.now (texts_of self.now) (trees_of texts)) }
         ensures fault { IfErr result (RefusesTexts program.now (texts_of self.now)) }
+        ensures until { IfOk result (λ texts. is_some texts.until ≡ is_some self.now.until) }
     {
         crate::texts::texts_of(alloc, &self.fields, program)
     }

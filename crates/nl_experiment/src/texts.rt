@@ -1,5 +1,5 @@
 //! The texts of an experiment beside a program.
-ghost use Rattle.std.specs.Prelude.{◌≡◌, ◌∷◌, [], IfOk, IfErr, string_bytes};
+ghost use Rattle.std.specs.Prelude.{◌≡◌, ◌∷◌, [], IfOk, IfErr, is_some, string_bytes};
 ghost use Rattle.nl_tree.specs.Views.{plain};
 ghost use Rattle.nl_fields.specs.Keys.{until_key};
 ghost use Rattle.nl_experiment.specs.Texts as spec;
@@ -64,6 +64,7 @@ fn until_tree(
     ensures trees { IfOk result (λ tree.
         AreTreesFor program.now (spec.until_texts until.now) (spec.until_trees tree)) }
     ensures fault { IfErr result (RefusesTexts program.now (spec.until_texts until.now)) }
+    ensures until { IfOk result (λ tree. is_some tree ≡ is_some until.now) }
 {
     match until {
         Some(text) => {
@@ -124,6 +125,7 @@ pub(crate) fn texts_of(
     ensures trees { IfOk result (λ texts.
         AreTreesFor program.now (spec.texts_of fields.now) (spec.trees_of texts)) }
     ensures fault { IfErr result (RefusesTexts program.now (spec.texts_of fields.now)) }
+    ensures until { IfOk result (λ texts. is_some texts.until ≡ is_some fields.now.until) }
 {
     let setup = tree_at(alloc, "setup", Form::Commands, &fields.setup, program)?;
     let go = tree_at(alloc, "go", Form::Commands, &fields.go, program)?;
