@@ -1,15 +1,24 @@
 //! Models and lone texts, read and checked.
+ghost use Rattle.nl_tree.specs.Names.{AreWidgets};
 
-use nl_cli::read_program;
+use nl_fixed::Names;
 use nl_lone::read_lone;
+use nl_model::read_program;
 use nl_scan::{Source, scan};
 use nl_tree::{Form, Program, Tree};
 use std::alloc::Global;
 
-/// The checked program of a model; none where that has a fault.
+fn no_widgets(alloc: Global) -> Names
+    ensures { AreWidgets result }
+{
+    Names::empty(alloc)
+}
+
+/// The checked program of a model that has no widgets; none where that has a fault.
 pub(crate) fn program_of(alloc: Global, code: &[u8]) -> Option<Program> {
     let tokens = scan(alloc, code).ok()?;
-    read_program(alloc, &Source::new(code, tokens.as_slice())).ok()
+    let source = Source::new(code, tokens.as_slice());
+    read_program(alloc, &source, no_widgets(alloc)).ok()
 }
 
 /// The tree of a lone text that the observer runs; none where it has a fault.
