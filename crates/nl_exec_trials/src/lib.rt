@@ -1,0 +1,23 @@
+//! Trials of the machine: texts of models, over the store of one list.
+#![tactic(auto)]
+
+#[cfg(test)]
+mod births;
+#[cfg(test)]
+mod calling;
+#[cfg(test)]
+mod commands;
+#[cfg(test)]
+mod deaths;
+#[cfg(test)]
+mod fire;
+#[cfg(test)]
+mod limits;
+#[cfg(test)]
+mod playing;
+#[cfg(test)]
+mod rows;
+#[cfg(test)]
+mod statements;
+#[cfg(test)]
+mod walks;
