@@ -1,0 +1,5 @@
+pub mod Agents
+pub mod inner
+pub mod Keys
+pub mod Standing
+pub mod Walks
