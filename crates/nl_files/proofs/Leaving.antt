@@ -1,5 +1,5 @@
 -- A turtle that goes.
-use Rattle.std.proofs.Common.{◌≡◌, ◌≢◌, ℕ, Bool, true, false, not, List, [], filter, length, Option, Some, None, IsSome, is_some, eqb, cond, ◌||◌, refl, sym, ap, ◌∙◌, inl, inr, arith, subst}
+use Rattle.std.proofs.Common.{◌≡◌, ◌≢◌, ℕ, ◌+◌, Bool, true, false, not, List, [], filter, length, Option, Some, None, IsSome, is_some, eqb, cond, ◌||◌, refl, sym, ap, ◌∙◌, inl, inr, arith, subst}
 use Rattle.std.specs.List.{list_any}
 use Rattle.std.proofs.lemmas.Bool.{cases_eq}
 use Rattle.nl_agents.specs.Changes.{has_end}
@@ -21,7 +21,7 @@ use Rattle.nl_links.specs.declared.ends.Ends.{Ends}
 use Rattle.nl_links.proofs.Joins.{ended-tests}
 use Rattle.nl_rolls.specs.Rolls.{roll, passes, IsRoll}
 use Rattle.nl_rolls.proofs.Collecting.{is_at}
-use Rattle.nl_rolls.proofs.Rolls.{is_roll-less, is_roll-same, roll-less, roll-same}
+use Rattle.nl_rolls.proofs.Rolls.{is_roll-less, is_roll-same, roll-count-less, roll-less, roll-same, roll-shorter}
 use Rattle.nl_files.specs.Agents.{link_at, link_in, link_serial, turtle_at, turtle_in, turtle_serial}
 use Rattle.nl_files.specs.Standing.{held, is_link, IsFiles}
 use Rattle.nl_files.proofs.Parts.{end-of-bare, end_part, ended-alike, fields-of-bare, fields-of-unjoined, fields_in, held-of-bare, held-of-unjoined, index-alike, index-of-unjoined, index_part, set-here, set-other}
@@ -160,3 +160,10 @@ module _ (chains : Chains) (ends : Ends) (at : ℕ → Option Record) (tkey lkey
 
       pub turtle-links : roll (link_at at3) lkey lg ≡ roll (link_at at) lkey lg
       turtle-links = roll-same link_serial (link_at at) lkey lg d.links (link_at at3) lkey links-stay (λ m. refl)
+
+      -- there is one less, and one less of those that pass a test that it passes
+      pub turtle-shorter : length (roll (turtle_at at3) tkey' tg) + 1 ≡ length (roll (turtle_at at) tkey tg)
+      turtle-shorter = roll-shorter turtle_serial (turtle_at at) tkey tg d.turtles (turtle_at at3) tkey' key turtle gone_turtle here-turtle number turtles-left keys
+
+      pub turtle-counts : (p : living.Turtle → Bool) → length (filter p (roll (turtle_at at3) tkey' tg)) + cond (p gone_turtle) 1 0 ≡ length (filter p (roll (turtle_at at) tkey tg))
+      turtle-counts p = roll-count-less turtle_serial (turtle_at at) tkey tg d.turtles (turtle_at at3) tkey' key turtle gone_turtle here-turtle number turtles-left keys p

@@ -1,8 +1,11 @@
 pub mod Altering
 pub mod Coming
 pub mod Counting
+pub mod Filed
 pub mod Going
 pub mod Leaving
 pub mod Left
 pub mod Members
 pub mod Parts
+pub mod Removed
+pub mod Tied

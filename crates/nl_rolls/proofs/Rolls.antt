@@ -6,7 +6,7 @@ use Rattle.nl_threads.specs.Rising.{collect}
 use Rattle.nl_threads.proofs.Places.{at-here, at-other}
 use Rattle.nl_threads.proofs.Collected.{collect-same}
 use Rattle.nl_rolls.specs.Rolls.{under, numbered, roll, HasNumber, IsRoll}
-use Rattle.nl_rolls.proofs.Collecting.{is_at, IsOwn, altered, find-past, find-in, collect-more, collect-taken, collect-changed, count-more, count-less, count-changed}
+use Rattle.nl_rolls.proofs.Collecting.{is_at, IsOwn, altered, find-past, find-in, collect-more, collect-taken, collect-changed, count-less, count-changed, length-less}
 
 module _ {X : Type 0} (number_of : X → ℕ) (item : ℕ → Option X) (key_of : ℕ → Option ℕ) (n : ℕ) (d : IsRoll number_of item key_of n) where
   own-under : (m : ℕ) (x : X) (o : Option ℕ) → key_of m ≡ o → under item o ≡ Some x → number_of x ≡ m
@@ -143,6 +143,11 @@ module _ {X : Type 0} (number_of : X → ℕ) (item : ℕ → Option X) (key_of 
 
     pub roll-count-less : (p : X → Bool) → length (filter p (roll item' key_of' n)) + cond (p x) 1 0 ≡ length (filter p (roll item key_of n))
     roll-count-less p = count-less p (numbered item key_of) (numbered item' key_of') a n x (d.below a k key-here) (ap (under item) key-here ∙ here) less-numbered
+
+    pub roll-shorter : length (roll item' key_of' n) + 1 ≡ length (roll item key_of n)
+    roll-shorter =
+        ap (λ xs. length xs + 1) (collect-same (numbered item' key_of') (at_number (numbered item key_of) a None) n (λ m _. less-numbered m))
+        ∙ length-less (numbered item key_of) a n x (d.below a k key-here) (ap (under item) key-here ∙ here)
 
     less-was : (m j : ℕ) → key_of' m ≡ Some j → (m ≢ a) × (key_of m ≡ Some j)
     less-was m j e = elim (cases_eq m a) [
