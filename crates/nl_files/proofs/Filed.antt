@@ -1,5 +1,6 @@
 -- What the steps of a call on the files come to.
 use Rattle.std.proofs.Common.{◌≡◌, ◌≢◌, ℕ, ◌+◌, ◌<◌, Bool, true, false, not, List, [], ◌∷◌, ◌++◌, length, filter, find, Option, Some, None, IsSome, IsSomeAnd, is_some, eqb, cond, refl, sym, ap, ◌∙◌, inl, inr, arith, subst, length-append}
+use Rattle.std.specs.Prelude.{Result, Ok, Err, OnErr}
 use Rattle.std.specs.List.{list_any}
 use Rattle.std.proofs.lemmas.Bool.{cases_eq}
 use Rattle.nl_grid.specs.Geometry.{Plane, IsPointOf}
@@ -171,3 +172,14 @@ module _ (chains : Chains) (ends : Ends) (at : ℕ → Option Record) (tk lk : K
       pub turtle-agents : agents_of chains' at3 tk2 lk (tg + 1) lg
           ≡ record (agents_of chains at tk lk tg lg) { turtles = roll (turtle_at at) (key_in tk) tg ++ (record { serial = tg; breed = breed; at = p; vars = vars }) ∷ []; turtles_given = tg + 1 }
       turtle-agents = made chains.shape chains'.shape (breeds_in chains) (breeds_in chains') _ _ _ _ (tg + 1) lg size.shape_is size.breeds_are turtle-rolls turtle-link-rolls
+
+-- what holds, holds where an error is answered
+pub on-err : {A E P : Type 0} (r : Result A E) → P → OnErr r P
+on-err (Ok x) p = tt
+on-err (Err e) p = p
+
+pub same-sides : (ends : Ends) → SameSides (sides_at ends) (sides_at ends)
+same-sides ends t = refl
+
+pub same-keys : (keys : Keys) → SameKeys keys keys
+same-keys keys = record { keys = λ s. refl; count = refl }

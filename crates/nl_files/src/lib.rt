@@ -2,8 +2,11 @@
 #![tactic(auto)]
 
 pub mod changing;
+pub mod files;
 pub mod filing;
 pub mod filling;
 pub mod keys;
 pub mod looking;
 pub mod walk;
+
+pub use files::Files;

@@ -1,0 +1,57 @@
+use Rattle.std.proofs.Common.{◌≡◌, ◌∙◌, ◌+◌, ◌++◌, ◌∷◌, [], false, not, filter, find, IsSome, refl, sym, ap, subst}
+use Rattle.std.specs.List.{list_any}
+use Rattle.nl_agents.specs.Changes.{has_end, is_link, is_turtle}
+use Rattle.nl_agents.specs.declared.agents.Turtle as living
+use Rattle.nl_agents.specs.declared.agents.Link as tie
+use Rattle.nl_records.specs.Records.{record_at}
+use Rattle.nl_files.specs.Agents.{Agents}
+use Rattle.nl_files.specs.Keys.{key_in}
+use Rattle.nl_files.proofs.Parts.{held-of-bare}
+use Rattle.nl_files.proofs.Leaving.{is-free, turtle-is-held, turtle-is-listed}
+use Rattle.nl_files.proofs.Filed.{turtle-key}
+use Rattle.nl_files.proofs.Removed.{turtle-agents, turtle-counted, turtle-removed}
+use Rattle.nl_files.proofs.files.Files.remove_turtle.Goals as goal
+
+pub take-key-requires : goal.take-key-requires
+take-key-requires c =
+    let f = c.self.inside in
+    turtle-key f.chains f.ends (record_at f.records) f.turtle_keys f.link_keys f.turtles_given f.links_given c.self.invariant.0 c.self.invariant.1 c.args.turtle (subst (λ (a : Agents). IsSome (find (is_turtle c.args.turtle) a.turtles)) (sym c.self.view_is) c.requires.lives)
+
+pub leave-requires-clause-free : goal.leave-requires-clause-free
+leave-requires-clause-free c =
+    let f = c.self.inside in
+    let free = subst (λ (a : Agents). list_any (has_end c.args.turtle) a.links ≡ false) (sym c.self.view_is) c.requires.free in
+    is-free f.chains f.ends (record_at f.records) (key_in f.turtle_keys) (key_in f.link_keys) f.turtles_given f.links_given c.self.invariant.0 c.args.turtle c.take-key.result c.take-key.ensures.key free
+
+pub remove-requires-clause-held : goal.remove-requires-clause-held
+remove-requires-clause-held c =
+    let f = c.self.inside in
+    let free = subst (λ (a : Agents). list_any (has_end c.args.turtle) a.links ≡ false) (sym c.self.view_is) c.requires.free in
+    turtle-is-held f.chains f.ends (record_at f.records) (key_in f.turtle_keys) (key_in f.link_keys) f.turtles_given f.links_given c.self.invariant.0 c.args.turtle c.take-key.result c.take-key.ensures.key free
+
+pub remove-requires-clause-listed : goal.remove-requires-clause-listed
+remove-requires-clause-listed c =
+    let f = c.self.inside in
+    let free = subst (λ (a : Agents). list_any (has_end c.args.turtle) a.links ≡ false) (sym c.self.view_is) c.requires.free in
+    turtle-is-listed f.chains f.ends (record_at f.records) (key_in f.turtle_keys) (key_in f.link_keys) f.turtles_given f.links_given c.self.invariant.0 c.args.turtle c.take-key.result c.take-key.ensures.key free
+
+pub take-requires : goal.take-requires
+take-requires c =
+    let f = c.self.inside in
+    let free = subst (λ (a : Agents). list_any (has_end c.args.turtle) a.links ≡ false) (sym c.self.view_is) c.requires.free in
+    held-of-bare (record_at f.records) (record_at c.remove.new.records) c.remove.ensures.others c.take-key.result ∙ turtle-is-held f.chains f.ends (record_at f.records) (key_in f.turtle_keys) (key_in f.link_keys) f.turtles_given f.links_given c.self.invariant.0 c.args.turtle c.take-key.result c.take-key.ensures.key free
+
+pub invariant_of-self : goal.invariant_of-self
+invariant_of-self c =
+    let f = c.self.inside in
+    let free = subst (λ (a : Agents). list_any (has_end c.args.turtle) a.links ≡ false) (sym c.self.view_is) c.requires.free in (
+      turtle-removed f.chains f.ends (record_at f.records) f.turtle_keys f.link_keys f.turtles_given f.links_given c.self.invariant.0 c.self.invariant.1 c.args.turtle c.take-key.result c.take-key.ensures.key free c.leave.new.self c.remove.new.self (record_at c.remove.new.records) (record_at c.take.new.self) c.take-key.new.self c.leave.ensures.ended c.leave.ensures.held c.remove.ensures.removed c.remove.ensures.others c.remove.ensures.size c.take.ensures.taken c.take-key.ensures.taken c.take-key.ensures.count,
+      turtle-counted f.chains f.ends (record_at f.records) f.turtle_keys f.link_keys f.turtles_given f.links_given c.self.invariant.0 c.self.invariant.1 c.args.turtle c.take-key.result c.take-key.ensures.key free c.leave.new.self c.remove.new.self (record_at c.remove.new.records) (record_at c.take.new.self) c.take-key.new.self c.leave.ensures.ended c.leave.ensures.held c.remove.ensures.removed c.remove.ensures.others c.remove.ensures.size c.take.ensures.taken c.take-key.ensures.taken c.take-key.ensures.count,
+    )
+
+pub returns : goal.returns
+returns c =
+    let f = c.self.inside in
+    let free = subst (λ (a : Agents). list_any (has_end c.args.turtle) a.links ≡ false) (sym c.self.view_is) c.requires.free in
+    turtle-agents f.chains f.ends (record_at f.records) f.turtle_keys f.link_keys f.turtles_given f.links_given c.self.invariant.0 c.self.invariant.1 c.args.turtle c.take-key.result c.take-key.ensures.key free c.leave.new.self c.remove.new.self (record_at c.remove.new.records) (record_at c.take.new.self) c.take-key.new.self c.leave.ensures.ended c.leave.ensures.held c.remove.ensures.removed c.remove.ensures.others c.remove.ensures.size c.take.ensures.taken c.take-key.ensures.taken c.take-key.ensures.count
+    ∙ ap (λ (a : Agents). record a { turtles = filter (λ (t : living.Turtle). not (is_turtle c.args.turtle t)) a.turtles }) c.self.view_is

@@ -1,0 +1,227 @@
+//! The records of turtles and links with their chains and keys.
+ghost use Rattle.std.specs.Prelude.{◌≡◌, ◌==◌, ◌+◌, ◌<◌, ◌≤◌, ◌∷◌, ◌++◌, [], map, filter, find, length, not, false, Some, None, IsSome, IfOk, IfErr, IfSome, IfNone, OnOk, OnErr, is_some, option_map};
+ghost use Rattle.std.specs.List.{list_any};
+ghost use Rattle.nl_value.specs.Views.{plain};
+ghost use Rattle.nl_grid.specs.Geometry.{IsPointOf, patch_at, patches_of};
+ghost use Rattle.nl_agents.specs.Changes.{is_turtle, is_link, has_end, bred_vars, value_set};
+ghost use Rattle.nl_agents.specs.Members.{is_of_breed};
+ghost use Rattle.nl_files.specs.Agents.{Agents, KeepAll, link_entry, links_filled, turtle_entry, turtles_filled, turtles_moved, turtles_of_other_breed, turtles_rebred};
+
+use crate::changing::{rebreed_variables, set_variable};
+use crate::filing::{make_room, put_new};
+use crate::filling::{fill_both, fill_in_order, fill_sorted};
+use crate::keys::Keys;
+use crate::looking::{fields_of, key_of, link_parts, point_of};
+use nl_agents::{Layout, Slots, Steps, Variables};
+use nl_fixed::NoMemory;
+use nl_grid::{Point, Shape};
+use nl_index::{Chain, Chains};
+use nl_links::Ends;
+use nl_records::{Body, Fields, Records};
+use nl_value::{Serials, Value};
+use std::alloc::Global;
+use std::marker::Model;
+use std::sync::ledger::Ledger;
+
+/// All turtles and links that live. Each is found by its serial; the turtles of a patch and of a breed, and the links of a turtle, are found
+/// without a look at others. Serials are given from 0 on, those of turtles and those of links apart, and none is given twice.
+#[derive(Drop)]
+pub struct Files {
+    records: Records,
+    chains: Chains,
+    ends: Ends,
+    turtle_keys: Keys,
+    link_keys: Keys,
+    turtles_given: u64,
+    links_given: u64,
+}
+
+impl Model for Files {
+    ghost use Rattle.nl_records.specs.Records.{record_at};
+    ghost use Rattle.nl_files.specs.Keys.{key_in};
+    ghost use Rattle.nl_files.specs.Agents.{Agents};
+    ghost use Rattle.nl_files.specs.Standing.{agents_of, AreCounted, IsFiles};
+    ghost use Rattle.std.specs.Coded.{codes};
+    ghost use Rattle.nl_value.specs.inner.Codes.{plain_code};
+
+    ghost Value = { Agents };
+
+    ghost coded = { Prim.hlevel (codes, plain_code) };
+
+    ghost view = { λ f. agents_of f.chains (record_at f.records) f.turtle_keys f.link_keys f.turtles_given f.links_given };
+
+    ghost invariant = { λ f. IsFiles f.chains f.ends (record_at f.records) (key_in f.turtle_keys) (key_in f.link_keys) f.turtles_given f.links_given
+        × AreCounted (record_at f.records) f.turtle_keys f.link_keys f.turtles_given f.links_given };
+}
+
+impl Files {
+    /// No agents, in a world of this shape, with so many breeds, where breed 0 counts too.
+    pub fn new(alloc: Global, shape: Shape, breeds: u32) -> Result<Files, NoMemory>
+        ensures { IfOk result (λ files. files ≡ record {
+          shape = shape;
+          breeds = breeds;
+          turtles = [];
+          links = [];
+          turtles_given = 0;
+          links_given = 0;
+        }) }
+    {
+        let chains = Chains::new(alloc, shape, breeds)?;
+        Ok(Files {
+            records: Records::new(alloc),
+            chains,
+            ends: Ends::new(alloc),
+            turtle_keys: Keys::new(alloc),
+            link_keys: Keys::new(alloc),
+            turtles_given: 0,
+            links_given: 0,
+        })
+    }
+
+    /// How many serials of turtles were given.
+    pub fn turtles_given(&self) -> u64
+        ensures { result ≡ self.now.turtles_given }
+    {
+        self.turtles_given
+    }
+
+    /// How many serials of links were given.
+    pub fn links_given(&self) -> u64
+        ensures { result ≡ self.now.links_given }
+    {
+        self.links_given
+    }
+
+    /// How many turtles live.
+    pub fn turtle_count(&self) -> usize
+        ensures { result ≡ length self.now.turtles }
+    {
+        self.turtle_keys.len()
+    }
+
+    /// How many links live.
+    pub fn link_count(&self) -> usize
+        ensures { result ≡ length self.now.links }
+    {
+        self.link_keys.len()
+    }
+
+    /// Whether a turtle of the serial lives.
+    pub fn has_turtle(&self, turtle: u64) -> bool
+        ensures { result ≡ is_some (find (is_turtle turtle) self.now.turtles) }
+    {
+        self.turtle_keys.get(turtle).is_some()
+    }
+
+    /// Whether a link of the serial lives.
+    pub fn has_link(&self, link: u64) -> bool
+        ensures { result ≡ is_some (find (is_link link) self.now.links) }
+    {
+        self.link_keys.get(link).is_some()
+    }
+
+    /// A turtle under the next serial, which is given. Refused for want of memory, it leaves all as it was.
+    pub fn add_turtle(
+        &mut self,
+        alloc: Global,
+        breed: u32,
+        at: Point,
+        vars: Variables,
+    ) -> Result<u64, NoMemory>
+        requires given { self.old.turtles_given < 9_000_000_000_000 }
+        requires at { IsPointOf self.old.shape at }
+        requires breed { breed < self.old.breeds }
+        ensures serial { IfOk result (λ serial. serial ≡ self.old.turtles_given) }
+        ensures added { OnOk result (self.new ≡ record self.old {
+          turtles = self.old.turtles ++ (record { serial = self.old.turtles_given; breed = breed; at = at; vars = vars }) ∷ [];
+          turtles_given = self.old.turtles_given + 1;
+        }) }
+        ensures kept { OnErr result (self.new ≡ self.old) }
+    {
+        let serial = self.turtles_given;
+        make_room(alloc, &mut self.records, &mut self.turtle_keys)?;
+        self.ends.enter(alloc, serial)?;
+        let fields = Fields {
+            serial,
+            body: Body::Turtle(at),
+            breed,
+            vars,
+        };
+        let key = put_new(alloc, &mut self.records, fields);
+        self.chains.add(&mut self.records, key);
+        self.turtle_keys.put(serial, key);
+        self.turtles_given = serial + 1;
+        Ok(serial)
+    }
+
+    /// A link under the next serial, which is given. Refused for want of memory, it leaves all as it was.
+    pub fn add_link(
+        &mut self,
+        alloc: Global,
+        breed: u32,
+        directed: bool,
+        end1: u64,
+        end2: u64,
+        vars: Variables,
+    ) -> Result<u64, NoMemory>
+        requires given { self.old.links_given < 9_000_000_000_000 }
+        requires first { IsSome (find (is_turtle end1) self.old.turtles) }
+        requires second { IsSome (find (is_turtle end2) self.old.turtles) }
+        requires apart { (end1 == end2) ≡ false }
+        ensures serial { IfOk result (λ serial. serial ≡ self.old.links_given) }
+        ensures added { OnOk result (self.new ≡ record self.old {
+          links = self.old.links ++ (record {
+            serial = self.old.links_given;
+            breed = breed;
+            directed = directed;
+            end1 = end1;
+            end2 = end2;
+            vars = vars;
+          }) ∷ [];
+          links_given = self.old.links_given + 1;
+        }) }
+        ensures kept { OnErr result (self.new ≡ self.old) }
+    {
+        let serial = self.links_given;
+        make_room(alloc, &mut self.records, &mut self.link_keys)?;
+        let fields = Fields {
+            serial,
+            body: Body::Link {
+                directed,
+                end1,
+                end2,
+            },
+            breed,
+            vars,
+        };
+        let key = put_new(alloc, &mut self.records, fields);
+        self.chains.add(&mut self.records, key);
+        self.ends.add(&mut self.records, key);
+        self.link_keys.put(serial, key);
+        self.links_given = serial + 1;
+        Ok(serial)
+    }
+
+    /// The link is gone. It takes no memory.
+    pub fn remove_link(&mut self, link: u64)
+        requires { IsSome (find (is_link link) self.old.links) }
+        ensures { self.new ≡ record self.old { links = filter (λ l. not (is_link link l)) self.old.links } }
+    {
+        let key = self.link_keys.take(link);
+        self.ends.remove(&mut self.records, key);
+        self.chains.remove(&mut self.records, key);
+        let _ = self.records.take(key);
+    }
+
+    /// The turtle is gone, which no link has as an end. It takes no memory.
+    pub fn remove_turtle(&mut self, turtle: u64)
+        requires lives { IsSome (find (is_turtle turtle) self.old.turtles) }
+        requires free { list_any (has_end turtle) self.old.links ≡ false }
+        ensures { self.new ≡ record self.old { turtles = filter (λ t. not (is_turtle turtle t)) self.old.turtles } }
+    {
+        let key = self.turtle_keys.take(turtle);
+        self.ends.leave(turtle);
+        self.chains.remove(&mut self.records, key);
+        let _ = self.records.take(key);
+    }
+}
