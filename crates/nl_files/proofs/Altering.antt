@@ -204,6 +204,10 @@ module _ (chains : Chains) (ends : Ends) (at : ℕ → Option Record) (tkey lkey
       pub moved-roll : roll (turtle_at at') tkey tg ≡ map (altered turtle_serial (λ t. record t { at = to; breed = breed }) turtle) (roll (turtle_at at) tkey tg)
       moved-roll = roll-changed turtle_serial (turtle_at at) tkey tg d.turtles (turtle_at at') tkey (λ t. record t { at = to; breed = breed }) key turtle there there-is number refl turtles-moved (λ m. refl)
 
+      -- the same by another change that does this to the turtle
+      pub moved-roll-by : (change : living.Turtle → living.Turtle) → change there ≡ record there { at = to; breed = breed } → (change there).serial ≡ there.serial → roll (turtle_at at') tkey tg ≡ map (altered turtle_serial change turtle) (roll (turtle_at at) tkey tg)
+      moved-roll-by change e stays = roll-changed turtle_serial (turtle_at at) tkey tg d.turtles (turtle_at at') tkey change key turtle there there-is number stays (λ j. turtles-moved j ∙ ap (λ x. at_number (turtle_at at) key (Some x) j) (sym e)) (λ m. refl)
+
       pub moved-links : roll (link_at at') lkey lg ≡ roll (link_at at) lkey lg
       moved-links = roll-same link_serial (link_at at) lkey lg d.links (link_at at') lkey links-stay (λ m. refl)
 

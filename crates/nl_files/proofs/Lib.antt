@@ -5,6 +5,8 @@ pub mod Filed
 pub mod Going
 pub mod Leaving
 pub mod Left
+pub mod Listed
+pub mod Looked
 pub mod Members
 pub mod Parts
 pub mod Removed
