@@ -4,10 +4,12 @@ pub mod Counting
 pub mod Filed
 pub mod Going
 pub mod Leaving
+pub mod Joined
 pub mod Left
 pub mod Listed
 pub mod Looked
 pub mod Members
 pub mod Parts
+pub mod Rebred
 pub mod Removed
 pub mod Tied

@@ -1,6 +1,9 @@
 -- What is told of one agent.
-use Rattle.std.proofs.Common.{◌≡◌, ℕ, ◌<◌, true, Option, Some, None, IsSome, IsSomeAnd, is_some, refl, sym, ap, ◌∙◌, subst}
+use Rattle.std.proofs.Common.{◌≡◌, ℕ, ◌<◌, true, Option, Some, None, IsSome, IsSomeAnd, is_some, length, refl, sym, ap, ◌∙◌, subst}
 use Rattle.std.specs.Option.{option_map}
+use Rattle.std.proofs.lemmas.Option.{same_Some}
+use Rattle.nl_grid.specs.Geometry.{IsPointOf}
+use Rattle.nl_layout.specs.declared.layout.Layout.{Layout}
 use Rattle.nl_agents.specs.Nouns.{Vars}
 use Rattle.nl_agents.specs.declared.agents.Turtle as living
 use Rattle.nl_agents.specs.declared.agents.Link as tie
@@ -10,7 +13,7 @@ use Rattle.nl_records.specs.declared.fields.Fields.{Fields}
 use Rattle.nl_records.specs.declared.record.Record.{Record}
 use Rattle.nl_index.specs.Index.{breeds_in, serial_in, Fits}
 use Rattle.nl_index.specs.declared.chains.Chains.{Chains}
-use Rattle.nl_files.specs.Agents.{link_in, turtle_in}
+use Rattle.nl_files.specs.Agents.{link_in, turtle_in, HasMany}
 use Rattle.nl_files.proofs.Parts.{fields_in}
 
 -- a record is held under the key of what is found
@@ -86,3 +89,28 @@ breed-fits chains (Some g) f e h fits = let s : g ≡ f = cc in subst (λ (x : F
     go : (b : Body) → IsSome (turtle_in (Some (record g { body = b }))) → Fits chains (record g { body = b }) → g.breed < breeds_in chains
     go (Turtle at) q fit = fit.1
     go (Link directed end1 end2) q fit = absurd (cc)
+
+-- a filed turtle's point is one of the shape
+pub point-fits : (chains : Chains) (o : Option Fields) (t : living.Turtle) → turtle_in o ≡ Some t → IsSomeAnd o (Fits chains) → IsPointOf chains.shape t.at
+point-fits chains None t e fits = absurd (cc)
+point-fits chains (Some g) t e fits = go g.body e fits
+  where
+    go : (b : Body) → turtle_in (Some (record g { body = b })) ≡ Some t → Fits chains (record g { body = b }) → IsPointOf chains.shape t.at
+    go (Turtle at) q fit = let s : record { serial = g.serial; breed = g.breed; at = at; vars = g.vars } ≡ t = cc in subst (λ (x : living.Turtle). IsPointOf chains.shape x.at) s fit.0
+    go (Link directed end1 end2) q fit = absurd (cc)
+
+-- what a turtle, or a link, keeps is what its fields have
+pub turtle-entries : (o : Option Fields) → IsSome (turtle_in o) → option_map (λ (t : living.Turtle). t.vars) (turtle_in o) ≡ option_map (λ (f : Fields). f.vars) o
+turtle-entries None h = absurd (cc)
+turtle-entries (Some f) h = turtle-vars (Some f) f refl h
+
+pub link-entries : (o : Option Fields) → IsSome (link_in o) → option_map (λ (l : tie.Link). l.vars) (link_in o) ≡ option_map (λ (f : Fields). f.vars) o
+link-entries None h = absurd (cc)
+link-entries (Some f) h = link-vars (Some f) f refl h
+
+pub has-many : (layout : Layout) (o : Option Fields) (t : living.Turtle) → turtle_in o ≡ Some t → length t.vars ≡ length layout.some_turtle → HasMany layout o
+has-many layout None t e h = absurd (cc)
+has-many layout (Some f) t e h =
+    let z = turtle-vars (Some f) f refl (ap is_some e) in
+    let y : Some t.vars ≡ Some f.vars = sym (ap (option_map (λ (x : living.Turtle). x.vars)) e) ∙ z in
+    subst (λ vs. length vs ≡ length layout.some_turtle) (same_Some t.vars f.vars y) h

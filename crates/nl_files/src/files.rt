@@ -224,4 +224,227 @@ impl Files {
         self.chains.remove(&mut self.records, key);
         let _ = self.records.take(key);
     }
+
+    /// Where a turtle stands.
+    pub fn at(&self, turtle: u64) -> Point
+        requires { IsSome (find (is_turtle turtle) self.now.turtles) }
+        ensures { option_map (λ t. t.at) (find (is_turtle turtle) self.now.turtles) ≡ Some result }
+    {
+        let key = key_of(&self.turtle_keys, turtle);
+        point_of(&self.records, key)
+    }
+
+    /// The breed of a turtle.
+    pub fn breed_of(&self, turtle: u64) -> u32
+        requires { IsSome (find (is_turtle turtle) self.now.turtles) }
+        ensures { option_map (λ t. t.breed) (find (is_turtle turtle) self.now.turtles) ≡ Some result }
+    {
+        let key = key_of(&self.turtle_keys, turtle);
+        fields_of(&self.records, key).breed
+    }
+
+    /// What a turtle keeps.
+    pub fn turtle_vars(&self, turtle: u64) -> &Variables
+        requires { IsSome (find (is_turtle turtle) self.now.turtles) }
+        ensures { option_map (λ t. t.vars) (find (is_turtle turtle) self.now.turtles) ≡ Some result.now }
+    {
+        let key = key_of(&self.turtle_keys, turtle);
+        &fields_of(&self.records, key).vars
+    }
+
+    /// The ends of a link.
+    pub fn ends(&self, link: u64) -> (u64, u64)
+        requires { IsSome (find (is_link link) self.now.links) }
+        ensures first { option_map (λ l. l.end1) (find (is_link link) self.now.links) ≡ Some result.0 }
+        ensures second { option_map (λ l. l.end2) (find (is_link link) self.now.links) ≡ Some result.1 }
+    {
+        let key = key_of(&self.link_keys, link);
+        let parts = link_parts(&self.records, key);
+        (parts.end1, parts.end2)
+    }
+
+    /// The breed of a link, and whether it has a direction.
+    pub fn link_breed(&self, link: u64) -> (u32, bool)
+        requires { IsSome (find (is_link link) self.now.links) }
+        ensures breed { option_map (λ l. l.breed) (find (is_link link) self.now.links) ≡ Some result.0 }
+        ensures directed { option_map (λ l. l.directed) (find (is_link link) self.now.links) ≡ Some result.1 }
+    {
+        let key = key_of(&self.link_keys, link);
+        let breed = fields_of(&self.records, key).breed;
+        (breed, link_parts(&self.records, key).directed)
+    }
+
+    /// What a link keeps.
+    pub fn link_vars(&self, link: u64) -> &Variables
+        requires { IsSome (find (is_link link) self.now.links) }
+        ensures { option_map (λ l. l.vars) (find (is_link link) self.now.links) ≡ Some result.now }
+    {
+        let key = key_of(&self.link_keys, link);
+        &fields_of(&self.records, key).vars
+    }
+
+    /// Fills the list with the serials of the turtles, ascending.
+    pub fn turtles<L: Ledger>(
+        &self,
+        alloc: Global,
+        into: &mut Serials,
+        steps: &mut Steps<L>,
+    ) -> Result<(), NoMemory>
+        ensures list { OnOk result (into.new ≡ map (λ t. t.serial) self.now.turtles) }
+        ensures reads { steps.new ≤ steps.old + length self.now.turtles }
+    {
+        let first = self.chains.first(Chain::Turtles);
+        let most = self.turtle_keys.len();
+        fill_in_order(alloc, &self.records, 0, first, most, into, steps)
+    }
+
+    /// Fills the list with the serials of the links, ascending.
+    pub fn links<L: Ledger>(
+        &self,
+        alloc: Global,
+        into: &mut Serials,
+        steps: &mut Steps<L>,
+    ) -> Result<(), NoMemory>
+        ensures list { OnOk result (into.new ≡ map (λ l. l.serial) self.now.links) }
+        ensures reads { steps.new ≤ steps.old + length self.now.links }
+    {
+        let first = self.chains.first(Chain::Links);
+        let most = self.link_keys.len();
+        fill_in_order(alloc, &self.records, 0, first, most, into, steps)
+    }
+
+    /// Fills the list with the serials of the turtles of a breed, ascending.
+    pub fn of_breed<L: Ledger>(
+        &self,
+        alloc: Global,
+        breed: u32,
+        into: &mut Serials,
+        steps: &mut Steps<L>,
+    ) -> Result<(), NoMemory>
+        requires { breed < self.now.breeds }
+        ensures list { OnOk result (into.new ≡ map (λ t. t.serial) (filter (is_of_breed breed) self.now.turtles)) }
+        ensures reads { steps.new ≤ steps.old + length (filter (is_of_breed breed) self.now.turtles) }
+    {
+        let first = self.chains.first(Chain::Breed(breed));
+        let most = self.turtle_keys.len();
+        fill_sorted(alloc, &self.records, 2, first, most, into, steps)
+    }
+
+    /// Fills the list with the serials of the turtles on a patch, ascending.
+    pub fn members_on<L: Ledger>(
+        &self,
+        alloc: Global,
+        patch: u32,
+        into: &mut Serials,
+        steps: &mut Steps<L>,
+    ) -> Result<(), NoMemory>
+        requires { patch < patches_of self.now.shape }
+        ensures list { OnOk result (into.new
+            ≡ map (λ t. t.serial) (filter (λ t. patch_at self.now.shape t.at == patch) self.now.turtles)) }
+        ensures reads { steps.new ≤ steps.old + length (filter (λ t. patch_at self.now.shape t.at == patch) self.now.turtles) }
+    {
+        let first = self.chains.first(Chain::Patch(patch));
+        let most = self.turtle_keys.len();
+        fill_sorted(alloc, &self.records, 1, first, most, into, steps)
+    }
+
+    /// Fills the list with the serials of the links that have the turtle as an end, ascending.
+    pub fn links_of<L: Ledger>(
+        &self,
+        alloc: Global,
+        turtle: u64,
+        into: &mut Serials,
+        steps: &mut Steps<L>,
+    ) -> Result<(), NoMemory>
+        requires { IsSome (find (is_turtle turtle) self.now.turtles) }
+        ensures list { OnOk result (into.new ≡ map (λ l. l.serial) (filter (has_end turtle) self.now.links)) }
+        ensures reads { steps.new ≤ steps.old + length (filter (has_end turtle) self.now.links) }
+    {
+        let firsts = self.ends.firsts(turtle);
+        let most = self.link_keys.len();
+        fill_both(alloc, &self.records, firsts, most, into, steps)
+    }
+
+    /// The turtle stands at the point. It takes no memory.
+    pub fn move_turtle(&mut self, turtle: u64, to: Point)
+        requires lives { IsSome (find (is_turtle turtle) self.old.turtles) }
+        requires at { IsPointOf self.old.shape to }
+        ensures { self.new ≡ record self.old { turtles = turtles_moved turtle to self.old.turtles } }
+    {
+        let key = key_of(&self.turtle_keys, turtle);
+        let breed = fields_of(&self.records, key).breed;
+        self.chains.refile(&mut self.records, key, to, breed);
+    }
+
+    /// The turtle is of the breed, and keeps what one of that breed does. It takes no memory.
+    pub fn rebreed_turtle(&mut self, alloc: Global, layout: &Layout, turtle: u64, breed: u32)
+        requires lives { IsSome (find (is_turtle turtle) self.old.turtles) }
+        requires many { KeepAll layout.now self.old.turtles }
+        requires breed { breed < self.old.breeds }
+        ensures { self.new ≡ record self.old { turtles = turtles_rebred layout.now turtle breed self.old.turtles } }
+    {
+        self.refill_turtle(alloc, layout, turtle, breed);
+        self.refile_turtle(turtle, breed);
+    }
+
+    fn refill_turtle(&mut self, alloc: Global, layout: &Layout, turtle: u64, breed: u32)
+        requires lives { IsSome (find (is_turtle turtle) self.old.turtles) }
+        requires many { KeepAll layout.now self.old.turtles }
+        ensures { self.new ≡ record self.old { turtles = turtles_filled (bred_vars layout.now breed) turtle self.old.turtles } }
+    {
+        let key = key_of(&self.turtle_keys, turtle);
+        rebreed_variables(alloc, &mut self.records, key, layout, breed);
+    }
+
+    fn refile_turtle(&mut self, turtle: u64, breed: u32)
+        requires lives { IsSome (find (is_turtle turtle) self.old.turtles) }
+        requires breed { breed < self.old.breeds }
+        ensures { self.new ≡ record self.old { turtles = turtles_of_other_breed turtle breed self.old.turtles } }
+    {
+        let key = key_of(&self.turtle_keys, turtle);
+        let at = point_of(&self.records, key);
+        self.chains.refile(&mut self.records, key, at, breed);
+    }
+
+    /// Sets a variable of a turtle, where its breed owns it, and hands back the old value; else the new one. It takes no memory.
+    pub fn set_turtle(
+        &mut self,
+        alloc: Global,
+        slots: &Slots,
+        turtle: u64,
+        slot: u32,
+        value: Value,
+    ) -> Result<Value, Value>
+        requires { IsSome (find (is_turtle turtle) self.old.turtles) }
+        ensures old { IfOk result (λ old. turtle_entry slots.now slot turtle self.old.turtles ≡ Some (plain old)) }
+        ensures back { IfErr result (λ back. plain back ≡ plain value) }
+        ensures not_owned { OnErr result (turtle_entry slots.now slot turtle self.old.turtles ≡ None) }
+        ensures set { self.new ≡ record self.old {
+          turtles = turtles_filled (λ vars. value_set slots.now vars slot (plain value)) turtle self.old.turtles;
+        } }
+    {
+        let key = key_of(&self.turtle_keys, turtle);
+        set_variable(alloc, &mut self.records, key, slots, slot, value)
+    }
+
+    /// Sets a variable of a link, where its breed owns it, and hands back the old value; else the new one. It takes no memory.
+    pub fn set_link(
+        &mut self,
+        alloc: Global,
+        slots: &Slots,
+        link: u64,
+        slot: u32,
+        value: Value,
+    ) -> Result<Value, Value>
+        requires { IsSome (find (is_link link) self.old.links) }
+        ensures old { IfOk result (λ old. link_entry slots.now slot link self.old.links ≡ Some (plain old)) }
+        ensures back { IfErr result (λ back. plain back ≡ plain value) }
+        ensures not_owned { OnErr result (link_entry slots.now slot link self.old.links ≡ None) }
+        ensures set { self.new ≡ record self.old {
+          links = links_filled (λ vars. value_set slots.now vars slot (plain value)) link self.old.links;
+        } }
+    {
+        let key = key_of(&self.link_keys, link);
+        set_variable(alloc, &mut self.records, key, slots, slot, value)
+    }
 }
