@@ -1,4 +1,5 @@
 pub mod Altering
+pub mod Chosen
 pub mod Coming
 pub mod Counting
 pub mod Filed

@@ -1,5 +1,5 @@
 //! The records of turtles and links with their chains and keys.
-ghost use Rattle.std.specs.Prelude.{◌≡◌, ◌==◌, ◌+◌, ◌<◌, ◌≤◌, ◌∷◌, ◌++◌, [], map, filter, find, length, not, false, Some, None, IsSome, IfOk, IfErr, IfSome, IfNone, OnOk, OnErr, is_some, option_map};
+ghost use Rattle.std.specs.Prelude.{◌≡◌, ◌==◌, ◌+◌, ◌<◌, ◌≤◌, ◌∷◌, ◌++◌, [], map, filter, find, length, not, true, false, Some, None, IsSome, IfOk, IfErr, IfSome, IfNone, OnOk, OnErr, is_some, option_map};
 ghost use Rattle.std.specs.List.{list_any};
 ghost use Rattle.nl_value.specs.Views.{plain};
 ghost use Rattle.nl_grid.specs.Geometry.{IsPointOf, patch_at, patches_of};
@@ -11,7 +11,7 @@ use crate::changing::{rebreed_variables, set_variable};
 use crate::filing::{make_room, put_new};
 use crate::filling::{fill_both, fill_in_order, fill_sorted};
 use crate::keys::Keys;
-use crate::looking::{fields_of, key_of, link_parts, point_of};
+use crate::looking::{either, fields_of, key_of, link_parts, point_of};
 use nl_agents::{Layout, Slots, Steps, Variables};
 use nl_fixed::NoMemory;
 use nl_grid::{Point, Shape};
@@ -446,5 +446,58 @@ impl Files {
     {
         let key = key_of(&self.link_keys, link);
         set_variable(alloc, &mut self.records, key, slots, slot, value)
+    }
+
+    /// A link that has the turtle as an end. None exactly where there is none.
+    pub fn some_link_of(&self, turtle: u64) -> Option<u64>
+        requires { IsSome (find (is_turtle turtle) self.now.turtles) }
+        ensures none { IfNone result (list_any (has_end turtle) self.now.links ≡ false) }
+        ensures lives { IfSome result (λ link. IsSome (find (is_link link) self.now.links)) }
+        ensures touches { IfSome result (λ link.
+            IfSome (find (is_link link) self.now.links) (λ l. has_end turtle l ≡ true)) }
+    {
+        let firsts = self.ends.firsts(turtle);
+        match either(firsts) {
+            None => None,
+            Some(key) => Some(fields_of(&self.records, key).serial),
+        }
+    }
+
+    /// A link. None exactly where there is none.
+    pub fn some_link(&self) -> Option<u64>
+        ensures none { IfNone result (self.now.links ≡ []) }
+        ensures lives { IfSome result (λ link. IsSome (find (is_link link) self.now.links)) }
+    {
+        match self.chains.first(Chain::Links) {
+            None => None,
+            Some(key) => Some(fields_of(&self.records, key).serial),
+        }
+    }
+
+    /// A turtle. None exactly where there is none.
+    pub fn some_turtle(&self) -> Option<u64>
+        ensures none { IfNone result (self.now.turtles ≡ []) }
+        ensures lives { IfSome result (λ turtle. IsSome (find (is_turtle turtle) self.now.turtles)) }
+    {
+        match self.chains.first(Chain::Turtles) {
+            None => None,
+            Some(key) => Some(fields_of(&self.records, key).serial),
+        }
+    }
+
+    /// Gives serials of turtles up to this one away.
+    pub fn skip_turtles(&mut self, to: u64)
+        requires { self.old.turtles_given ≤ to }
+        ensures { self.new ≡ record self.old { turtles_given = to } }
+    {
+        self.turtles_given = to;
+    }
+
+    /// Gives serials of links up to this one away.
+    pub fn skip_links(&mut self, to: u64)
+        requires { self.old.links_given ≤ to }
+        ensures { self.new ≡ record self.old { links_given = to } }
+    {
+        self.links_given = to;
     }
 }

@@ -1,5 +1,6 @@
 //! What records know of one agent, each look being one read with a counter of its own.
 ghost use Rattle.std.specs.Prelude.{◌≡◌, ◌<◌, Some, IsSome, option_map};
+ghost use Rattle.std.specs.Option.{option_or};
 ghost use Rattle.nl_records.specs.Records.{record_at, fields_at};
 ghost use Rattle.nl_files.specs.Keys.{key_in};
 ghost use Rattle.nl_files.specs.Agents.{turtle_at, link_at};
@@ -76,5 +77,15 @@ pub(crate) fn link_parts(records: &Records, key: usize) -> LinkParts
             end2,
         },
         Body::Turtle(_) => unreachable!(),
+    }
+}
+
+/// The first of two keys, where there is one.
+pub(crate) fn either(keys: (Option<usize>, Option<usize>)) -> Option<usize>
+    ensures { result ≡ option_or keys.0 keys.1 }
+{
+    match keys.0 {
+        Some(key) => Some(key),
+        None => keys.1,
     }
 }

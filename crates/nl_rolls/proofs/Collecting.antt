@@ -215,3 +215,12 @@ module _ {X : Type 0} (p : X → Bool) where
       let one = count-less f (at_number f a None) a n x l e (λ m. refl) in
       let two = count-less g (at_number f a None) a n y l (same a ∙ at-here f a (Some y)) gone in
       omega (arith, one, two)
+
+-- ---- numbers for which there is nothing
+
+pub collect-past : {X : Type 0} (f : ℕ → Option X) (n m : ℕ) → ((i : ℕ) → n ≤ i → f i ≡ None) → n ≤ m → collect f m ≡ collect f n
+collect-past f n zero none le = let e : zero ≡ n = omega arith in ap (collect f) e
+collect-past f n (suc m) none le = elim (cases_eq n (suc m)) [
+  | inl e ↦ ap (collect f) (sym e)
+  | inr ne ↦ collect-none f m (none m (omega arith)) ∙ collect-past f n m none (omega arith)
+]

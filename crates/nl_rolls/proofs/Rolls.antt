@@ -1,12 +1,12 @@
 -- What becomes of a roll when an item comes, goes or is changed.
-use Rattle.std.proofs.Common.{◌≡◌, ◌≢◌, ℕ, ◌+◌, ◌<◌, Bool, true, false, not, List, [], ◌∷◌, ◌++◌, length, map, filter, find, Option, Some, None, eqb, cond, refl, sym, ap, ◌∙◌, inl, inr, arith, subst}
+use Rattle.std.proofs.Common.{◌≡◌, ◌≢◌, ℕ, ◌+◌, ◌<◌, ◌≤◌, Bool, true, false, not, List, [], ◌∷◌, ◌++◌, length, map, filter, find, Option, Some, None, eqb, cond, refl, sym, ap, ◌∙◌, inl, inr, arith, subst}
 use Rattle.std.proofs.lemmas.Bool.{cases_eq, cases_lt}
 use Rattle.nl_threads.specs.Threads.{at_number}
 use Rattle.nl_threads.specs.Rising.{collect}
 use Rattle.nl_threads.proofs.Places.{at-here, at-other}
 use Rattle.nl_threads.proofs.Collected.{collect-same}
 use Rattle.nl_rolls.specs.Rolls.{under, numbered, roll, HasNumber, IsRoll}
-use Rattle.nl_rolls.proofs.Collecting.{is_at, IsOwn, altered, find-past, find-in, collect-more, collect-taken, collect-changed, count-less, count-changed, length-less}
+use Rattle.nl_rolls.proofs.Collecting.{is_at, IsOwn, altered, find-past, find-in, collect-more, collect-past, collect-taken, collect-changed, count-less, count-changed, length-less}
 
 module _ {X : Type 0} (number_of : X → ℕ) (item : ℕ → Option X) (key_of : ℕ → Option ℕ) (n : ℕ) (d : IsRoll number_of item key_of n) where
   own-under : (m : ℕ) (x : X) (o : Option ℕ) → key_of m ≡ o → under item o ≡ Some x → number_of x ≡ m
@@ -237,3 +237,12 @@ module _ {X : Type 0} (number_of : X → ℕ) (item : ℕ → Option X) (key_of 
 
     pub is_roll-same : IsRoll number_of item' key_of' n
     is_roll-same = record { right = same-right; found = λ j y e. keys (number_of y) ∙ d.found j y (sym (items j) ∙ e); below = λ m j e. d.below m j (sym (keys m) ∙ e) }
+
+  -- ---- numbers that are passed over
+
+  module _ (m : ℕ) (le : n ≤ m) where
+    pub roll-skipped : roll item key_of m ≡ roll item key_of n
+    roll-skipped = collect-past (numbered item key_of) n m (λ i l. past-under i (key_of i) refl (λ h. absurd (omega arith))) le
+
+    pub is_roll-skipped : IsRoll number_of item key_of m
+    is_roll-skipped = record { right = d.right; found = d.found; below = λ i k e. (let l = d.below i k e in omega arith) }
