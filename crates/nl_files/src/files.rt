@@ -1,10 +1,12 @@
 //! The records of turtles and links with their chains and keys.
-ghost use Rattle.std.specs.Prelude.{◌≡◌, ◌==◌, ◌+◌, ◌<◌, ◌≤◌, ◌∷◌, ◌++◌, [], map, filter, find, length, not, true, false, Some, None, IsSome, IfOk, IfErr, IfSome, IfNone, OnOk, OnErr, is_some, option_map};
+ghost use Rattle.std.specs.Prelude.{◌≡◌, ◌==◌, ◌+◌, ◌<◌, ◌≤◌, ◌∷◌, ◌++◌, [], Bool, if◌then◌else◌, map, filter, find, length, not, true, false, Some, None, IsSome, IfOk, IfErr, IfSome, IfNone, OnOk, OnErr, is_some, option_map};
 ghost use Rattle.std.specs.List.{list_any};
 ghost use Rattle.nl_value.specs.Views.{plain};
 ghost use Rattle.nl_grid.specs.Geometry.{IsPointOf, patch_at, patches_of};
 ghost use Rattle.nl_agents.specs.Changes.{is_turtle, is_link, has_end, bred_vars, value_set};
 ghost use Rattle.nl_agents.specs.Members.{is_of_breed};
+ghost use Rattle.nl_agents.specs.declared.agents.Turtle as living;
+ghost use Rattle.nl_agents.specs.declared.agents.Link as tie;
 ghost use Rattle.nl_files.specs.Agents.{Agents, KeepAll, link_entry, links_filled, turtle_entry, turtles_filled, turtles_moved, turtles_of_other_breed, turtles_rebred};
 
 use crate::changing::{rebreed_variables, set_variable};
@@ -205,7 +207,9 @@ impl Files {
     /// The link is gone. It takes no memory.
     pub fn remove_link(&mut self, link: u64)
         requires { IsSome (find (is_link link) self.old.links) }
-        ensures { self.new ≡ record self.old { links = filter (λ l. not (is_link link l)) self.old.links } }
+        ensures left { self.new ≡ record self.old { links = filter (λ l. not (is_link link l)) self.old.links } }
+        ensures counts { (test : tie.Link → Bool) (l : tie.Link) → find (is_link link) self.old.links ≡ Some l →
+            length (filter test self.new.links) + (if test l then 1 else 0) ≡ length (filter test self.old.links) }
     {
         let key = self.link_keys.take(link);
         self.ends.remove(&mut self.records, key);
@@ -217,7 +221,9 @@ impl Files {
     pub fn remove_turtle(&mut self, turtle: u64)
         requires lives { IsSome (find (is_turtle turtle) self.old.turtles) }
         requires free { list_any (has_end turtle) self.old.links ≡ false }
-        ensures { self.new ≡ record self.old { turtles = filter (λ t. not (is_turtle turtle t)) self.old.turtles } }
+        ensures left { self.new ≡ record self.old { turtles = filter (λ t. not (is_turtle turtle t)) self.old.turtles } }
+        ensures counts { (test : living.Turtle → Bool) (t : living.Turtle) → find (is_turtle turtle) self.old.turtles ≡ Some t →
+            length (filter test self.new.turtles) + (if test t then 1 else 0) ≡ length (filter test self.old.turtles) }
     {
         let key = self.turtle_keys.take(turtle);
         self.ends.leave(turtle);

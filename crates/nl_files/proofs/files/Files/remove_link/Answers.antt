@@ -1,14 +1,16 @@
-use Rattle.std.proofs.Common.{◌≡◌, ◌∙◌, ◌+◌, ◌++◌, ◌∷◌, [], false, not, filter, find, IsSome, refl, sym, ap, subst}
+use Rattle.std.proofs.Common.{◌≡◌, ◌∙◌, ◌+◌, length, cond, ◌++◌, ◌∷◌, [], false, not, filter, find, IsSome, refl, sym, ap, subst}
 use Rattle.std.specs.List.{list_any}
 use Rattle.nl_agents.specs.Changes.{has_end, is_link, is_turtle}
 use Rattle.nl_agents.specs.declared.agents.Turtle as living
 use Rattle.nl_agents.specs.declared.agents.Link as tie
 use Rattle.nl_records.specs.Records.{record_at}
-use Rattle.nl_files.specs.Agents.{Agents}
+use Rattle.nl_files.specs.Agents.{link_at, Agents}
+use Rattle.std.proofs.lemmas.Option.{same_Some}
+use Rattle.nl_rolls.specs.Rolls.{roll}
 use Rattle.nl_files.specs.Keys.{key_in}
 use Rattle.nl_files.proofs.Parts.{held-of-bare}
-use Rattle.nl_files.proofs.Going.{is-joined, link-held-then, link-is-held, link-is-listed}
-use Rattle.nl_files.proofs.Filed.{link-key}
+use Rattle.nl_files.proofs.Going.{link-counts, is-joined, link-held-then, link-is-held, link-is-listed}
+use Rattle.nl_files.proofs.Filed.{link-key, link-there}
 use Rattle.nl_files.proofs.Removed.{link-agents, link-counted, link-removed}
 use Rattle.nl_files.proofs.files.Files.remove_link.Goals as goal
 
@@ -49,8 +51,18 @@ invariant_of-self c =
       link-counted f.chains f.ends (record_at f.records) f.turtle_keys f.link_keys f.turtles_given f.links_given c.self.invariant.0 c.self.invariant.1 c.args.link c.take-key.result c.take-key.ensures.key c.remove.new.self (record_at c.remove.new.records) c.remove.ensures.parted c.remove.ensures.others c.remove.ensures.turtles c.remove-2.new.self (record_at c.remove-2.new.records) (record_at c.take.new.self) c.take-key.new.self c.remove-2.ensures.removed c.remove-2.ensures.others c.remove-2.ensures.size c.take.ensures.taken c.take-key.ensures.taken c.take-key.ensures.count,
     )
 
-pub returns : goal.returns
-returns c =
+pub returns-clause-left : goal.returns-clause-left
+returns-clause-left c =
     let f = c.self.inside in
     link-agents f.chains f.ends (record_at f.records) f.turtle_keys f.link_keys f.turtles_given f.links_given c.self.invariant.0 c.self.invariant.1 c.args.link c.take-key.result c.take-key.ensures.key c.remove.new.self (record_at c.remove.new.records) c.remove.ensures.parted c.remove.ensures.others c.remove.ensures.turtles c.remove-2.new.self (record_at c.remove-2.new.records) (record_at c.take.new.self) c.take-key.new.self c.remove-2.ensures.removed c.remove-2.ensures.others c.remove-2.ensures.size c.take.ensures.taken c.take-key.ensures.taken c.take-key.ensures.count
     ∙ ap (λ (a : Agents). record a { links = filter (λ (l : tie.Link). not (is_link c.args.link l)) a.links }) c.self.view_is
+
+pub returns-clause-counts : goal.returns-clause-counts
+returns-clause-counts c test x e =
+    let f = c.self.inside in
+    let gone : tie.Link = (c.self.invariant.0.links.right c.args.link c.take-key.result c.take-key.ensures.key).item in
+    let found = link-there f.chains f.ends (record_at f.records) f.turtle_keys f.link_keys f.turtles_given f.links_given c.self.invariant.0 c.self.invariant.1 c.args.link c.take-key.result c.take-key.ensures.key ∙ (c.self.invariant.0.links.right c.args.link c.take-key.result c.take-key.ensures.key).is in
+    let same : gone ≡ x = same_Some gone x (sym found ∙ ap (λ (a : Agents). find (is_link c.args.link) a.links) c.self.view_is ∙ e) in
+    let counts = link-counts f.chains f.ends (record_at f.records) (key_in f.turtle_keys) (key_in f.link_keys) f.turtles_given f.links_given c.self.invariant.0 c.args.link c.take-key.result c.take-key.ensures.key c.remove.new.self (record_at c.remove.new.records) c.remove.ensures.parted c.remove.ensures.others c.remove.ensures.turtles c.remove-2.new.self (record_at c.remove-2.new.records) (record_at c.take.new.self) (key_in c.take-key.new.self) c.remove-2.ensures.removed c.remove-2.ensures.others c.take.ensures.taken c.take-key.ensures.taken test in
+    ap (λ (y : tie.Link). length (filter test (roll (link_at (record_at c.take.new.self)) (key_in c.take-key.new.self) f.links_given)) + cond (test y) 1 0) (sym same)
+    ∙ counts ∙ ap (λ (a : Agents). length (filter test a.links)) c.self.view_is
