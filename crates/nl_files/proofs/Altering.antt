@@ -1,5 +1,5 @@
 -- An agent that moves, is of another breed, or has other variables.
-use Rattle.std.proofs.Common.{◌≡◌, ◌≢◌, ℕ, Bool, true, false, List, map, Option, Some, None, IsSome, is_some, eqb, cond, refl, sym, ap, ◌∙◌, inl, inr, arith, subst}
+use Rattle.std.proofs.Common.{◌≡◌, ◌≢◌, ℕ, Bool, true, false, map, Option, Some, None, IsSome, is_some, eqb, cond, refl, sym, ap, ◌∙◌, inl, inr, arith, subst}
 use Rattle.std.specs.Option.{option_map}
 use Rattle.std.proofs.lemmas.Bool.{cases_eq}
 use Rattle.nl_grid.specs.declared.point.Point.{Point}
@@ -18,13 +18,13 @@ use Rattle.nl_index.specs.declared.chains.Chains.{Chains}
 use Rattle.nl_index.proofs.Indexes.{index-tests}
 use Rattle.nl_links.specs.declared.ends.Ends.{Ends}
 use Rattle.nl_links.proofs.Joins.{ended-tests}
-use Rattle.nl_rolls.specs.Rolls.{roll, IsRoll}
+use Rattle.nl_rolls.specs.Rolls.{roll}
 use Rattle.nl_rolls.proofs.Collecting.{altered}
 use Rattle.nl_rolls.proofs.Rolls.{is_roll-changed, is_roll-same, roll-changed, roll-same}
 use Rattle.nl_files.specs.Agents.{link_at, link_in, link_serial, turtle_at, turtle_in, turtle_serial}
 use Rattle.nl_files.specs.Standing.{held, is_link, with_vars, ChangesVars, IsFiles}
-use Rattle.nl_files.proofs.Parts.{by-part, end-of-bare, end_part, ended-alike, fields_in, index-alike, index_part, set-here, set-other}
-use Rattle.nl_files.proofs.Counting.{has-fields, link-held, told-by, turtle-held, turtle-or-link}
+use Rattle.nl_files.proofs.Parts.{by-part, end-of-bare, end_part, ended-alike, fields_in, index-alike, index_part, set-here}
+use Rattle.nl_files.proofs.Counting.{has-fields, told-by, turtle-held, turtle-or-link}
 
 no-turtle : (o : Option Fields) (l : tie.Link) → link_in o ≡ Some l → turtle_in o ≡ None
 no-turtle o l e = go (turtle_in o) refl

@@ -1,5 +1,5 @@
 -- An agent that comes.
-use Rattle.std.proofs.Common.{◌≡◌, ◌≢◌, ℕ, ◌+◌, ◌<◌, Bool, true, false, List, [], ◌∷◌, ◌++◌, length, Option, Some, None, IsSome, IsSomeAnd, is_some, eqb, cond, refl, sym, ap, ◌∙◌, inl, inr, arith, subst}
+use Rattle.std.proofs.Common.{◌≡◌, ◌≢◌, ℕ, ◌+◌, ◌<◌, Bool, true, false, [], ◌∷◌, ◌++◌, Option, Some, None, IsSome, IsSomeAnd, is_some, eqb, refl, sym, ap, ◌∙◌, inl, inr, subst}
 use Rattle.std.proofs.lemmas.Bool.{cases_eq}
 use Rattle.nl_grid.specs.declared.point.Point.{Point}
 use Rattle.nl_agents.specs.Nouns.{Vars}
@@ -8,7 +8,6 @@ use Rattle.nl_agents.specs.declared.agents.Link as tie
 use Rattle.nl_threads.specs.Threads.{at_number}
 use Rattle.nl_threads.proofs.Places.{at-here, at-other}
 use Rattle.nl_records.specs.Records.{fields_at, Sets}
-use Rattle.nl_records.specs.declared.fields.Body.{Body}
 use Rattle.nl_records.specs.declared.fields.Body.TheVariants.{Turtle, Link}
 use Rattle.nl_records.specs.declared.fields.Fields.{Fields}
 use Rattle.nl_records.specs.declared.record.Record.{Record}
@@ -19,7 +18,7 @@ use Rattle.nl_links.specs.Sides.{sides_at, HoldsSame}
 use Rattle.nl_links.specs.Ends.{lists_joined, HasEnds, Holds, IsEnded, LinkLists, MayJoin, SameUnjoined}
 use Rattle.nl_links.specs.declared.ends.Ends.{Ends}
 use Rattle.nl_links.proofs.Joins.{ended-sides, ended-tests}
-use Rattle.nl_rolls.specs.Rolls.{roll, IsRoll}
+use Rattle.nl_rolls.specs.Rolls.{roll}
 use Rattle.nl_rolls.proofs.Rolls.{is_roll-more, is_roll-same, roll-more, roll-same}
 use Rattle.nl_files.specs.Agents.{link_at, link_in, link_serial, turtle_at, turtle_in, turtle_serial}
 use Rattle.nl_files.specs.Standing.{held, is_link, IsFiles}

@@ -1,6 +1,5 @@
 -- Lemmas on what is under a key: a turtle or a link, and the same under other records.
-use Rattle.std.proofs.Common.{◌≡◌, ◌≢◌, ℕ, ◌+◌, ◌<◌, Bool, true, false, List, Option, Some, None, is_some, eqb, cond, refl, sym, ap, ◌∙◌, inl, inr, arith, subst}
-use Rattle.std.proofs.lemmas.Bool.{cases_eq}
+use Rattle.std.proofs.Common.{◌≡◌, ℕ, Bool, true, false, Option, Some, None, is_some, eqb, cond, refl, sym, ap, ◌∙◌, arith}
 use Rattle.std.proofs.lemmas.Option.{same_Some}
 use Rattle.nl_agents.specs.declared.agents.Turtle as living
 use Rattle.nl_agents.specs.declared.agents.Link as tie
@@ -12,7 +11,7 @@ use Rattle.nl_records.specs.declared.fields.Fields.{Fields}
 use Rattle.nl_records.specs.declared.record.Record.{Record}
 use Rattle.nl_index.specs.Index.{by_birth, chain_of, serial_in}
 use Rattle.nl_files.specs.Agents.{link_at, link_in, turtle_at, turtle_in}
-use Rattle.nl_files.specs.Standing.{held, is_link}
+use Rattle.nl_files.specs.Standing.{held}
 use Rattle.nl_files.proofs.Parts.{fields_in}
 
 -- ---- what a record is

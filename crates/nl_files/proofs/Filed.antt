@@ -1,25 +1,21 @@
 -- What the steps of a call on the files come to.
-use Rattle.std.proofs.Common.{◌≡◌, ◌≢◌, ℕ, ◌+◌, ◌<◌, Bool, true, false, not, List, [], ◌∷◌, ◌++◌, length, filter, find, Option, Some, None, IsSome, IsSomeAnd, is_some, eqb, cond, refl, sym, ap, ◌∙◌, inl, inr, arith, subst, length-append}
+use Rattle.std.proofs.Common.{◌≡◌, ℕ, ◌+◌, ◌<◌, Bool, true, false, List, [], ◌∷◌, ◌++◌, length, find, Option, Some, None, IsSome, IsSomeAnd, is_some, refl, sym, ap, ◌∙◌, arith, subst, length-append}
 use Rattle.std.specs.Prelude.{Result, Ok, Err, OnErr}
-use Rattle.std.specs.List.{list_any}
-use Rattle.std.proofs.lemmas.Bool.{cases_eq}
 use Rattle.nl_grid.specs.Geometry.{Plane, IsPointOf}
 use Rattle.nl_grid.specs.declared.point.Point.{Point}
 use Rattle.nl_agents.specs.Nouns.{Vars}
-use Rattle.nl_agents.specs.Changes.{has_end}
 use Rattle.nl_agents.specs.declared.agents.Turtle as living
 use Rattle.nl_agents.specs.declared.agents.Link as tie
 use Rattle.nl_threads.specs.Threads.{at_number}
 use Rattle.nl_records.specs.Records.{fields_at, SameRecords, Sets}
-use Rattle.nl_records.specs.declared.fields.Body.{Body}
-use Rattle.nl_records.specs.declared.fields.Body.TheVariants.{Turtle, Link}
+use Rattle.nl_records.specs.declared.fields.Body.TheVariants.{Turtle}
 use Rattle.nl_records.specs.declared.fields.Fields.{Fields}
 use Rattle.nl_records.specs.declared.record.Record.{Record}
-use Rattle.nl_index.specs.Index.{breeds_in, by_birth, chain_of, lists_added, lists_removed, no_lists, serial_at, Fits, HasBreedChain, IsAbove, IsIndex, IsSized, Lists, MayAdd, SameBare, StandsOn}
+use Rattle.nl_index.specs.Index.{breeds_in, by_birth, chain_of, lists_added, no_lists, serial_at, Fits, IsAbove, IsIndex, IsSized, Lists, MayAdd, SameBare}
 use Rattle.nl_index.specs.declared.chains.Chains.{Chains}
 use Rattle.nl_index.proofs.Indexes.{index-tests}
-use Rattle.nl_links.specs.Sides.{sides_at, HoldsSame, SameSides}
-use Rattle.nl_links.specs.Ends.{lists_joined, lists_parted, no_link_lists, Holds, IsEnded, LinkLists, SameUnjoined}
+use Rattle.nl_links.specs.Sides.{sides_at, SameSides}
+use Rattle.nl_links.specs.Ends.{no_link_lists, Holds, IsEnded, LinkLists}
 use Rattle.nl_links.specs.declared.ends.Ends.{Ends}
 use Rattle.nl_links.proofs.Joins.{ended-tests}
 use Rattle.nl_rolls.specs.Rolls.{roll, under, IsRoll}
@@ -30,7 +26,7 @@ use Rattle.nl_files.specs.Keys.{key_count, key_in, SameKeys, SetsKey}
 use Rattle.nl_files.specs.declared.keys.Keys.{Keys}
 use Rattle.nl_files.specs.Standing.{agents_of, held, is_link, AreCounted, IsFiles, PutsNew}
 use Rattle.nl_files.proofs.Parts.{fields_in, set-behind, set-here}
-use Rattle.nl_files.proofs.Coming.{links-below, may-add, same-files, same-links, same-turtles, turtle-files, turtle-links, turtle-roll, turtles-below}
+use Rattle.nl_files.proofs.Coming.{may-add, same-files, same-links, same-turtles, turtle-files, turtle-links, turtle-roll, turtles-below}
 
 -- ---- what files stand for
 

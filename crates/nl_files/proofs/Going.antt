@@ -1,32 +1,27 @@
 -- A link that goes.
-use Rattle.std.proofs.Common.{◌≡◌, ◌≢◌, ℕ, ◌+◌, Bool, true, false, not, List, [], filter, length, Option, Some, None, IsSome, is_some, eqb, cond, ◌||◌, refl, sym, ap, ◌∙◌, inl, inr, arith, subst}
-use Rattle.std.specs.List.{list_any}
+use Rattle.std.proofs.Common.{◌≡◌, ◌≢◌, ℕ, ◌+◌, Bool, true, false, not, filter, length, Option, Some, None, IsSome, is_some, cond, refl, sym, ap, ◌∙◌, inl, inr, subst}
 use Rattle.std.proofs.lemmas.Bool.{cases_eq}
-use Rattle.nl_agents.specs.Changes.{has_end}
 use Rattle.nl_agents.specs.declared.agents.Turtle as living
 use Rattle.nl_agents.specs.declared.agents.Link as tie
-use Rattle.nl_threads.specs.Threads.{at_number, has}
+use Rattle.nl_threads.specs.Threads.{at_number}
 use Rattle.nl_threads.proofs.Places.{at-here, at-other}
 use Rattle.nl_records.specs.Records.{fields_at, Sets}
-use Rattle.nl_records.specs.declared.fields.Body.{Body}
-use Rattle.nl_records.specs.declared.fields.Body.TheVariants.{Turtle, Link}
 use Rattle.nl_records.specs.declared.fields.Fields.{Fields}
 use Rattle.nl_records.specs.declared.record.Record.{Record}
 use Rattle.nl_index.specs.Index.{lists_removed, IsIndex, IsListed, Lists, SameBare}
 use Rattle.nl_index.specs.declared.chains.Chains.{Chains}
 use Rattle.nl_index.proofs.Indexes.{index-tests}
-use Rattle.nl_links.specs.Sides.{sides_at, HoldsSame}
-use Rattle.nl_links.specs.Ends.{lists_parted, Holds, IsEnded, IsFree, IsJoined, LinkLists, SameUnjoined}
+use Rattle.nl_links.specs.Sides.{HoldsSame}
+use Rattle.nl_links.specs.Ends.{lists_parted, IsEnded, IsJoined, LinkLists, SameUnjoined}
 use Rattle.nl_links.specs.declared.ends.Ends.{Ends}
 use Rattle.nl_links.proofs.Joins.{ended-tests}
-use Rattle.nl_rolls.specs.Rolls.{roll, passes, IsRoll}
+use Rattle.nl_rolls.specs.Rolls.{roll}
 use Rattle.nl_rolls.proofs.Collecting.{is_at}
 use Rattle.nl_rolls.proofs.Rolls.{is_roll-less, is_roll-same, roll-count-less, roll-less, roll-same, roll-shorter}
 use Rattle.nl_files.specs.Agents.{link_at, link_in, link_serial, turtle_at, turtle_in, turtle_serial}
 use Rattle.nl_files.specs.Standing.{held, is_link, IsFiles}
 use Rattle.nl_files.proofs.Parts.{end-of-bare, end_part, ended-alike, fields-of-bare, fields-of-unjoined, fields_in, held-of-bare, held-of-unjoined, index-alike, index-of-unjoined, index_part, set-here, set-other}
-use Rattle.nl_files.proofs.Counting.{has-fields, link-held, told-by, turtle-held, turtle-or-link}
-use Rattle.nl_files.proofs.Members.{first-members, has-none, roll-any, second-members}
+use Rattle.nl_files.proofs.Counting.{has-fields, link-held, told-by, turtle-or-link}
 
 no-turtle : (o : Option Fields) (l : tie.Link) → link_in o ≡ Some l → turtle_in o ≡ None
 no-turtle o l e = go (turtle_in o) refl

@@ -1,6 +1,5 @@
 -- Both chains of a turtle's links.
-use Rattle.std.proofs.Common.{◌≡◌, ◌≢◌, ℕ, Bool, true, false, List, ◌++◌, Option, Some, None, eqb, ◌||◌, refl, sym, ap, ap₂, ◌∙◌, inl, inr, arith, subst}
-use Rattle.std.proofs.lemmas.Grind.{common_steps}
+use Rattle.std.proofs.Common.{◌≡◌, ℕ, Bool, true, false, ◌++◌, Option, Some, None, eqb, ◌||◌, refl, sym, ap₂, ◌∙◌, arith}
 use Rattle.nl_agents.specs.Changes.{has_end}
 use Rattle.nl_agents.specs.declared.agents.Link as tie
 use Rattle.nl_threads.specs.Threads.{has, IsOnce}

@@ -1,10 +1,9 @@
 -- What is told of one agent.
-use Rattle.std.proofs.Common.{◌≡◌, ℕ, ◌<◌, true, Option, Some, None, IsSome, IsSomeAnd, is_some, length, refl, sym, ap, ◌∙◌, subst}
+use Rattle.std.proofs.Common.{◌≡◌, ◌<◌, Option, Some, None, IsSome, IsSomeAnd, is_some, length, refl, sym, ap, ◌∙◌, subst}
 use Rattle.std.specs.Option.{option_map}
 use Rattle.std.proofs.lemmas.Option.{same_Some}
 use Rattle.nl_grid.specs.Geometry.{IsPointOf}
 use Rattle.nl_layout.specs.declared.layout.Layout.{Layout}
-use Rattle.nl_agents.specs.Nouns.{Vars}
 use Rattle.nl_agents.specs.declared.agents.Turtle as living
 use Rattle.nl_agents.specs.declared.agents.Link as tie
 use Rattle.nl_records.specs.declared.fields.Body.{Body}

@@ -1,19 +1,14 @@
 -- Which keys chains have, in the words of turtles and links.
-use Rattle.std.proofs.Common.{◌≡◌, ◌≢◌, ℕ, zero, suc, Bool, true, false, List, [], ◌∷◌, ◌++◌, filter, find, Option, Some, None, IsSome, is_some, eqb, cond, ◌&&◌, ◌||◌, refl, sym, ap, ◌∙◌, inl, inr, arith, subst}
+use Rattle.std.proofs.Common.{◌≡◌, ℕ, zero, suc, Bool, true, false, List, [], ◌∷◌, ◌++◌, find, Option, Some, None, is_some, eqb, cond, ◌&&◌, ◌||◌, refl, sym, ap, ◌∙◌}
 use Rattle.std.specs.List.{list_any}
-use Rattle.std.proofs.lemmas.Grind.{common_steps}
-use Rattle.std.proofs.lemmas.Bool.{cases_eq}
 use Rattle.nl_grid.specs.Geometry.{Plane, patch_at}
-use Rattle.nl_agents.specs.Changes.{has_end}
 use Rattle.nl_agents.specs.declared.agents.Turtle as living
 use Rattle.nl_agents.specs.declared.agents.Link as tie
 use Rattle.nl_threads.specs.Threads.{has, IsOnce}
 use Rattle.nl_threads.specs.Rising.{collect}
-use Rattle.nl_threads.proofs.Members.{has-first, has-later, has-rest}
-use Rattle.nl_records.specs.Records.{fields_at}
+use Rattle.nl_threads.proofs.Members.{has-first}
 use Rattle.nl_records.specs.declared.fields.Body.{Body}
 use Rattle.nl_records.specs.declared.fields.Body.TheVariants.{Turtle, Link}
-use Rattle.nl_records.specs.declared.fields.Fields.{Fields}
 use Rattle.nl_records.specs.declared.record.Record.{Record}
 use Rattle.nl_index.specs.Laws.{belongs, is_member}
 use Rattle.nl_index.specs.declared.chains.Chain.{Chain}
@@ -27,7 +22,7 @@ use Rattle.nl_links.proofs.Filters.{ends_are_filters}
 use Rattle.nl_rolls.specs.Rolls.{numbered, passes, roll, under, IsRoll}
 use Rattle.nl_rolls.proofs.Collecting.{is_at, collect-none, collect-some}
 use Rattle.nl_rolls.proofs.Rolls.{item-found}
-use Rattle.nl_files.specs.Agents.{link_at, link_in, link_serial, turtle_at, turtle_in}
+use Rattle.nl_files.specs.Agents.{link_at, link_in, turtle_at, turtle_in}
 use Rattle.nl_files.specs.Standing.{held, is_link, IsFiles}
 use Rattle.nl_files.proofs.Parts.{fields_in}
 

@@ -1,12 +1,11 @@
 -- What chains need of a record, which changes of other places and of variables leave.
-use Rattle.std.proofs.Common.{◌≡◌, ◌≢◌, ℕ, Bool, true, false, List, [], Option, Some, None, IsSome, IsSomeAnd, is_some, eqb, cond, refl, sym, ap, ◌∙◌, inl, inr, arith, subst}
+use Rattle.std.proofs.Common.{◌≡◌, ◌≢◌, ℕ, Bool, true, false, List, [], Option, Some, None, IsSomeAnd, is_some, eqb, cond, refl, sym, ap, ◌∙◌, arith, subst}
 use Rattle.std.specs.Option.{option_map}
-use Rattle.std.proofs.lemmas.Bool.{cases_eq}
 use Rattle.nl_grid.specs.Geometry.{Plane}
 use Rattle.nl_threads.specs.Threads.{has, IsPlace}
 use Rattle.nl_threads.proofs.Threaded.{home-of, stays_threaded}
 use Rattle.nl_threads.proofs.Rising.{rising-same}
-use Rattle.nl_records.specs.Records.{fields_at, no_place, with_fields, Sets, SameRecords}
+use Rattle.nl_records.specs.Records.{fields_at, no_place, with_fields}
 use Rattle.nl_records.specs.Filed.{after, before, next_of, previous_of, IsFiled}
 use Rattle.nl_records.specs.declared.fields.Fields.{Fields}
 use Rattle.nl_records.specs.declared.places.Border.{Border}

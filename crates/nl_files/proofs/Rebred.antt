@@ -5,7 +5,7 @@ use Rattle.nl_agents.specs.Nouns.{Vars}
 use Rattle.nl_agents.specs.Changes.{is_turtle}
 use Rattle.nl_agents.specs.declared.agents.Turtle as living
 use Rattle.nl_agents.proofs.Finding.{found_changed}
-use Rattle.nl_files.specs.Agents.{turtles_filled, turtles_of_other_breed}
+use Rattle.nl_files.specs.Agents.{turtles_filled}
 
 module _ (serial breed : ℕ) (change : Vars → Vars) where
   abbrev filled : living.Turtle → living.Turtle

@@ -1,33 +1,22 @@
 -- What the steps of calls on links come to.
-use Rattle.std.proofs.Common.{◌≡◌, ◌≢◌, ℕ, ◌+◌, ◌<◌, Bool, true, false, not, List, [], ◌∷◌, ◌++◌, length, filter, find, Option, Some, None, IsSome, IsSomeAnd, is_some, eqb, cond, refl, sym, ap, ◌∙◌, inl, inr, arith, subst, length-append}
-use Rattle.std.specs.List.{list_any}
-use Rattle.std.proofs.lemmas.Bool.{cases_eq}
-use Rattle.nl_grid.specs.Geometry.{Plane, IsPointOf}
-use Rattle.nl_grid.specs.declared.point.Point.{Point}
+use Rattle.std.proofs.Common.{◌≡◌, ℕ, ◌+◌, ◌<◌, Bool, true, false, [], ◌∷◌, ◌++◌, length, Option, Some, None, IsSome, IsSomeAnd, eqb, sym, ap, ◌∙◌, arith, subst, length-append}
 use Rattle.nl_agents.specs.Nouns.{Vars}
-use Rattle.nl_agents.specs.Changes.{has_end}
-use Rattle.nl_agents.specs.declared.agents.Turtle as living
-use Rattle.nl_agents.specs.declared.agents.Link as tie
 use Rattle.nl_threads.specs.Threads.{at_number}
 use Rattle.nl_records.specs.Records.{fields_at, SameRecords, Sets}
-use Rattle.nl_records.specs.declared.fields.Body.{Body}
-use Rattle.nl_records.specs.declared.fields.Body.TheVariants.{Turtle, Link}
+use Rattle.nl_records.specs.declared.fields.Body.TheVariants.{Link}
 use Rattle.nl_records.specs.declared.fields.Fields.{Fields}
 use Rattle.nl_records.specs.declared.record.Record.{Record}
-use Rattle.nl_index.specs.Index.{breeds_in, by_birth, chain_of, lists_added, lists_removed, no_lists, serial_at, Fits, HasBreedChain, IsAbove, IsIndex, IsSized, Lists, MayAdd, SameBare, StandsOn}
+use Rattle.nl_index.specs.Index.{breeds_in, by_birth, chain_of, lists_added, serial_at, Fits, IsAbove, IsIndex, IsSized, Lists, MayAdd, SameBare}
 use Rattle.nl_index.specs.declared.chains.Chains.{Chains}
-use Rattle.nl_index.proofs.Indexes.{index-tests}
-use Rattle.nl_links.specs.Sides.{sides_at, HoldsSame, SameSides}
+use Rattle.nl_links.specs.Sides.{HoldsSame}
 use Rattle.nl_links.specs.Ends.{lists_joined, HasEnds, IsEnded, LinkLists, MayJoin, SameUnjoined}
 use Rattle.nl_links.specs.declared.ends.Ends.{Ends}
-use Rattle.nl_links.proofs.Joins.{ended-tests}
-use Rattle.nl_rolls.specs.Rolls.{roll, under, IsRoll}
-use Rattle.nl_rolls.proofs.Collecting.{is_at}
-use Rattle.nl_rolls.proofs.Rolls.{next-free, roll-found}
-use Rattle.nl_files.specs.Agents.{link_at, link_in, link_serial, turtle_at, turtle_in, turtle_serial, Agents}
+use Rattle.nl_rolls.specs.Rolls.{roll}
+use Rattle.nl_rolls.proofs.Rolls.{next-free}
+use Rattle.nl_files.specs.Agents.{link_at, link_serial, turtle_at}
 use Rattle.nl_files.specs.Keys.{key_count, key_in, SameKeys, SetsKey}
 use Rattle.nl_files.specs.declared.keys.Keys.{Keys}
-use Rattle.nl_files.specs.Standing.{agents_of, held, is_link, AreCounted, IsFiles, PutsNew}
+use Rattle.nl_files.specs.Standing.{agents_of, AreCounted, IsFiles, PutsNew}
 use Rattle.nl_files.proofs.Parts.{fields_in, set-behind, set-here}
 use Rattle.nl_files.proofs.Coming.{ends-held, link-files, link-roll, link-turtles, links-below, may-add, may-join}
 use Rattle.nl_files.proofs.Filed.{made}

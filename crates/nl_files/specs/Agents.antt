@@ -15,7 +15,6 @@ use Rattle.nl_records.specs.declared.fields.Body.{Body}
 use Rattle.nl_records.specs.declared.fields.Body.TheVariants.{Turtle, Link}
 use Rattle.nl_records.specs.declared.fields.Fields.{Fields}
 use Rattle.nl_records.specs.declared.record.Record.{Record}
-use Rattle.nl_rolls.specs.Rolls.{roll}
 
 -- the turtle of this serial and breed, with these variables, that is so; none where it is a link
 abbrev pub turtle_as : ℕ → ℕ → Vars → Body → Option living.Turtle

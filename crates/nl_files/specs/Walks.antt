@@ -1,5 +1,5 @@
 -- Walks along a chain of records.
-use Rattle.std.specs.Prelude.{◌≡◌, ℕ, ◌+◌, ◌≤◌, List, [], ◌∷◌, ◌++◌, length, map, Option, Some, None, IsSome}
+use Rattle.std.specs.Prelude.{◌≡◌, ℕ, ◌≤◌, List, [], ◌∷◌, ◌++◌, length, map, Option, Some, None, IsSome}
 use Rattle.nl_threads.specs.Threads.{IsOnce}
 use Rattle.nl_threads.specs.Rising.{IsRisingBy}
 use Rattle.nl_records.specs.Filed.{next_of}

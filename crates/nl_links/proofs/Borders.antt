@@ -1,5 +1,5 @@
 -- Lemmas on a border of one turtle's chain that is written.
-use Rattle.std.proofs.Common.{◌≡◌, ℕ, Bool, true, false, Option, Some, None, IsSome, is_some, eqb, cond, refl, sym, ap, ◌∙◌, inl, inr, arith, subst}
+use Rattle.std.proofs.Common.{◌≡◌, ℕ, true, false, Option, Some, None, IsSome, is_some, eqb, cond, refl, sym, ap, ◌∙◌, inl, inr, arith, subst}
 use Rattle.std.specs.Option.{option_map}
 use Rattle.std.proofs.lemmas.Bool.{cases_eq}
 use Rattle.nl_records.specs.declared.places.Border.{Border}
@@ -7,7 +7,7 @@ use Rattle.nl_links.specs.declared.sides.Side.{Side}
 use Rattle.nl_links.specs.declared.sides.Side.TheVariants.{First, Second}
 use Rattle.nl_links.specs.declared.sides.Sides.{Sides}
 use Rattle.nl_links.specs.declared.ends.Ends.{Ends}
-use Rattle.nl_links.specs.Sides.{border_in, border_of, borders_of, other_side, sides_at, with_border, with_first, with_last, HoldsSame, KeepsBeside, SetsSides}
+use Rattle.nl_links.specs.Sides.{border_in, border_of, borders_of, other_side, sides_at, with_border, with_first, with_last, KeepsBeside, SetsSides}
 
 first-here : (side : Side) (to : Option ℕ) (o : Option Sides) → IsSome o → border_in side (option_map (with_first side to) o) ≡ record { first = to; last = (border_in side o).last }
 first-here side to None h = absurd (cc)

@@ -1,5 +1,5 @@
 -- Chains of links are filters.
-use Rattle.std.proofs.Common.{◌≡◌, ℕ, Bool, true, false, Option, Some, None, cond, ◌&&◌, refl, sym, ap, ◌∙◌}
+use Rattle.std.proofs.Common.{◌≡◌, ℕ, Bool, true, false, Option, Some, None, cond, ◌&&◌, refl, ◌∙◌}
 use Rattle.nl_threads.specs.Threads.{is_in}
 use Rattle.nl_threads.proofs.Threaded.{lists_are_one}
 use Rattle.nl_records.specs.Records.{fields_at}

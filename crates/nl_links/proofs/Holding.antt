@@ -1,7 +1,6 @@
 -- Lemmas on turtles that are held or let go.
-use Rattle.std.proofs.Common.{◌≡◌, ◌≢◌, ℕ, Bool, true, false, List, [], ◌∷◌, Option, Some, None, IsSome, IsSomeAnd, is_some, eqb, cond, refl, sym, ap, ap₂, ◌∙◌, inl, inr, arith, subst}
+use Rattle.std.proofs.Common.{◌≡◌, ◌≢◌, ℕ, Bool, true, false, List, [], ◌∷◌, Option, Some, None, IsSome, IsSomeAnd, is_some, eqb, cond, refl, sym, ap, ap₂, ◌∙◌, subst}
 use mathlib.Core.Path.{fun_ext}
-use Rattle.std.proofs.lemmas.Bool.{cases_eq}
 use Rattle.nl_threads.specs.Threads.{has, IsPlace, IsWalk}
 use Rattle.nl_threads.proofs.Threaded.{listed}
 use Rattle.nl_records.specs.Records.{fields_at}

@@ -1,5 +1,5 @@
 -- Lemmas on links that come, go, and whose records, or whose test, are others.
-use Rattle.std.proofs.Common.{◌≡◌, ◌≢◌, ℕ, Bool, true, false, List, Option, Some, None, IsSome, IsSomeAnd, is_some, cond, refl, sym, ap, ◌∙◌, subst}
+use Rattle.std.proofs.Common.{◌≡◌, ℕ, Bool, true, false, List, Option, Some, None, IsSome, IsSomeAnd, is_some, cond, refl, sym, ap, ◌∙◌, subst}
 use mathlib.Core.Path.{fun_ext}
 use Rattle.nl_threads.specs.Threads.{IsPlace}
 use Rattle.nl_threads.proofs.Threaded.{stays_threaded}

@@ -1,5 +1,5 @@
 -- What holds of the chains of links, in the words of the links that they hold.
-use Rattle.std.specs.Prelude.{◌≡◌, ℕ, ◌==◌, ◌&&◌, Bool, true, false, List, Option, Some, None}
+use Rattle.std.specs.Prelude.{◌≡◌, ℕ, ◌==◌, ◌&&◌, Bool, false, List, Option, Some, None}
 use Rattle.nl_threads.specs.Threads.{has, IsOnce}
 use Rattle.nl_records.specs.Records.{fields_at}
 use Rattle.nl_records.specs.declared.fields.Body.{Body}

@@ -1,6 +1,5 @@
 -- Where the chains of a turtle's links begin and end.
 use Rattle.std.specs.Prelude.{◌≡◌, ℕ, ◌==◌, List, Option, Some, None, nat_eq, is_some, if◌then◌else◌}
-use Rattle.std.specs.Option.{option_map}
 use Rattle.indexmap.specs.IndexMap.{get}
 use Rattle.nl_records.specs.Filed.{no_keys, IsFiled}
 use Rattle.nl_records.specs.declared.places.Border.{Border}

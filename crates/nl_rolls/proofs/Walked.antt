@@ -1,9 +1,8 @@
 -- Lists of keys that have just the items that pass a test, and the numbers of these items in order.
-use Rattle.std.proofs.Common.{◌≡◌, ◌≢◌, ℕ, zero, suc, ◌+◌, ◌<◌, ◌≤◌, Bool, true, false, List, [], ◌∷◌, ◌++◌, length, map, filter, find, Option, Some, None, eqb, cond, refl, sym, ap, ◌∙◌, inl, inr, arith, subst}
+use Rattle.std.proofs.Common.{◌≡◌, ◌≢◌, ℕ, zero, suc, ◌+◌, ◌<◌, ◌≤◌, Bool, true, false, List, [], ◌∷◌, length, map, filter, Option, Some, None, eqb, cond, refl, sym, ap, ◌∙◌, inl, inr, arith, subst}
 use Rattle.std.specs.Prelude.{slice_index}
 use Rattle.std.specs.Option.{option_map}
 use Rattle.std.specs.List.Sorted.{IsPermutation, IsNonDecreasing, IsStrictlyIncreasing}
-use Rattle.std.proofs.lemmas.Grind.{common_steps}
 use Rattle.std.proofs.lemmas.Bool.{cases_eq}
 use Rattle.nl_threads.specs.Threads.{has, IsOnce, without}
 use Rattle.nl_threads.specs.Rising.{IsRisingBy, collect}
@@ -12,7 +11,7 @@ use Rattle.nl_threads.proofs.Rising.{rising-one, rising-once, rising-sorted}
 use Rattle.nl_threads.proofs.Collected.{collected-from, has-collect, length-without, rising-collect}
 use Rattle.nl_rolls.specs.Rolls.{under, numbered, roll, passes, number_in, IsRoll}
 use Rattle.nl_rolls.proofs.Collecting.{kept, collect-map, collect-filter}
-use Rattle.nl_rolls.proofs.Rolls.{roll-own, item-found}
+use Rattle.nl_rolls.proofs.Rolls.{roll-own}
 
 -- ---- lists that have their keys once
 

@@ -4,7 +4,7 @@ use Rattle.nl_records.specs.Filed.{next_of}
 use Rattle.nl_records.specs.declared.fields.Fields.{Fields}
 use Rattle.nl_index.specs.Index.{serial_in}
 use Rattle.nl_files.proofs.Parts.{fields_in}
-use Rattle.nl_files.proofs.Left.{left-none, left-done, left-some, left-next, left-as, left-first, left-more, left-reads, copied-some}
+use Rattle.nl_files.proofs.Left.{left-none, left-done, left-some, left-next, left-as, left-first, left-reads, copied-some}
 use Rattle.nl_files.proofs.walk.walk.Goals as goal
 
 pub loop-passed-init : goal.loop-passed-init

@@ -1,6 +1,6 @@
 use Rattle.nl_index.proofs.Borders.{first-redirects, first-stays}
-use Rattle.nl_links.specs.Sides.{borders_of, kind_of}
-use Rattle.nl_links.proofs.Borders.{first-set, keeps-first, keeps-none}
+use Rattle.nl_links.specs.Sides.{kind_of}
+use Rattle.nl_links.proofs.Borders.{first-set, keeps-first}
 use Rattle.nl_links.proofs.joining.set_after.Goals as goal
 
 pub returns-in-None-clause-after : goal.returns-in-None-clause-after

@@ -1,6 +1,6 @@
 use Rattle.nl_index.proofs.Borders.{last-redirects, last-stays}
-use Rattle.nl_links.specs.Sides.{borders_of, kind_of}
-use Rattle.nl_links.proofs.Borders.{last-set, keeps-last, keeps-none}
+use Rattle.nl_links.specs.Sides.{kind_of}
+use Rattle.nl_links.proofs.Borders.{last-set, keeps-last}
 use Rattle.nl_links.proofs.joining.set_before.Goals as goal
 
 pub returns-in-None-clause-before : goal.returns-in-None-clause-before

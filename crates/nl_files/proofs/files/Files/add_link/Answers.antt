@@ -1,11 +1,7 @@
-use Rattle.std.proofs.Common.{◌≡◌, ◌∙◌, ◌+◌, ◌++◌, ◌∷◌, [], false, not, filter, find, IsSome, refl, sym, ap, subst}
-use Rattle.std.specs.List.{list_any}
-use Rattle.nl_agents.specs.Changes.{has_end, is_link, is_turtle}
-use Rattle.nl_agents.specs.declared.agents.Turtle as living
-use Rattle.nl_agents.specs.declared.agents.Link as tie
+use Rattle.std.proofs.Common.{◌∙◌, ◌+◌, ◌++◌, ◌∷◌, [], find, IsSome, sym, ap, subst}
+use Rattle.nl_agents.specs.Changes.{is_turtle}
 use Rattle.nl_records.specs.Records.{record_at}
 use Rattle.nl_files.specs.Agents.{Agents}
-use Rattle.nl_files.specs.Keys.{key_in}
 use Rattle.nl_files.proofs.Filed.{agents-same, counted-same, files-same, on-err, same-keys, same-sides, turtle-key}
 use Rattle.nl_files.proofs.Tied.{link-added, link-agents, link-counted, link-ends-held, link-may-add, link-may-join}
 use Rattle.nl_files.proofs.files.Files.add_link.Goals as goal

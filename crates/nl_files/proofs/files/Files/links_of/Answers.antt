@@ -1,14 +1,10 @@
-use Rattle.std.proofs.Common.{◌≡◌, ◌∙◌, ◌+◌, ◌<◌, ◌≤◌, ◌++◌, ℕ, List, true, false, Some, filter, find, length, map, IsSome, is_some, refl, sym, ap, subst, arith}
-use Rattle.std.specs.Option.{option_map}
-use Rattle.nl_grid.specs.Geometry.{patches_of}
-use Rattle.nl_agents.specs.Changes.{has_end, is_link, is_turtle}
-use Rattle.nl_agents.specs.declared.agents.Turtle as living
+use Rattle.std.proofs.Common.{◌∙◌, ◌≤◌, ◌++◌, filter, find, length, map, IsSome, sym, ap, subst, arith}
+use Rattle.nl_agents.specs.Changes.{has_end, is_turtle}
 use Rattle.nl_agents.specs.declared.agents.Link as tie
 use Rattle.nl_records.specs.Records.{record_at, fields_at}
-use Rattle.nl_files.specs.Agents.{link_at, link_serial, turtle_at, turtle_serial, Agents}
+use Rattle.nl_files.specs.Agents.{link_at, link_serial, Agents}
 use Rattle.nl_files.specs.Keys.{key_in}
 use Rattle.std.proofs.lemmas.Result.{on_ok_weaker}
-use Rattle.nl_rolls.specs.Rolls.{roll}
 use Rattle.nl_files.specs.Standing.{is_link as is_filed}
 use Rattle.nl_files.specs.Walks.{IsPath}
 use Rattle.nl_files.proofs.Filed.{turtle-key}

@@ -1,4 +1,3 @@
-use Rattle.std.proofs.Common.{refl}
 use Rattle.nl_records.specs.Records.{record_at}
 use Rattle.nl_files.proofs.Filed.{files-new}
 use Rattle.nl_files.proofs.files.Files.new.Goals as goal

@@ -1,24 +1,16 @@
-use Rattle.std.proofs.Common.{◌≡◌, ◌∙◌, ◌+◌, ◌<◌, ◌≤◌, ◌++◌, ℕ, List, true, false, Some, filter, find, length, map, IsSome, is_some, refl, sym, ap, subst, arith}
-use Rattle.std.specs.Option.{option_map}
-use Rattle.nl_grid.specs.Geometry.{patches_of}
-use Rattle.nl_agents.specs.Changes.{has_end, is_link, is_turtle}
+use Rattle.std.proofs.Common.{◌∙◌, ◌<◌, ◌≤◌, filter, length, map, sym, ap, subst, arith}
 use Rattle.nl_agents.specs.declared.agents.Turtle as living
-use Rattle.nl_agents.specs.declared.agents.Link as tie
 use Rattle.nl_records.specs.Records.{record_at, fields_at}
-use Rattle.nl_files.specs.Agents.{link_at, link_serial, turtle_at, turtle_serial, Agents}
+use Rattle.nl_files.specs.Agents.{turtle_at, turtle_serial, Agents}
 use Rattle.nl_files.specs.Keys.{key_in}
 use Rattle.std.proofs.lemmas.Result.{on_ok_weaker}
-use Rattle.nl_index.specs.Index.{breeds_in}
 use Rattle.nl_index.specs.declared.chains.Chain.TheVariants as chain
-use Rattle.nl_rolls.specs.Rolls.{roll}
 use Rattle.nl_files.specs.Standing.{held}
 use Rattle.nl_files.specs.Walks.{IsPath}
-use Rattle.nl_files.proofs.Listed.{chain-path, filter-whole, listed-long, listed-once, listed-order, listed-short, listed-sorted}
+use Rattle.nl_files.proofs.Listed.{chain-path, listed-long, listed-once, listed-short, listed-sorted}
 use Rattle.nl_files.proofs.Looked.{turtle-number}
-use Rattle.nl_files.proofs.Members.{chain-once, link-members, turtle-members, turtle_of_chain}
+use Rattle.nl_files.proofs.Members.{chain-once, turtle-members, turtle_of_chain}
 use Rattle.nl_agents.specs.Members.{is_of_breed}
-use Rattle.nl_grid.specs.Geometry.{patch_at}
-use Rattle.std.proofs.Common.{eqb}
 use Rattle.nl_files.proofs.files.Files.of_breed.Goals as goal
 
 pub first-first-requires-clause-whole : goal.first-first-requires-clause-whole

@@ -1,24 +1,19 @@
-use Rattle.std.proofs.Common.{◌≡◌, ◌∙◌, ◌<◌, ℕ, List, Some, find, length, map, IsSome, is_some, refl, sym, ap, subst}
+use Rattle.std.proofs.Common.{◌∙◌, ◌<◌, find, length, IsSome, is_some, refl, sym, ap, subst}
 use Rattle.std.specs.Option.{option_map}
 use Rattle.std.proofs.lemmas.List.{length-map}
 use Rattle.std.proofs.lemmas.Option.{same_Some}
-use Rattle.std.proofs.lemmas.Result.{IfOk-weaker, on_err_weaker}
 use Rattle.nl_grid.specs.Geometry.{IsPointOf}
-use Rattle.nl_value.specs.Views.{plain}
-use Rattle.nl_agents.specs.Nouns.{Vars}
-use Rattle.nl_agents.specs.Changes.{bred_vars, is_link, is_turtle, value_set}
+use Rattle.nl_agents.specs.Changes.{is_turtle}
 use Rattle.nl_agents.specs.declared.agents.Turtle as living
-use Rattle.nl_agents.specs.declared.agents.Link as tie
-use Rattle.nl_agents.proofs.Finding.{found_all}
 use Rattle.nl_records.specs.Records.{record_at, fields_at}
 use Rattle.nl_index.specs.Index.{breeds_in}
 use Rattle.nl_rolls.specs.Rolls.{roll}
 use Rattle.nl_rolls.proofs.Collecting.{altered}
-use Rattle.nl_files.specs.Agents.{entry_in, entry_of, link_at, link_entry, link_serial, links_filled, turtle_at, turtle_entry, turtle_serial, turtles_filled, turtles_moved, turtles_of_other_breed, Agents}
+use Rattle.nl_files.specs.Agents.{turtle_at, turtle_serial, turtles_of_other_breed, Agents}
 use Rattle.nl_files.specs.Keys.{key_in}
-use Rattle.nl_files.proofs.Filed.{link-key, link-there, made, turtle-key, turtle-there}
-use Rattle.nl_files.proofs.Looked.{breed-fits, has-many, link-entries, link-record, point-fits, turtle-breed, turtle-entries, turtle-record}
-use Rattle.nl_files.proofs.Altering.{key-held, key-listed, key-turtle, moved-files, moved-links, moved-roll, moved-roll-by, set-link-files, set-link-roll, set-link-turtles, set-turtle-files, set-turtle-links, set-turtle-roll, there, there-is}
+use Rattle.nl_files.proofs.Filed.{made, turtle-key}
+use Rattle.nl_files.proofs.Looked.{point-fits}
+use Rattle.nl_files.proofs.Altering.{key-held, key-listed, key-turtle, moved-files, moved-links, moved-roll, moved-roll-by, there, there-is}
 use Rattle.nl_files.proofs.files.Files.refile_turtle.Goals as goal
 
 pub key_of-key-requires : goal.key_of-key-requires

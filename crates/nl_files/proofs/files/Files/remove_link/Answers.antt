@@ -1,7 +1,5 @@
-use Rattle.std.proofs.Common.{◌≡◌, ◌∙◌, ◌+◌, length, cond, ◌++◌, ◌∷◌, [], false, not, filter, find, IsSome, refl, sym, ap, subst}
-use Rattle.std.specs.List.{list_any}
-use Rattle.nl_agents.specs.Changes.{has_end, is_link, is_turtle}
-use Rattle.nl_agents.specs.declared.agents.Turtle as living
+use Rattle.std.proofs.Common.{◌≡◌, ◌∙◌, ◌+◌, length, cond, not, filter, find, IsSome, sym, ap, subst}
+use Rattle.nl_agents.specs.Changes.{is_link}
 use Rattle.nl_agents.specs.declared.agents.Link as tie
 use Rattle.nl_records.specs.Records.{record_at}
 use Rattle.nl_files.specs.Agents.{link_at, Agents}

@@ -1,8 +1,7 @@
-use Rattle.std.proofs.Common.{◌≡◌, ◌∙◌, ◌+◌, length, cond, ◌++◌, ◌∷◌, [], false, not, filter, find, IsSome, refl, sym, ap, subst}
+use Rattle.std.proofs.Common.{◌≡◌, ◌∙◌, ◌+◌, length, cond, false, not, filter, find, IsSome, sym, ap, subst}
 use Rattle.std.specs.List.{list_any}
-use Rattle.nl_agents.specs.Changes.{has_end, is_link, is_turtle}
+use Rattle.nl_agents.specs.Changes.{has_end, is_turtle}
 use Rattle.nl_agents.specs.declared.agents.Turtle as living
-use Rattle.nl_agents.specs.declared.agents.Link as tie
 use Rattle.nl_records.specs.Records.{record_at}
 use Rattle.nl_files.specs.Agents.{turtle_at, Agents}
 use Rattle.std.proofs.lemmas.Option.{same_Some}

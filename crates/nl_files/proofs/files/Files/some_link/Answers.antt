@@ -1,25 +1,17 @@
-use Rattle.std.proofs.Common.{◌≡◌, ◌∙◌, ◌++◌, ℕ, List, true, false, Some, None, find, IsSome, is_some, refl, sym, ap, ap₂, subst}
-use Rattle.std.specs.Prelude.{IfSome}
-use Rattle.std.specs.Option.{option_or}
-use Rattle.std.specs.List.{list_any}
-use Rattle.nl_agents.specs.Changes.{has_end, is_link, is_turtle}
-use Rattle.nl_agents.specs.declared.agents.Turtle as living
+use Rattle.std.proofs.Common.{◌≡◌, ◌∙◌, true, find, is_some, sym, ap}
+use Rattle.nl_agents.specs.Changes.{is_link}
 use Rattle.nl_agents.specs.declared.agents.Link as tie
 use Rattle.nl_records.specs.Records.{record_at, fields_at}
-use Rattle.nl_records.specs.declared.fields.Fields.{Fields}
-use Rattle.nl_index.specs.Index.{first_of, serial_in}
-use Rattle.nl_index.specs.declared.chains.Chain.TheVariants as chain
+use Rattle.nl_index.specs.Index.{serial_in}
 use Rattle.nl_rolls.specs.Rolls.{roll}
 use Rattle.nl_rolls.proofs.Rolls.{item-found}
-use Rattle.nl_files.specs.Agents.{link_at, link_serial, turtle_at, turtle_serial, Agents}
+use Rattle.nl_files.specs.Agents.{link_at, link_serial, Agents}
 use Rattle.nl_files.specs.Keys.{key_in}
-use Rattle.nl_files.specs.Standing.{held, is_link as is_filed}
-use Rattle.nl_files.proofs.Chosen.{first-both, none-any, none-listed, some-listed, turtles-agents, turtles-counted, turtles-skipped, links-agents, links-counted, links-skipped}
-use Rattle.nl_files.proofs.Counting.{link-held, turtle-held}
-use Rattle.nl_files.proofs.Filed.{turtle-key}
-use Rattle.nl_files.proofs.Joined.{both-members}
-use Rattle.nl_files.proofs.Looked.{link-number, turtle-number}
-use Rattle.nl_files.proofs.Members.{link-members, turtle-members, turtle_of_chain}
+use Rattle.nl_files.specs.Standing.{held}
+use Rattle.nl_files.proofs.Chosen.{none-any, none-listed, some-listed}
+use Rattle.nl_files.proofs.Counting.{link-held}
+use Rattle.nl_files.proofs.Looked.{link-number}
+use Rattle.nl_files.proofs.Members.{link-members}
 use Rattle.nl_files.proofs.files.Files.some_link.Goals as goal
 
 pub first-requires-clause-whole : goal.first-requires-clause-whole

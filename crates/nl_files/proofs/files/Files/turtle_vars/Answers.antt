@@ -1,12 +1,9 @@
-use Rattle.std.proofs.Common.{◌≡◌, ◌∙◌, ◌+◌, ◌<◌, ◌≤◌, ◌++◌, ℕ, List, true, false, Some, filter, find, length, map, IsSome, is_some, refl, sym, ap, subst, arith}
+use Rattle.std.proofs.Common.{◌∙◌, find, IsSome, is_some, sym, ap, subst}
 use Rattle.std.specs.Option.{option_map}
-use Rattle.nl_grid.specs.Geometry.{patches_of}
-use Rattle.nl_agents.specs.Changes.{has_end, is_link, is_turtle}
+use Rattle.nl_agents.specs.Changes.{is_turtle}
 use Rattle.nl_agents.specs.declared.agents.Turtle as living
-use Rattle.nl_agents.specs.declared.agents.Link as tie
 use Rattle.nl_records.specs.Records.{record_at, fields_at}
-use Rattle.nl_files.specs.Agents.{link_at, link_serial, turtle_at, turtle_serial, Agents}
-use Rattle.nl_files.specs.Keys.{key_in}
+use Rattle.nl_files.specs.Agents.{Agents}
 use Rattle.nl_files.proofs.Filed.{turtle-key, turtle-there}
 use Rattle.nl_files.proofs.Looked.{turtle-record, turtle-vars}
 use Rattle.nl_files.proofs.files.Files.turtle_vars.Goals as goal

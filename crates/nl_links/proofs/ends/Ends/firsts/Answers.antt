@@ -1,5 +1,4 @@
 use Rattle.std.proofs.Common.{ap, sym, ◌∙◌}
-use Rattle.nl_records.specs.declared.places.Border.{Border}
 use Rattle.nl_links.specs.declared.sides.Side.TheVariants.{First, Second}
 use Rattle.nl_links.specs.Sides.{border_in}
 use Rattle.nl_links.proofs.Holding.{first-key}
