@@ -1,0 +1,46 @@
+-- What the course of a run means: laws above the definition.
+use Rattle.std.specs.Prelude.{◌≡◌, ℕ, ◌≤◌, ◌<◌, ⊤, List, [], ◌∷◌, Option, Some, None}
+use Rattle.nl_fixed.specs.Nouns.{Texts}
+use Rattle.nl_run.specs.Course.{Standing, course_within, rows_of, step_or_end, steps, steps_from}
+use Rattle.nl_run.specs.Job.{Job}
+use Rattle.nl_run.specs.declared.rows.Row.{Row}
+use Rattle.nl_run.specs.declared.rows.RunEnd.TheVariants as end_
+
+-- the units that are left are some of those that there were
+abbrev pub UnitsAreOfTheBudget : Type 0
+UnitsAreOfTheBudget = (j : Job) (units : ℕ) → (course_within j units).left ≤ units
+
+-- a step, or the end, and then the further steps
+abbrev pub StepsFollowEachOther : Type 0
+StepsFollowEachOther = (j : Job) (s : Standing) → steps j s ≡ step_or_end j (steps j) s
+
+-- it makes no difference how many steps are allowed, as long as they are more than there are units
+abbrev pub UnitsBoundSteps : Type 0
+UnitsBoundSteps = (most : ℕ) (j : Job) (s : Standing) → s.left < most → steps_from most j s ≡ steps j s
+
+-- ---- rows
+
+-- no row but the last one has an end, and that one has
+abbrev pub EndsLast : List Row → Type 0
+EndsLast [] = ⊥
+EndsLast (r ∷ []) = r.end ≡ end_.Open → ⊥
+EndsLast (r ∷ s ∷ rs) = (r.end ≡ end_.Open) × EndsLast (s ∷ rs)
+
+abbrev pub TheLastRowAloneEnds : Type 0
+TheLastRowAloneEnds = (j : Job) → EndsLast (rows_of j)
+
+-- a row that measures has more steps than the one before it, and one that only ends has no fewer
+abbrev pub RisesBy : ℕ → ℕ → Option Texts → Type 0
+RisesBy before step (Some cells) = before < step
+RisesBy before step None = before ≤ step
+
+abbrev pub Rises : Row → Row → Type 0
+Rises r s = RisesBy r.step s.step s.cells
+
+abbrev pub StepsRise : List Row → Type 0
+StepsRise [] = ⊤
+StepsRise (r ∷ []) = ⊤
+StepsRise (r ∷ s ∷ rs) = Rises r s × StepsRise (s ∷ rs)
+
+abbrev pub RowsRise : Type 0
+RowsRise = (j : Job) → StepsRise (rows_of j)

@@ -1,0 +1,142 @@
+//! The rows that a run gives.
+ghost use Rattle.std.specs.Prelude.{◌≡◌, OnOk};
+ghost use Rattle.nl_run.specs.Rows.{last_ended};
+
+use nl_fixed::{Cells, NoMemory, Str};
+use nl_sweep::Settings;
+use std::alloc::Global;
+use std::marker::Model;
+
+/// How a row ends its run. A run has one row with an end, its last one; all others are open.
+#[derive(Drop)]
+pub enum RunEnd {
+    /// The run goes on behind this row.
+    Open,
+    /// All steps are done.
+    Steps,
+    /// The condition of `until` is met.
+    Condition,
+    /// The go text was stopped.
+    Stop,
+    /// A unit was wanted, and the budget was spent.
+    Budget,
+    /// A text had an error: `error`, its kind, and where it stands.
+    Error(Str),
+}
+
+impl RunEnd {
+    ghost use Rattle.std.specs.Prelude.{◌≡◌};
+    ghost use Rattle.nl_run.specs.Rows.{end_text};
+
+    /// What the column of ends says: nothing where the row is open.
+    pub fn as_bytes(&self) -> &[u8]
+        ensures { result.now ≡ end_text self.now }
+    {
+        match self {
+            RunEnd::Open => b"",
+            RunEnd::Steps => b"steps",
+            RunEnd::Condition => b"condition",
+            RunEnd::Stop => b"stop",
+            RunEnd::Budget => b"budget",
+            RunEnd::Error(text) => text.as_bytes(),
+        }
+    }
+}
+
+/// A row of a run.
+#[derive(Drop)]
+pub struct Row {
+    /// The number of the run, counted from 1.
+    pub number: u64,
+    /// The varied variables, in order.
+    pub settings: Settings,
+    /// The count of steps.
+    pub step: u64,
+    /// The texts of the metrics. None where the row measures nothing.
+    pub cells: Option<Cells>,
+    pub end: RunEnd,
+}
+
+/// The rows of a run, in order.
+#[derive(Drop)]
+pub struct Rows {
+    list: Vec<Row>,
+}
+
+impl Model for Rows {
+    ghost use Rattle.std.specs.Prelude.{List};
+    ghost use Rattle.std.specs.Coded.{coded_list};
+    ghost use Rattle.nl_run.specs.declared.rows.Row.{Row};
+    ghost use Rattle.nl_run.specs.inner.Codes.{row_code};
+
+    ghost Value = { List Row };
+
+    ghost coded = { coded_list row_code };
+
+    ghost view = { λ rows. rows.list.items };
+}
+
+impl Rows {
+    ghost use Rattle.std.specs.Prelude.{◌≡◌, [], ◌∷◌, ◌++◌, OnOk, OnErr};
+    ghost use Rattle.nl_run.specs.Rows.{last_ended};
+
+    /// No rows.
+    pub fn empty(alloc: Global) -> Rows
+        ensures { result ≡ [] }
+    {
+        Rows {
+            list: Vec::new(alloc),
+        }
+    }
+
+    /// The rows, in order.
+    pub fn as_slice(&self) -> &[Row]
+        ensures { result.now ≡ self.now }
+    {
+        self.list.as_slice()
+    }
+
+    /// Appends a row, or leaves the rows as they were.
+    pub fn push(&mut self, _alloc: Global, row: Row) -> Result<(), NoMemory>
+        ensures ok { OnOk result (self.new ≡ self.old ++ row ∷ []) }
+        ensures err { OnErr result (self.new ≡ self.old) }
+    {
+        self.list.push(row)?;
+        Ok(())
+    }
+
+    /// The last row, if there is one, ends in this way.
+    pub fn end_last(&mut self, how: RunEnd) -> Result<(), NoMemory>
+        ensures { OnOk result (self.new ≡ last_ended how self.old) }
+    {
+        end_last_in(&mut self.list, how)
+    }
+}
+
+// The last of these rows, if there is one, ends in this way.
+fn end_last_in(rows: &mut Vec<Row>, how: RunEnd) -> Result<(), NoMemory>
+    ensures { OnOk result (rows.new.items ≡ last_ended how rows.old.items) }
+{
+    if let Some(row) = rows.pop() {
+        rows.push(row.ended(how))?;
+    }
+    Ok(())
+}
+
+impl Row {
+    ghost use Rattle.std.specs.Prelude.{◌≡◌};
+    ghost use Rattle.nl_run.specs.Rows.{ended};
+
+    /// The same row with another end.
+    pub fn ended(self, how: RunEnd) -> Row
+        ensures { result ≡ ended how self }
+    {
+        Row {
+            number: self.number,
+            settings: self.settings,
+            step: self.step,
+            cells: self.cells,
+            end: how,
+        }
+    }
+}
