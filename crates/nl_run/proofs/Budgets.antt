@@ -1,10 +1,9 @@
 -- The units that are left are some of those that there were.
-use Rattle.std.proofs.Common.{ℕ, ◌≤◌, Bool, true, false, not, ◌++◌, [], ◌∷◌, arith}
-use Rattle.nl_fixed.specs.Nouns.{Texts}
+use Rattle.std.proofs.Common.{ℕ, ◌≤◌, Bool, true, false, not, [], arith}
 use Rattle.nl_run.specs.Course.{Finish, Standing, course_within, ends_as, measured_if, regular_end, with_row}
 use Rattle.nl_run.specs.Job.{Job}
 use Rattle.nl_run.specs.declared.rows.RunEnd.{RunEnd}
-use Rattle.nl_run.proofs.Keeping.{Course, Lasts, cells_keep, course_keeps}
+use Rattle.nl_run.proofs.Keeping.{Lasts, cells_keep, course_keeps}
 
 abbrev on : ℕ → Standing → Type 0
 on n s = s.left ≤ n

@@ -1,5 +1,5 @@
 -- What holds of all that a run has on its way holds of what it comes to.
-use Rattle.std.proofs.Common.{◌≡◌, ℕ, zero, suc, ◌+◌, ◌≤◌, Bool, true, false, not, List, [], ◌∷◌, ◌++◌, if◌then◌else◌, length, refl, arith}
+use Rattle.std.proofs.Common.{ℕ, zero, suc, ◌+◌, ◌≤◌, Bool, true, false, List, [], ◌∷◌, ◌++◌, if◌then◌else◌, length, arith}
 use Rattle.std.specs.Prelude.{nat_lt, Option, Some, None}
 use Rattle.nl_fixed.specs.Nouns.{Bytes, Texts}
 use Rattle.nl_value.specs.Limits.{most_bytes}
@@ -10,9 +10,8 @@ use Rattle.nl_acts.specs.declared.fail.ErrorKind.TheVariants.{TooLarge}
 use Rattle.nl_exec.specs.Endings.{Ending, ending_of}
 use Rattle.nl_exec.specs.Endings as ending
 use Rattle.nl_exec.specs.Machines.{first_state, in_stream, scene_in}
-use Rattle.nl_run.specs.Course.{Finish, Standing, after_go, after_setup, after_until, at_first, behind, cell_of, cells, commands, commands_by, condition, counted, course_within, ends_as, fails_at_first, go_name, go_step, is_reached, measured_if, metric_name, outcome_of, put_back, regular_end, setup_name, step_or_end, steps, steps_from, truth_by, unit_by, until_name, value, value_by, with_cell}
+use Rattle.nl_run.specs.Course.{Finish, Standing, after_go, after_until, at_first, behind, cell_of, cells, commands, commands_by, condition, counted, course_within, ends_as, fails_at_first, go_name, go_step, is_reached, measured_if, metric_name, outcome_of, put_back, regular_end, setup_name, step_or_end, steps, steps_from, truth_by, unit_by, until_name, value, value_by}
 use Rattle.nl_run.specs.Job.{Job, Lone}
-use Rattle.nl_run.specs.declared.rows.RunEnd.{RunEnd}
 use Rattle.nl_run.specs.declared.rows.RunEnd.TheVariants as end_
 use Rattle.nl_run.proofs.Thrift.{text_thrifty}
 

@@ -1,5 +1,11 @@
 pub mod Alike
 pub mod Budgets
 pub mod Keeping
+pub mod Metrics
+pub mod Moving
 pub mod RowLaws
+pub mod Settings
+pub mod Starting
+pub mod Stepping
 pub mod Thrift
+pub mod Turning

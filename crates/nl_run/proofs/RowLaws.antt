@@ -1,15 +1,15 @@
 -- The last row alone has an end, and counts of steps rise.
-use Rattle.std.proofs.Common.{◌≡◌, ℕ, ◌+◌, ◌≤◌, ◌<◌, Bool, true, false, not, List, [], ◌∷◌, ◌++◌, refl, sym, ap, subst, ◌∙◌, arith}
-use Rattle.std.specs.Prelude.{⊤, Some, None}
-use Rattle.nl_fixed.specs.Nouns.{Bytes, Texts}
-use Rattle.nl_run.specs.Course.{Finish, Standing, at_first, counted, course, course_within, ends_as, measured_if, regular_end, rows_by, rows_of, with_row}
+use Rattle.std.proofs.Common.{◌≡◌, ℕ, ◌+◌, ◌≤◌, ◌<◌, Bool, true, false, not, List, [], ◌∷◌, ◌++◌, refl, sym, subst, arith}
+use Rattle.std.specs.Prelude.{⊤}
+use Rattle.nl_fixed.specs.Nouns.{Texts}
+use Rattle.nl_run.specs.Course.{Finish, Standing, counted, ends_as, measured_if, rows_by, rows_of, with_row}
 use Rattle.nl_run.specs.Job.{Job}
 use Rattle.nl_run.specs.Laws.{EndsLast, Rises, StepsRise}
-use Rattle.nl_run.specs.Rows.{closed_by, ended, further, last_ended, measure}
+use Rattle.nl_run.specs.Rows.{closed_by, further, last_ended, measure}
 use Rattle.nl_run.specs.declared.rows.Row.{Row}
 use Rattle.nl_run.specs.declared.rows.RunEnd.{RunEnd}
 use Rattle.nl_run.specs.declared.rows.RunEnd.TheVariants as end_
-use Rattle.nl_run.proofs.Keeping.{Course, Lasts, cells_keep, course_keeps}
+use Rattle.nl_run.proofs.Keeping.{Lasts, cells_keep, course_keeps}
 
 -- ---- rows so far
 

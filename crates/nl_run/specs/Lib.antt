@@ -1,5 +1,11 @@
+pub mod Calls
 pub mod Course
+pub mod Going
 pub mod Job
 pub mod Laws
+pub mod Left
+pub mod Plans
 pub mod Rows
+pub mod Runs
 pub mod inner
+pub mod Written

@@ -1,7 +1,17 @@
-//! One run of an experiment: its course, as a definition with its laws, and its rows.
+//! One run of an experiment: its course, unit by unit, and its rows.
 #![tactic(auto)]
 
+pub mod errors;
 pub mod laws;
+pub mod measures;
+pub mod phase;
+pub mod plan;
+pub mod progress;
 pub mod rows;
+pub mod run;
+pub mod settle;
+pub mod start;
+pub mod work;
 
 pub use rows::{Row, Rows, RunEnd};
+pub use run::{Run, RunTurn};
