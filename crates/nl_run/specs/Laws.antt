@@ -1,8 +1,13 @@
 -- What the course of a run means: laws above the definition.
 use Rattle.std.specs.Prelude.{◌≡◌, ℕ, ◌≤◌, ◌<◌, ⊤, List, [], ◌∷◌, Option, Some, None}
-use Rattle.nl_fixed.specs.Nouns.{Texts}
+use Rattle.nl_fixed.specs.Nouns.{Bytes, Texts}
+use Rattle.nl_tree.specs.Checked.{Checked}
+use Rattle.nl_sweep.specs.Sweep.{plane_of_run, seed_of, settings_of}
+use Rattle.nl_fields.specs.declared.fields.Fields.{Fields}
+use Rattle.nl_experiment.specs.Plan.{order_of, world_of}
 use Rattle.nl_run.specs.Course.{Standing, course_within, rows_of, step_or_end, steps, steps_from}
-use Rattle.nl_run.specs.Job.{Job}
+use Rattle.nl_run.specs.Experiments.{job_by}
+use Rattle.nl_run.specs.Job.{Job, Trees}
 use Rattle.nl_run.specs.declared.rows.Row.{Row}
 use Rattle.nl_run.specs.declared.rows.RunEnd.TheVariants as end_
 
@@ -44,3 +49,26 @@ StepsRise (r ∷ s ∷ rs) = Rises r s × StepsRise (s ∷ rs)
 
 abbrev pub RowsRise : Type 0
 RowsRise = (j : Job) → StepsRise (rows_of j)
+
+-- ---- runs of one experiment and of another
+
+-- what the two say of a run is the same, and so is all that their runs share
+pub record SayTheSame (f g : Fields) (number : ℕ) : Type 0 where
+  pub settings : settings_of (order_of f) f.vary number ≡ settings_of (order_of g) g.vary number
+  pub seed : seed_of (order_of f) f.vary f.seed number ≡ seed_of (order_of g) g.vary g.seed number
+  pub shape : plane_of_run (world_of f) (order_of f) f.vary number ≡ plane_of_run (world_of g) (order_of g) g.vary number
+  pub name : f.name ≡ g.name
+  pub setup : f.setup ≡ g.setup
+  pub go : f.go ≡ g.go
+  pub until : f.until ≡ g.until
+  pub steps : f.steps ≡ g.steps
+  pub every_step : f.every_step ≡ g.every_step
+  pub budget : f.budget ≡ g.budget
+  pub metrics : f.metrics ≡ g.metrics
+  pub globals : f.globals ≡ g.globals
+
+-- then its rows are: they rest on nothing else that the experiment varies or repeats
+abbrev pub RowsAreTheirRuns : Type 0
+RowsAreTheirRuns =
+    (p : Checked) (source : Bytes) (f g : Fields) (trees : Trees) (number : ℕ) → SayTheSame f g number
+    → rows_of (job_by p source f trees number) ≡ rows_of (job_by p source g trees number)

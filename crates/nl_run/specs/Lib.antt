@@ -1,5 +1,6 @@
 pub mod Calls
 pub mod Course
+pub mod Experiments
 pub mod Going
 pub mod Job
 pub mod Laws

@@ -1,5 +1,5 @@
 //! What the course of a run means. These functions do nothing: their contracts are laws.
-ghost use Rattle.nl_run.specs.Laws.{RowsRise, StepsFollowEachOther, TheLastRowAloneEnds, UnitsAreOfTheBudget, UnitsBoundSteps};
+ghost use Rattle.nl_run.specs.Laws.{RowsAreTheirRuns, RowsRise, StepsFollowEachOther, TheLastRowAloneEnds, UnitsAreOfTheBudget, UnitsBoundSteps};
 
 /// The units that are left are some of those that there were. A step, or the end, comes before the further steps, and more than one step a
 /// unit makes no difference.
@@ -14,4 +14,5 @@ pub fn units_bound_runs()
 pub fn rows_say_one_run()
     ensures last { TheLastRowAloneEnds }
     ensures rise { RowsRise }
+    ensures alone { RowsAreTheirRuns }
 {}

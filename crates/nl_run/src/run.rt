@@ -1,5 +1,9 @@
 //! A run, in slices of units.
 ghost use Rattle.std.specs.Prelude.{◌≡◌, OnOk};
+ghost use Rattle.std.specs.Option.{option_map};
+ghost use Rattle.nl_tree.specs.Views.{plain};
+ghost use Rattle.nl_run.specs.Job.{maybe_lone};
+ghost use Rattle.nl_run.specs.Plans.{lone_seen};
 ghost use Rattle.nl_run.specs.Going.{BudgetIn, CourseIn, ReadyIn};
 ghost use Rattle.nl_run.specs.Plans.{job_in};
 ghost use Rattle.nl_run.specs.Rows.{closed_by};
@@ -7,13 +11,15 @@ ghost use Rattle.nl_run.specs.inner.Moves.{ended_by};
 ghost use Rattle.nl_run.specs.inner.Once.{course_once, ready_once};
 
 use crate::phase::{Open, Phase};
-use crate::plan::Plan;
+use crate::plan::{LoneText, Plan};
 use crate::progress::Progress;
 use crate::rows::{Rows, RunEnd};
 use crate::start::started;
 use crate::work::work;
 use nl_agents::Store;
-use nl_fixed::NoMemory;
+use nl_experiment::{Experiment, Texts};
+use nl_fixed::{NoMemory, Str};
+use nl_tree::{Program, Tree};
 use std::alloc::Global;
 
 /// How a slice of a run ends.
@@ -76,15 +82,77 @@ fn ended_by<'a>(phase: Phase<'a>, spent: bool) -> Result<RunEnd, Phase<'a>>
     }
 }
 
+// The condition with its tree, if there is one.
+fn until_in<'a>(text: &'a Option<Str>, tree: &'a Option<Tree>) -> Option<LoneText<'a>>
+    ensures { option_map lone_seen result ≡ maybe_lone text.now (option_map plain tree.now) }
+{
+    match (text, tree) {
+        (Some(text), Some(tree)) => Some(LoneText { text, tree }),
+        _ => None,
+    }
+}
+
 impl<'a, S: Store> Run<'a, S> {
     ghost use Rattle.std.specs.Prelude.{◌≡◌, ℕ, ◌+◌, ◌<◌, [], IfOk, IsErr, OnOk, Ok};
+    ghost use Rattle.nl_sweep.specs.Sweep.{IsRun};
+    ghost use Rattle.nl_experiment.specs.Plan.{order_of};
+    ghost use Rattle.nl_run.specs.Experiments.{AreWritten, job_by, trees_seen};
     ghost use Rattle.nl_run.specs.Course.{course, course_within, rows_of};
     ghost use Rattle.nl_run.specs.Runs.{HasEnded, HasFailed, job_of, left_more, rows_in, spent_in};
     ghost use Rattle.nl_run.specs.declared.rows.RunEnd.TheVariants.{Budget};
     ghost use Rattle.nl_run.specs.declared.run.RunTurn.TheVariants.{More, Ended};
 
-    /// The run of a plan.
-    pub fn begin(alloc: Global, plan: Plan<'a>) -> Result<Run<'a, S>, NoMemory>
+    /// The run of a number of an experiment, counted from 1. `source` is the model's code part, in which places of errors are counted.
+    #[tactic(auto, using(crate::proofs::Writing::settings_are_written), unfolding(crate::specs::Plans::job_in))]
+    pub fn new(
+        alloc: Global,
+        program: &'a Program,
+        source: &'a [u8],
+        experiment: &'a Experiment,
+        texts: &'a Texts,
+        number: u64,
+    ) -> Result<Run<'a, S>, NoMemory>
+        requires there { IsRun (order_of experiment.now) experiment.now.vary number }
+        // What an experiment's file sets and varies is written down there: `file_written` of proofs/Writing.
+        requires written { AreWritten experiment.now }
+        ensures job { IfOk result (λ run.
+            job_of run ≡ job_by program.now source.now experiment.now (trees_seen texts.now) number) }
+        ensures going { IfOk result (λ run. HasEnded run → ⊥) }
+        ensures spent { IfOk result (λ run. spent_in run ≡ 0) }
+        ensures rows { IfOk result (λ run. rows_in run ≡ []) }
+    {
+        let _runs = experiment.runs();
+        let fields = experiment.fields();
+        let settings = experiment.settings(alloc, number)?;
+        let plan = Plan {
+            program,
+            source,
+            shape: experiment.shape(number),
+            name: &fields.name,
+            number,
+            seed: experiment.seed(number),
+            globals: &fields.globals,
+            settings,
+            setup: LoneText {
+                text: &fields.setup,
+                tree: &texts.setup,
+            },
+            go: LoneText {
+                text: &fields.go,
+                tree: &texts.go,
+            },
+            until: until_in(&fields.until, &texts.until),
+            metrics: &fields.metrics,
+            trees: &texts.metrics,
+            steps: fields.steps,
+            every_step: fields.every_step,
+            budget: fields.budget,
+        };
+        Run::begin(alloc, plan)
+    }
+
+    // The run of a plan.
+    fn begin(alloc: Global, plan: Plan<'a>) -> Result<Run<'a, S>, NoMemory>
         ensures job { IfOk result (λ run. job_of run ≡ job_in plan.entry) }
         ensures going { IfOk result (λ run. HasEnded run → ⊥) }
         ensures spent { IfOk result (λ run. spent_in run ≡ 0) }
