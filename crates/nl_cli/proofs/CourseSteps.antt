@@ -1,68 +1,131 @@
--- How the reading of the inputs goes on, and where it ends.
-use Rattle.std.proofs.Common.{◌≡◌, ℕ, List, Some, Result, Ok, Err, refl, sym, ap, ◌∙◌, subst}
-use Rattle.nl_cli.specs.Steps.{Goes, or_else, with_fault}
-use Rattle.nl_cli.specs.declared.planning.Fields.{Fields}
-use Rattle.nl_cli.specs.declared.planning.PlanFault.{PlanFault}
-use Rattle.nl_cli.specs.declared.words.Role.{Role}
+-- From what the parts of a command did to its course.
+use Rattle.std.proofs.Common.{◌≡◌, inl, inr, ℕ, ◌≤◌, Bool, true, false, ◌&&◌, if◌then◌else◌, [], Some, Result, Ok, Err, refl, sym, ap, subst, arith}
+use Rattle.std.specs.Prelude.{nat_le}
+use Rattle.std.specs.Option.{ForSome}
+use Rattle.std.proofs.lemmas.Bool.Decides.{nat_tests}
+use Rattle.nl_fixed.specs.Nouns.{Bytes}
+use Rattle.nl_keys.specs.declared.faults.PlanKind.{PlanKind}
+use Rattle.nl_keys.specs.declared.faults.PlanKind.TheVariants.{NoSuchRun}
+use Rattle.nl_experiment.specs.Numbers.{number_of, run_among}
 use Rattle.nl_cli.specs.declared.ends.End.{End}
-use Rattle.nl_cli.specs.declared.job.Job.{Job}
-use Rattle.nl_cli.specs.ModelForm.{Verdict, IsVerdict}
-use Rattle.nl_cli.specs.ExperimentFile.{experiment_says}
-use Rattle.nl_cli.specs.Answer.{Found, without, read, job_with, IsJob}
+use Rattle.nl_cli.specs.Steps.{◌>>=◌, with_fault}
+use Rattle.nl_cli.specs.Words.{Command, Paths, Task, table, rerun, check, over, bench}
+use Rattle.nl_cli.specs.Inputs.{Found, IsJob, Job, found_at, found_in, made_for, runs_in}
+use Rattle.nl_cli.specs.Table.{rows_text, summary_text}
+use Rattle.nl_cli.specs.Answer.{ComesTo, done_by, made_by, no_such_run}
+use Rattle.nl_cli.specs.Outcome.{Asked, Given}
+use Rattle.nl_cli.specs.inner.Stages.{Does, Gathers, IsNoRun, IsRunIn, Makes, Measures, NothingPut, Puts, Runs}
 
--- a step that goes on, and one that ends
-goes_on : {A B E : Type 0} (step : Result A E) (result : Result B E) (next : A → Type 0) (x : A) → step ≡ Ok x → next x → Goes step result next
-goes_on step result next x is more = subst (λ s. Goes s result next) (sym is) more
+-- ---- numbers of runs
 
-goes_off : {A B E : Type 0} (step : Result A E) (result : Result B E) (next : A → Type 0) (e : E) → step ≡ Err e → result ≡ Err e → Goes step result next
-goes_off step result next e is ends = subst (λ s. Goes s result next) (sym is) ends
+among : (first second : Bool) (n number : ℕ) → Ok number ≡ (if first && second then Ok n else Err NoSuchRun) → (first ≡ true) × (second ≡ true) × (number ≡ n)
+among true true n number h = (refl, refl, cc)
+among true false n number h = cc
+among false second n number h = cc
 
--- two results of the same steps are one
-pub goes_once : {A B E : Type 0} (step : Result A E) (r s : Result B E) (next more : A → Type 0)
-    → ((x : A) → step ≡ Ok x → next x → more x → r ≡ s) → Goes step r next → Goes step s more → r ≡ s
-goes_once (Ok x) r s next more once h k = once x refl h k
-goes_once (Err e) r s next more once h k = h ∙ sym k
+-- a number that is named is that of a run
+pub named_is_run : (job : Job) (digits : Bytes) (number : ℕ) → Ok number ≡ run_among (runs_in job) (number_of digits) → IsRunIn job number
+named_is_run job digits number h =
+    let n = number_of digits in
+    let (from, to, same) = among (nat_le 1 n) (nat_le n (runs_in job)) n number h in
+    let low : 1 ≤ number = rw same (grind (arith, nat_tests)) in
+    let high : number ≤ runs_in job = rw same (grind (arith, nat_tests)) in
+    record { from = low; to = high }
 
--- what is said of a job behind each step
-abbrev pub model_said : List ℕ → Result Job End → Fields → Type 0
-model_said model_text job fields = (verdict : Verdict) × (IsVerdict model_text verdict × (job ≡ job_with fields verdict))
+-- ---- tasks
 
-abbrev pub experiment_said : List ℕ → Result Job End → List ℕ → Type 0
-experiment_said model_text job text = Goes (with_fault End.Plan (experiment_says text)) job (model_said model_text job)
+pub rerun_goes : (job : Job) (digits : Bytes) (number : ℕ) (sink : Given) (r : Result (Unit {0}) End)
+    → Ok number ≡ run_among (runs_in job) (number_of digits) → Puts (rows_text job number) sink r → Does (done_by [] (rerun digits) job) sink r
+rerun_goes job digits number sink r e puts = subst (λ x. Does (with_fault no_such_run x >>= λ n. Ok (rows_text job n)) sink r) e puts
 
-abbrev pub model_read : Found → Result Job End → List ℕ → Type 0
-model_read found job model_text = Goes (read Role.Experiment found) job (experiment_said model_text job)
+no_run : (kind : PlanKind) (sink : Given) (end : End) → IsNoRun kind end → NothingPut sink → Does (Err (no_such_run kind)) sink (Err end)
+no_run kind sink end (inl e) nothing = (nothing, inl (ap Err e))
+no_run kind sink end (inr e) nothing = (nothing, inr (ap Err e))
 
--- a read of what is there
-read_there : (role : Role) (found : Found) (bytes : List ℕ) → found role ≡ Some bytes → read role found ≡ Ok bytes
-read_there role found bytes h = ap (or_else (End.Read role)) h
+pub rerun_stops : (job : Job) (digits : Bytes) (kind : PlanKind) (sink : Given) (end : End)
+    → Err kind ≡ run_among (runs_in job) (number_of digits) → IsNoRun kind end → NothingPut sink → Does (done_by [] (rerun digits) job) sink (Err end)
+rerun_stops job digits kind sink end e told nothing =
+    subst (λ x. Does (with_fault no_such_run x >>= λ n. Ok (rows_text job n)) sink (Err end)) e (no_run kind sink end told nothing)
 
-pub model_missing : (found : Found) → IsJob (without Role.Model found) (Err (End.Read Role.Model))
-unfolding IsJob
-model_missing found = refl
+-- ---- courses
 
-pub experiment_missing : (found : Found) (model : List ℕ) → found Role.Model ≡ Some model → IsJob (without Role.Experiment found) (Err (End.Read Role.Experiment))
-unfolding IsJob
-experiment_missing found model h =
-    let other = without Role.Experiment found in
-    let job : Result Job End = Err (End.Read Role.Experiment) in
-    goes_on (read Role.Model other) job (model_read other job) model (read_there Role.Model other model h) refl
+module _ (command : Command) (files : Asked) (out : Given) where
+  puts_run : (bytes : Bytes) (r : Result (Unit {0}) End) → files.faults_after ≡ files.faults_before
+      → ForSome files.folder (λ folder. ComesTo command (found_in command folder) (Ok bytes)) → Puts bytes out r → Runs command files out r
+  puts_run bytes (Ok _) sound comes puts = λ folder is. (bytes, comes folder is, puts.1)
+  puts_run bytes (Err End.Write) sound comes puts = (puts.0, λ folder is. record { bytes = bytes; comes = comes folder is; part = puts.1 })
+  puts_run bytes (Err End.Memory) sound comes puts = (sound, puts.0, λ folder is. inr (record { bytes = bytes; comes = comes folder is; part = puts.1 }))
+  puts_run bytes (Err (End.Model fault)) sound comes puts = absurd puts
+  puts_run bytes (Err (End.Plan fault)) sound comes puts = absurd puts
+  puts_run bytes (Err (End.Read role)) sound comes puts = absurd puts
 
-pub experiment_bad : (found : Found) (model text : List ℕ) (fault : PlanFault) → found Role.Model ≡ Some model → found Role.Experiment ≡ Some text
-    → experiment_says text ≡ Err fault → IsJob found (Err (End.Plan fault))
-unfolding IsJob
-experiment_bad found model text fault h k e =
-    let job : Result Job End = Err (End.Plan fault) in
-    goes_on (read Role.Model found) job (model_read found job) model (read_there Role.Model found model h)
-    (goes_on (read Role.Experiment found) job (experiment_said model job) text (read_there Role.Experiment found text k)
-    (goes_off (with_fault End.Plan (experiment_says text)) job (model_said model job) (End.Plan fault) (ap (with_fault End.Plan) e) refl))
+  plan_run : (kind : PlanKind) (r : Result (Unit {0}) End) → files.faults_after ≡ files.faults_before
+      → ForSome files.folder (λ folder. ComesTo command (found_in command folder) (Err (no_such_run kind))) → Does (Err (no_such_run kind)) out r → Runs command files out r
+  plan_run kind r sound comes (nothing, inl e) = subst (λ x. Runs command files out x) (sym e) (sound, nothing, comes)
+  plan_run kind r sound comes (nothing, inr e) = subst (λ x. Runs command files out x) (sym e) (sound, nothing.sound, λ folder is. inl nothing.nothing)
 
--- both inputs have said what they say
-pub all_said : (found : Found) (model text : List ℕ) (fields : Fields) (verdict : Verdict) → found Role.Model ≡ Some model → found Role.Experiment ≡ Some text
-    → experiment_says text ≡ Ok fields → IsVerdict model verdict → IsJob found (job_with fields verdict)
-unfolding IsJob
-all_said found model text fields verdict h k f said =
-    let job = job_with fields verdict in
-    goes_on (read Role.Model found) job (model_read found job) model (read_there Role.Model found model h)
-    (goes_on (read Role.Experiment found) job (experiment_said model job) text (read_there Role.Experiment found text k)
-    (goes_on (with_fault End.Plan (experiment_says text)) job (model_said model job) fields (ap (with_fault End.Plan) f) (verdict, (said, refl))))
+-- what a task comes to over its job
+comes_of : (command : Command) (found : Found) (job : Job) → IsJob found (Ok job) → ComesTo command found (made_by command job)
+comes_of command found job is = (Ok job, (is, refl))
+
+named_run : (paths : Paths) (digits : Bytes) (files : Asked) (out : Given) (job : Job) (x : Result ℕ PlanKind) (r : Result (Unit {0}) End)
+    → files.faults_after ≡ files.faults_before
+    → ForSome files.folder (λ folder. ComesTo (over paths (rerun digits)) (found_in (over paths (rerun digits)) folder) (with_fault no_such_run x >>= λ n. Ok (rows_text job n)))
+    → Does (with_fault no_such_run x >>= λ n. Ok (rows_text job n)) out r → Runs (over paths (rerun digits)) files out r
+named_run paths digits files out job (Ok number) r sound comes does = puts_run (over paths (rerun digits)) files out (rows_text job number) r sound comes does
+named_run paths digits files out job (Err kind) r sound comes does = plan_run (over paths (rerun digits)) files out kind r sound comes does
+
+pub task_runs : (paths : Paths) (task : Task) (files : Asked) (out : Given) (job : Job) (r : Result (Unit {0}) End) → files.faults_after ≡ files.faults_before
+    → ForSome files.folder (λ folder. IsJob (found_at paths folder) (Ok job)) → Does (done_by paths.model task job) out r → Runs (over paths task) files out r
+task_runs paths table files out job r sound is does =
+    puts_run (over paths table) files out _ r sound (λ folder at. comes_of (over paths table) (found_at paths folder) job (is folder at)) does
+task_runs paths check files out job r sound is does =
+    puts_run (over paths check) files out _ r sound (λ folder at. comes_of (over paths check) (found_at paths folder) job (is folder at)) does
+task_runs paths (rerun digits) files out job r sound is does =
+    named_run paths digits files out job (run_among (runs_in job) (number_of digits)) r sound
+    (λ folder at. comes_of (over paths (rerun digits)) (found_at paths folder) job (is folder at)) does
+
+-- the inputs of a task stop it
+pub inputs_stop : (paths : Paths) (task : Task) (files : Asked) (out : Given) (end : End) → NothingPut out → Gathers paths files (Err end) → Runs (over paths task) files out (Err end)
+inputs_stop paths task files out (End.Read role) nothing stops = (
+  record {
+    rose = stops.rose;
+    named = ap Some stops.named;
+    told = stops.named;
+    turn = λ folder is. (Err (End.Read role), (stops.turn folder is, refl));
+  },
+  nothing,
+)
+inputs_stop paths task files out (End.Model fault) nothing stops = (stops.0, nothing, λ folder is. (Err (End.Model fault), (stops.1 folder is, refl)))
+inputs_stop paths task files out (End.Plan fault) nothing stops = (stops.0, nothing, λ folder is. (Err (End.Plan fault), (stops.1 folder is, refl)))
+inputs_stop paths task files out End.Memory nothing stops = (stops, nothing.sound, λ folder is. inl nothing.nothing)
+inputs_stop paths task files out End.Write nothing stops = absurd stops
+
+-- ---- the measure
+
+pub measure_stops : (size : ℕ) (out : Given) (end : End) → NothingPut out → Makes size (Err end) → Measures size out (Err end)
+measure_stops size out (End.Model fault) nothing stops = (nothing, (Err (End.Model fault), (stops, refl)))
+measure_stops size out (End.Plan fault) nothing stops = (nothing, (Err (End.Plan fault), (stops, refl)))
+measure_stops size out End.Memory nothing stops = (nothing.sound, inl nothing.nothing)
+measure_stops size out (End.Read role) nothing stops = absurd stops
+measure_stops size out End.Write nothing stops = absurd stops
+
+pub measure_puts : (size : ℕ) (model : Bytes) (out : Given) (job : Job) (r : Result (Unit {0}) End) → made_by (bench size) job ≡ Ok (summary_text model job)
+    → IsJob (made_for size) (Ok job) → Puts (summary_text model job) out r → Measures size out r
+measure_puts size model out job (Ok _) called is puts = (summary_text model job, (Ok job, (is, sym called)), puts.1)
+measure_puts size model out job (Err End.Write) called is puts =
+    (puts.0, record { bytes = summary_text model job; comes = (Ok job, (is, sym called)); part = puts.1 })
+measure_puts size model out job (Err End.Memory) called is puts =
+    (puts.0, inr (record { bytes = summary_text model job; comes = (Ok job, (is, sym called)); part = puts.1 }))
+measure_puts size model out job (Err (End.Model fault)) called is puts = absurd puts
+measure_puts size model out job (Err (End.Plan fault)) called is puts = absurd puts
+measure_puts size model out job (Err (End.Read role)) called is puts = absurd puts
+
+-- a measure reads no file
+pub measure_runs : (size : ℕ) (files : Asked) (out : Given) (r : Result (Unit {0}) End) → files.faults_after ≡ files.faults_before → Measures size out r → Runs (bench size) files out r
+measure_runs size files out (Ok _) sound does = λ folder is. does
+measure_runs size files out (Err (End.Model fault)) sound does = (sound, does.0, λ folder is. does.1)
+measure_runs size files out (Err (End.Plan fault)) sound does = (sound, does.0, λ folder is. does.1)
+measure_runs size files out (Err End.Write) sound does = (does.0, λ folder is. does.1)
+measure_runs size files out (Err End.Memory) sound does = (sound, does.0, λ folder is. does.1)
+measure_runs size files out (Err (End.Read role)) sound does = absurd does

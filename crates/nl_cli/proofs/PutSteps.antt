@@ -1,5 +1,5 @@
 -- Puts, one after another.
-use Rattle.std.proofs.Common.{ℕ, List, [], ◌++◌, Option, Some, None, Result, Ok, Err, refl, ap, sym, ◌∙◌, subst, append_assoc, append-nil}
+use Rattle.std.proofs.Common.{◌≡◌, ℕ, List, [], ◌++◌, Option, Some, None, Result, Ok, Err, refl, ap, sym, ◌∙◌, subst, append_assoc, append-nil}
 use Rattle.nl_outer.specs.Bytes.{Appended, PartAppended}
 use Rattle.nl_outer.specs.Faults.{Rose}
 use Rattle.nl_cli.specs.declared.ends.End.{End}
@@ -44,6 +44,10 @@ Puts-stops sink x y End.Memory p = (p.0, PartAppended-less _ _ x y p.1)
 Puts-stops sink x y (End.Model _) p = p
 Puts-stops sink x y (End.Plan _) p = p
 Puts-stops sink x y (End.Read _) p = p
+
+-- the same of equal bytes
+pub Puts-same : (sink : Given) (x y : List ℕ) (r : Result (Unit {0}) End) → x ≡ y → Puts x sink r → Puts y sink r
+Puts-same sink x y r same puts = subst (λ bytes. Puts bytes sink r) same puts
 
 -- two puts in a row
 pub Puts-then : (f g h : ℕ) (a b c : Option (List ℕ)) (x y : List ℕ) (r : Result (Unit {0}) End)

@@ -1,80 +1,94 @@
--- The first bytes of a file say what the whole file says.
-use Rattle.std.proofs.Common.{◌≡◌, ℕ, ◌+◌, ◌≤◌, List, length, take, nat_lt, true, false, Bool, Option, Some, None, Result, Err, refl, sym, ap, ◌∙◌, subst, arith, cond, take_all}
+-- The first bytes of files say what the whole files say.
+use Rattle.std.proofs.Common.{◌≡◌, ℕ, ◌+◌, ◌≤◌, [], length, take, nat_lt, true, false, Bool, Option, Some, None, Result, Ok, Err, refl, sym, ap, ◌∙◌, subst, arith, cond, take_all}
 use Rattle.std.specs.Option.{option_map}
 use Rattle.std.proofs.lemmas.Bool.Decides.{nat_tests}
-use Rattle.std.proofs.lemmas.List.{length-take, take-take}
+use Rattle.std.proofs.lemmas.List.{length-take}
+use Rattle.nl_fixed.specs.Nouns.{Bytes, Names}
 use Rattle.nl_outer.specs.Folder.{Folder, read_of, content_of}
-use Rattle.nl_scan.specs.declared.token.ScanKind.{ScanKind}
-use Rattle.nl_scan.specs.Place.{line_after, column_after}
-use Rattle.nl_scan.specs.CodePart.{code_of}
-use Rattle.nl_cli.specs.Steps.{within}
+use Rattle.nl_tree.specs.Checked.{Checked}
+use Rattle.nl_keys.specs.Document.{document, document_or_fault, file_holds}
+use Rattle.nl_keys.specs.Reading.{◌>>=◌, fault_at}
+use Rattle.nl_keys.specs.declared.faults.PlanKind.TheVariants.{TooLong}
+use Rattle.nl_fields.specs.File.{fields_in}
+use Rattle.nl_fields.specs.declared.fields.Fields.{Fields}
+use Rattle.nl_experiment.specs.Plan.{experiment_says, judged}
+use Rattle.nl_experiment.specs.Widgets.{widgets_of}
+use Rattle.nl_model.specs.Verdict.{FileSays, IsVerdict}
+use Rattle.nl_model.proofs.FirstBytes.{first_bytes_say_all}
 use Rattle.nl_cli.specs.Limits.{file_limit}
-use Rattle.nl_cli.specs.declared.fault.ModelKind.{ModelKind}
-use Rattle.nl_cli.specs.declared.fault.ModelFault.{ModelFault}
-use Rattle.nl_cli.specs.declared.planning.PlanKind.TheVariants as PlanKind
-use Rattle.nl_cli.specs.ModelForm.{CodeSays, FileSays, IsVerdict, Verdict, fault_at}
-use Rattle.nl_cli.specs.ExperimentFile.{experiment_says, fields_of_text, file_fault}
+use Rattle.nl_cli.specs.Steps.{Goes, with_fault}
+use Rattle.nl_cli.specs.declared.ends.End.{End}
+use Rattle.nl_cli.specs.Inputs.{InputsSay, Job, ModelSays, end_of_key}
+use Rattle.nl_cli.proofs.InputSteps.{goes_with}
 
 -- a file of which a read gave these bytes
-pub record IsRead (path : List ℕ) (most : ℕ) (folder : Folder) (bytes : List ℕ) : Type 0 where
-  pub whole : List ℕ
+pub record IsRead (path : Bytes) (most : ℕ) (folder : Folder) (bytes : Bytes) : Type 0 where
+  pub whole : Bytes
   pub there : content_of path folder ≡ Some whole
   pub first : bytes ≡ take (most + 1) whole
 
-first_of : (o : Option (List ℕ)) (n : ℕ) (bytes : List ℕ) → option_map (take n) o ≡ Some bytes
-    → (whole : List ℕ) × (o ≡ Some whole) × (bytes ≡ take n whole)
+first_of : (o : Option Bytes) (n : ℕ) (bytes : Bytes) → option_map (take n) o ≡ Some bytes
+    → (whole : Bytes) × (o ≡ Some whole) × (bytes ≡ take n whole)
 first_of None n bytes e = cc
 first_of (Some whole) n bytes e = (whole, refl, cc)
 
-pub IsRead-read_of : (path : List ℕ) (most : ℕ) (folder : Folder) (bytes : List ℕ) → read_of path most folder ≡ Some bytes → IsRead path most folder bytes
+pub IsRead-read_of : (path : Bytes) (most : ℕ) (folder : Folder) (bytes : Bytes) → read_of path most folder ≡ Some bytes → IsRead path most folder bytes
 unfolding read_of
 IsRead-read_of path most folder bytes e =
     let (whole, there, first) = first_of (content_of path folder) (most + 1) bytes e in
     record { whole = whole; there = there; first = first }
 
-same_test : (limit : ℕ) (text : List ℕ) → nat_lt limit (length (take (limit + 1) text)) ≡ nat_lt limit (length text)
+-- ---- experiments
+
+same_test : (limit : ℕ) (text : Bytes) → nat_lt limit (length (take (limit + 1) text)) ≡ nat_lt limit (length text)
 same_test limit text = rw (length-take (limit + 1) text) (grind (arith, nat_tests))
 
-short_take : {X : Type 0} (limit : ℕ) (text : List ℕ) (b : Bool) (x : X) (f : List ℕ → X) → nat_lt limit (length text) ≡ b → cond b x (f (take (limit + 1) text)) ≡ cond b x (f text)
+short_take : {X : Type 0} (limit : ℕ) (text : Bytes) (b : Bool) (x : X) (f : Bytes → X) → nat_lt limit (length text) ≡ b → cond b x (f (take (limit + 1) text)) ≡ cond b x (f text)
 short_take limit text true x f e = refl
 short_take limit text false x f e =
     let short : length text ≤ limit + 1 = grind (arith, nat_tests) in
     ap f (take_all (limit + 1) text short)
 
-within-take : {X E : Type 0} (limit : ℕ) (e : E) (says : List ℕ → Result X E) (text : List ℕ) → within limit e says (take (limit + 1) text) ≡ within limit e says text
-within-take limit e says text = rw (same_test limit text) (short_take limit text (nat_lt limit (length text)) (Err e) says refl)
+within-take : {X : Type 0} (limit : ℕ) (x : X) (f : Bytes → X) (text : Bytes)
+    → cond (nat_lt limit (length (take (limit + 1) text))) x (f (take (limit + 1) text)) ≡ cond (nat_lt limit (length text)) x (f text)
+within-take limit x f text = rw (same_test limit text) (short_take limit text (nat_lt limit (length text)) x f refl)
 
--- what the first bytes of an experiment say
-pub experiment_says-take : (text : List ℕ) → experiment_says (take (file_limit + 1) text) ≡ experiment_says text
-unfolding experiment_says
-experiment_says-take text = within-take file_limit (file_fault PlanKind.TooLong) fields_of_text text
+file_holds-take : (text : Bytes) → file_holds (take (file_limit + 1) text) ≡ file_holds text
+unfolding file_holds
+file_holds-take text = within-take file_limit (Err (fault_at [] TooLong)) (λ text. document_or_fault (document text)) text
 
--- a place is told by what stands before it
-fault_by : ModelKind → List ℕ → ModelFault
-fault_by kind before = record { kind = kind; line = line_after before; column = column_after before }
+experiment_says-take : (text : Bytes) → experiment_says (take (file_limit + 1) text) ≡ experiment_says text
+experiment_says-take text = ap (λ held. (held >>= fields_in) >>= judged) (file_holds-take text)
 
-fault_at-by : (text : List ℕ) (kind : ModelKind) (place : ℕ) → fault_at text kind place ≡ fault_by kind (take place text)
-unfolding fault_by
-fault_at-by text kind place = refl
+-- ---- models
 
-take_less : (limit : ℕ) (text : List ℕ) → take limit (take (limit + 1) text) ≡ take limit text
-take_less limit text = take-take limit (limit + 1) text (omega arith)
+not_long : (limit : ℕ) (long : Bool) (widgets : Names) (file : Bytes) (program : Checked) → FileSays limit long widgets file (Ok program) → long ≡ false
+not_long limit true widgets file program said = cc
+not_long limit false widgets file program said = refl
 
-place-take : (text : List ℕ) (limit : ℕ) (kind : ModelKind) → fault_at (take (limit + 1) text) kind limit ≡ fault_at text kind limit
-place-take text limit kind = fault_at-by (take (limit + 1) text) kind limit ∙ ap (fault_by kind) (take_less limit text) ∙ sym (fault_at-by text kind limit)
+-- a file that is a program is one whole
+whole_file : (limit : ℕ) (text : Bytes) → nat_lt limit (length (take (limit + 1) text)) ≡ false → take (limit + 1) text ≡ text
+whole_file limit text within =
+    let short : nat_lt limit (length text) ≡ false = sym (same_test limit text) ∙ within in
+    let few : length text ≤ limit + 1 = grind (arith, nat_tests) in
+    take_all (limit + 1) text few
 
-says_by : (limit : ℕ) (text : List ℕ) (v : Verdict) (long : Bool) → nat_lt limit (length text) ≡ long → FileSays limit long (take (limit + 1) text) v → FileSays limit long text v
-says_by limit text v true is said = said ∙ ap Err (place-take text limit (ModelKind.Scan ScanKind.TooLong))
-says_by limit text v false is said =
-    let short : length text ≤ limit + 1 = grind (arith, nat_tests) in
-    subst (λ bytes. CodeSays (code_of bytes) v) (take_all (limit + 1) text short) said
-
-says-take : (limit : ℕ) (text : List ℕ) (v : Verdict) → FileSays limit (nat_lt limit (length (take (limit + 1) text))) (take (limit + 1) text) v → FileSays limit (nat_lt limit (length text)) text v
-says-take limit text v said =
-    let here = subst (λ (long : Bool). FileSays limit long (take (limit + 1) text) v) (same_test limit text) said in
-    says_by limit text v (nat_lt limit (length text)) refl here
-
--- what the first bytes of a model say: a longer one is too long at the same line and column
-pub IsVerdict-take : (text : List ℕ) (v : Verdict) → IsVerdict (take (file_limit + 1) text) v → IsVerdict text v
+program_whole : (widgets : Names) (text : Bytes) (program : Checked) → IsVerdict widgets (take (file_limit + 1) text) (Ok program) → take (file_limit + 1) text ≡ text
 unfolding IsVerdict
-IsVerdict-take text v said = says-take file_limit text v said
+program_whole widgets text program said =
+    whole_file file_limit text (not_long file_limit (nat_lt file_limit (length (take (file_limit + 1) text))) widgets (take (file_limit + 1) text) program said)
+
+model_says-take : (fields : Fields) (text : Bytes) (job : Result Job End) → ModelSays fields (take (file_limit + 1) text) job → ModelSays fields text job
+model_says-take fields text job (Ok program, (said, goes)) =
+    subst (λ bytes. ModelSays fields bytes job) (program_whole (widgets_of fields) text program said) (Ok program, (said, goes))
+model_says-take fields text job (Err fault, (said, goes)) = (Err fault, (first_bytes_say_all (widgets_of fields) text (Err fault) said, goes))
+
+-- ---- both
+
+pub inputs_say-take : (model experiment : Bytes) (job : Result Job End) → InputsSay (take (file_limit + 1) model) (take (file_limit + 1) experiment) job → InputsSay model experiment job
+unfolding InputsSay
+inputs_say-take model experiment job says =
+    let first = take (file_limit + 1) model in
+    let here = subst (λ said. Goes (with_fault end_of_key said) job (λ fields. ModelSays fields first job)) (experiment_says-take experiment) says in
+    goes_with (with_fault end_of_key (experiment_says experiment)) job (λ fields. ModelSays fields first job) (λ fields. ModelSays fields model job)
+    (λ fields said. model_says-take fields model job said) here

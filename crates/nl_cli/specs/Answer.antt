@@ -1,109 +1,84 @@
 -- What a command does, from the bytes of the files that its form names.
-use Rattle.std.specs.Prelude.{◌≡◌, ℕ, List, [], ◌∷◌, ◌++◌, codes, Option, Some, None, Result, Ok, Err}
+use Rattle.std.specs.Prelude.{◌≡◌, ℕ, [], ◌∷◌, codes, Option, Some, None, Result, Ok, Err}
 use Rattle.std.specs.Fmt.{decimal}
-use Rattle.nl_outer.specs.Folder.{Folder, content_of}
-use Rattle.nl_scan.specs.Faults.{scan_kind_text}
-use Rattle.nl_tree.specs.FaultText.{body_kind_text, check_kind_text}
-use Rattle.nl_decl.specs.FaultText.{decl_kind_text}
-use Rattle.nl_cli.specs.Steps.{Goes, or_else, with_fault}
+use Rattle.nl_fixed.specs.Nouns.{Bytes}
+use Rattle.nl_outer.specs.Folder.{Folder}
+use Rattle.nl_outer.specs.Nouns.{Words}
+use Rattle.nl_keys.specs.declared.faults.PlanKind.{PlanKind}
+use Rattle.nl_experiment.specs.FaultText.{plan_text}
+use Rattle.nl_experiment.specs.Numbers.{number_of, run_among}
+use Rattle.nl_experiment.specs.Plan.{plan_fault}
+use Rattle.nl_experiment.specs.declared.faults.PlanFault.{PlanFault}
+use Rattle.nl_keys.specs.Reading.{fault_at}
+use Rattle.nl_model.specs.FaultText.{model_kind_text}
+use Rattle.nl_model.specs.declared.faults.ModelFault.{ModelFault}
+use Rattle.nl_cli.specs.Steps.{◌>>=◌, with_fault}
 use Rattle.nl_cli.specs.declared.words.Role.{Role}
 use Rattle.nl_cli.specs.declared.ends.End.{End}
 use Rattle.nl_cli.specs.declared.ends.Status.{Status}
-use Rattle.nl_cli.specs.declared.job.Job.{Job}
-use Rattle.nl_cli.specs.declared.fault.ModelKind.{ModelKind}
-use Rattle.nl_cli.specs.declared.fault.ModelFault.{ModelFault}
-use Rattle.nl_cli.specs.declared.planning.PlanKind.{PlanKind}
-use Rattle.nl_cli.specs.declared.planning.PlanFault.{PlanFault}
-use Rattle.nl_cli.specs.declared.planning.Fields.{Fields}
-use Rattle.nl_cli.specs.Words.{Paths, paths_of, path_of}
-use Rattle.nl_cli.specs.ModelForm.{Verdict, IsVerdict}
-use Rattle.nl_cli.specs.ExperimentFile.{experiment_says}
-use Rattle.nl_cli.specs.Course.{row_of}
-use Rattle.nl_cli.specs.TableText.{table_header, row_text}
+use Rattle.nl_cli.specs.Words.{Paths, Task, table, rerun, check, Command, over, bench, command_of, path_of, paths_for}
+use Rattle.nl_cli.specs.Inputs.{Job, Found, IsJob, found_in, runs_in, without}
+use Rattle.nl_cli.specs.Table.{joined_text, rows_text, summary_text, table_text}
 
--- the bytes of each file that the form names, where it is there
-abbrev pub Found : Type 0
-Found = Role → Option (List ℕ)
+-- ---- bytes
 
-abbrev pub found_in : Paths → Folder → Found
-found_in paths folder role = content_of (path_of paths role) folder
+-- no run has the number that was asked for
+abbrev pub no_such_run : PlanKind → End
+no_such_run kind = End.Plan (plan_fault (fault_at (codes "run") kind))
 
--- the same, but the read of this role fails
-abbrev pub without : Role → Found → Found
-without Role.Model found Role.Model = None
-without Role.Experiment found Role.Experiment = None
-without _ found role = found role
+-- the number of the run that digits name in a job
+abbrev pub run_named : Job → Bytes → Result ℕ End
+run_named job digits = with_fault no_such_run (run_among (runs_in job) (number_of digits))
 
-abbrev pub read : Role → Found → Result (List ℕ) End
-read role found = or_else (End.Read role) (found role)
+abbrev pub checked_text : Job → Bytes
+checked_text job = joined_text (codes "ok " ∷ decimal (runs_in job) ∷ codes "\n" ∷ [])
 
--- the job of fields and a model, where the model has no fault
-abbrev pub job_with : Fields → Verdict → Result Job End
-job_with fields (Ok model) = Ok (record { fields = fields; model = model })
-job_with fields (Err fault) = Err (End.Model fault)
+-- what a task makes of a job
+abbrev pub done_by : Bytes → Task → Job → Result Bytes End
+done_by model table job = Ok (table_text model job)
+done_by model (rerun digits) job = run_named job digits >>= λ number. Ok (rows_text job number)
+done_by model check job = Ok (checked_text job)
 
--- what the inputs say: the job, or the first end in the order of the reads and faults
-unfoldable pub IsJob : Found → Result Job End → Type 0
-IsJob found job =
-    Goes (read Role.Model found) job (λ model_text.
-    Goes (read Role.Experiment found) job (λ experiment_text.
-    Goes (with_fault End.Plan (experiment_says experiment_text)) job (λ fields.
-    (verdict : Verdict) × (IsVerdict model_text verdict × (job ≡ job_with fields verdict)))))
+abbrev pub made_by : Command → Job → Result Bytes End
+made_by (over paths task) job = done_by paths.model task job
+made_by (bench size) job = Ok (summary_text (paths_for (bench size)).model job)
 
--- the rows of a run of a job: one, at its end
-abbrev pub rows_text : ℕ → Job → List ℕ
-rows_text number job = row_text number (row_of job.model job.fields.steps job.fields.budget)
+-- what a command comes to over its inputs: bytes, or an end before any
+abbrev pub ComesTo : Command → Found → Result Bytes End → Type 0
+ComesTo command found result = (job : Result Job End) × (IsJob found job × (result ≡ (job >>= made_by command)))
 
--- the table of a job: the header, and the rows of its one run
-abbrev pub table_text : Paths → Job → List ℕ
-table_text paths job = table_header paths.model job.fields.name ++ rows_text 1 job
-
--- pieces, one after another
-abbrev pub joined_text : List (List ℕ) → List ℕ
-joined_text [] = []
-joined_text (piece ∷ pieces) = piece ++ joined_text pieces
-
--- the word of a kind, which is that of what was wrong
-abbrev pub model_kind_text : ModelKind → List ℕ
-model_kind_text (ModelKind.Scan kind) = scan_kind_text kind
-model_kind_text (ModelKind.Declaration kind) = decl_kind_text kind
-model_kind_text (ModelKind.Body kind) = body_kind_text kind
-model_kind_text (ModelKind.Check kind) = check_kind_text kind
-model_kind_text ModelKind.NotBuilt = codes "NotBuilt"
+-- ---- lines
 
 -- `MODEL:L:C: KIND`
-abbrev pub model_line : List ℕ → ModelFault → List ℕ
+abbrev pub model_line : Bytes → ModelFault → Bytes
 model_line path fault =
     joined_text (path ∷ codes ":" ∷ decimal fault.line ∷ codes ":" ∷ decimal fault.column ∷ codes ": " ∷ model_kind_text fault.kind ∷ codes "\n" ∷ [])
 
--- `EXPERIMENT: KIND` for a fault of the whole file, else `EXPERIMENT: KEY: KIND`
-abbrev pub plan_line_by : PlanKind → List ℕ → List ℕ → List ℕ
-plan_line_by PlanKind.TooLong path key = joined_text (path ∷ codes ": TooLong\n" ∷ [])
-plan_line_by PlanKind.NotToml path key = joined_text (path ∷ codes ": NotToml\n" ∷ [])
-plan_line_by PlanKind.NotBuilt path key = joined_text (path ∷ codes ": " ∷ key ∷ codes ": NotBuilt\n" ∷ [])
+-- `EXPERIMENT: KEY: KIND`
+abbrev pub plan_line : Bytes → PlanFault → Bytes
+plan_line path fault = joined_text (path ∷ codes ": " ∷ plan_text fault ∷ codes "\n" ∷ [])
 
-abbrev pub plan_line : List ℕ → PlanFault → List ℕ
-plan_line path fault = plan_line_by fault.kind path fault.key
-
-abbrev pub usage_line : List ℕ
+abbrev pub usage_line : Bytes
 usage_line = codes "nlspace: the words name no command\n"
 
-abbrev pub memory_line : List ℕ
+abbrev pub memory_line : Bytes
 memory_line = codes "out of memory\n"
 
-abbrev pub write_line : List ℕ
+abbrev pub write_line : Bytes
 write_line = codes "cannot write\n"
 
-abbrev pub cannot_read : List ℕ → List ℕ
+abbrev pub cannot_read : Bytes → Bytes
 cannot_read path = joined_text (codes "cannot read " ∷ path ∷ codes "\n" ∷ [])
 
 -- the line for an end
-abbrev pub line_of : Paths → End → List ℕ
+abbrev pub line_of : Paths → End → Bytes
 line_of paths (End.Model fault) = model_line paths.model fault
 line_of paths (End.Plan fault) = plan_line paths.experiment fault
 line_of paths (End.Read role) = cannot_read (path_of paths role)
 line_of paths End.Write = write_line
 line_of paths End.Memory = memory_line
+
+-- ---- answers
 
 abbrev pub status_of : End → Status
 status_of (End.Model fault) = Status.Model
@@ -126,25 +101,30 @@ code_of Status.NotPartial = 7
 -- a status, the bytes for `out` and the line for `err`
 pub record Answer : Type 0 where
   pub status : Status
-  pub bytes : List ℕ
-  pub line : List ℕ
+  pub bytes : Bytes
+  pub line : Bytes
+
+-- the answer where the words are no form
+abbrev pub usage_answer : Answer
+usage_answer = record { status = Status.Usage; bytes = []; line = usage_line }
 
 -- the answer where a read of this path fails
-abbrev pub read_answer : List ℕ → Answer
+abbrev pub read_answer : Bytes → Answer
 read_answer path = record { status = Status.Read; bytes = []; line = cannot_read path }
 
-abbrev pub answer_to : Paths → Result Job End → Answer
-answer_to paths (Ok job) = record { status = Status.Done; bytes = table_text paths job; line = [] }
+abbrev pub answer_to : Paths → Result Bytes End → Answer
+answer_to paths (Ok bytes) = record { status = Status.Done; bytes = bytes; line = [] }
 answer_to paths (Err end) = record { status = status_of end; bytes = []; line = line_of paths end }
 
-abbrev pub AnswersTo : Option Paths → (Paths → Found) → Answer → Type 0
-AnswersTo None found answer = answer ≡ record { status = Status.Usage; bytes = []; line = usage_line }
-AnswersTo (Some paths) found answer = (job : Result Job End) × (IsJob (found paths) job × (answer ≡ answer_to paths job))
+abbrev pub AnswersTo : Option Command → (Command → Found) → Answer → Type 0
+AnswersTo None found answer = answer ≡ usage_answer
+AnswersTo (Some command) found answer =
+    (result : Result Bytes End) × (ComesTo command (found command) result × (answer ≡ answer_to (paths_for command) result))
 
 -- the answer of a list of words over a folder, of which there is one at most
-abbrev pub IsAnswer : List (List ℕ) → Folder → Answer → Type 0
-IsAnswer words folder answer = AnswersTo (paths_of words) (λ paths. found_in paths folder) answer
+abbrev pub IsAnswer : Words → Folder → Answer → Type 0
+IsAnswer words folder answer = AnswersTo (command_of words) (λ command. found_in command folder) answer
 
 -- the same, where the read of one role fails
-abbrev pub IsAnswerWithout : Role → List (List ℕ) → Folder → Answer → Type 0
-IsAnswerWithout role words folder answer = AnswersTo (paths_of words) (λ paths. without role (found_in paths folder)) answer
+abbrev pub IsAnswerWithout : Role → Words → Folder → Answer → Type 0
+IsAnswerWithout role words folder answer = AnswersTo (command_of words) (λ command. without role (found_in command folder)) answer

@@ -1,11 +1,8 @@
 pub mod Limits
 pub mod Steps
 pub mod Words
-pub mod ModelFault
-pub mod ModelForm
-pub mod ExperimentFile
-pub mod Course
-pub mod TableText
+pub mod Inputs
+pub mod Table
 pub mod Answer
 pub mod Outcome
 pub mod Laws

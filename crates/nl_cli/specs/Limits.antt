@@ -1,4 +1,4 @@
--- How long an input and how large a budget may be.
+-- How long an input may be, and how large the measure.
 use Rattle.std.specs.Prelude.{ℕ}
 use Rattle.nl_scan.specs.Tokens.{text_limit}
 
@@ -6,10 +6,6 @@ use Rattle.nl_scan.specs.Tokens.{text_limit}
 abbrev pub file_limit : ℕ
 file_limit = text_limit
 
--- a run has at most so many units
-abbrev pub most_budget : ℕ
-most_budget = 1000000000
-
--- how many units a run has where the experiment says nothing of it
-abbrev pub usual_budget : ℕ
-usual_budget = 10000000
+-- the measure is made of a size from 1 on
+abbrev pub most_size : ℕ
+most_size = 1000

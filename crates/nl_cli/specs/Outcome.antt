@@ -1,6 +1,6 @@
 -- What a call of the program did, by the status that it ended with.
 use Rattle.std.specs.Prelude.{◌≡◌, ◌⊎◌, ℕ, [], Option, Some, None}
-use Rattle.std.specs.Option.{ForSome, option_map}
+use Rattle.std.specs.Option.{ForSome, option_and_then}
 use Rattle.nl_outer.specs.Bytes.{Appended, PartAppended}
 use Rattle.nl_outer.specs.Faults.{Rose}
 use Rattle.nl_fixed.specs.Nouns.{Bytes}
@@ -8,7 +8,7 @@ use Rattle.nl_outer.specs.Folder.{Folder}
 use Rattle.nl_outer.specs.Nouns.{Path, Words}
 use Rattle.nl_cli.specs.declared.words.Role.{Role}
 use Rattle.nl_cli.specs.declared.ends.Status.{Status}
-use Rattle.nl_cli.specs.Words.{paths_of, path_of}
+use Rattle.nl_cli.specs.Words.{command_of, named_by}
 use Rattle.nl_cli.specs.Answer.{Answer, IsAnswer, IsAnswerWithout, read_answer, cannot_read, usage_line, memory_line, write_line}
 
 -- what a call left of the files that it was handed
@@ -50,7 +50,7 @@ pub record Answered (words : Words) (folder : Folder) (out err : Given) (status 
 pub record FailedInTurn (words : Words) (files : Asked) : Type 0 where
   pub rose : Rose files.faults_before files.faults_after
   pub role : Role
-  pub named : option_map (λ paths. path_of paths role) (paths_of words) ≡ Some files.last_fault
+  pub named : option_and_then (λ command. named_by command role) (command_of words) ≡ Some files.last_fault
   pub turn : ForSome files.folder (λ folder. IsAnswerWithout role words folder (read_answer files.last_fault))
 
 -- such a read ended the call
@@ -66,13 +66,13 @@ pub record Begun (words : Words) (folder : Folder) (out : Given) : Type 0 where
   pub is_done : answer.status ≡ Status.Done
   pub part : PartAppended out.before out.after answer.bytes
 
--- a write failed, at a table that is defined
+-- a write failed, where the bytes are defined
 pub record WriteFailed (words : Words) (files : Asked) (out err : Given) : Type 0 where
   pub rose : Rose out.faults_before out.faults_after
   pub bytes : ForSome files.folder (λ folder. Begun words folder out)
   pub line : Gets write_line err
 
--- Memory was refused, before anything was put or behind a part of a table that is defined. No put had failed, and no read, but where it was
+-- Memory was refused, before anything was put or behind a part of the bytes that are defined. No put had failed, and no read, but where it was
 -- refused for the line that tells of one.
 pub record MemoryWanted (words : Words) (files : Asked) (out err : Given) : Type 0 where
   pub read : (files.faults_after ≡ files.faults_before) ⊎ FailedInTurn words files
@@ -85,7 +85,7 @@ abbrev pub Outcome : Words → Asked → Given → Given → Status → Type 0
 Outcome words files out err Status.Read = ReadFailed words files out err
 Outcome words files out err Status.Write = WriteFailed words files out err
 Outcome words files out err Status.Memory = MemoryWanted words files out err
-Outcome words files out err Status.Usage = (paths_of words ≡ None) × Appended out.before out.after [] × Gets usage_line err
+Outcome words files out err Status.Usage = (command_of words ≡ None) × Appended out.before out.after [] × Gets usage_line err
 Outcome words files out err Status.Done = ForSome files.folder (λ folder. Answered words folder out err Status.Done)
 Outcome words files out err status =
     Appended out.before out.after [] × ForSome files.folder (λ folder. Answered words folder out err status)

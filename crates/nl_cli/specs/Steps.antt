@@ -1,5 +1,5 @@
--- Steps of a reading, each of which may end it, and what a call that may want memory owes to them.
-use Rattle.std.specs.Prelude.{◌≡◌, ℕ, List, length, nat_lt, if◌then◌else◌, Bool, true, false, Option, Some, None, Result, Ok, Err}
+-- Steps of a reading, each of which may end it.
+use Rattle.std.specs.Prelude.{◌≡◌, Option, Some, None, Result, Ok, Err}
 
 -- the next step, or the end of an earlier one
 infixl 10 ◌>>=◌
@@ -17,16 +17,7 @@ abbrev pub or_else : {X E : Type 0} → E → Option X → Result X E
 or_else e (Some x) = Ok x
 or_else e None = Err e
 
--- a test that is passed, or else this end
-abbrev pub only_if : {E : Type 0} → Bool → E → Result (Unit {0}) E
-only_if true e = Ok tt
-only_if false e = Err e
-
 -- the same reading with its faults named otherwise
 abbrev pub with_fault : {X D E : Type 0} → (D → E) → Result X D → Result X E
 with_fault f (Ok x) = Ok x
 with_fault f (Err d) = Err (f d)
-
--- what a text within the limit says, and the fault of a longer one
-abbrev pub within : {X E : Type 0} → ℕ → E → (List ℕ → Result X E) → List ℕ → Result X E
-within limit too_long says text = if nat_lt limit (length text) then Err too_long else says text

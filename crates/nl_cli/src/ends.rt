@@ -2,9 +2,9 @@
 ghost use Rattle.std.specs.Prelude.{◌≡◌};
 ghost use Rattle.nl_cli.specs.Answer.{code_of, status_of};
 
-use crate::fault::ModelFault;
-use crate::planning::PlanFault;
 use crate::words::Role;
+use nl_experiment::PlanFault;
+use nl_model::ModelFault;
 
 /// How a call of the program ended.
 #[derive(Clone, Copy, Debug, PartialEq, Eq)]
@@ -15,7 +15,7 @@ pub enum Status {
     Usage,
     /// The model has a fault.
     Model,
-    /// The experiment has a fault.
+    /// The experiment has a fault, or it has no run of the number that was asked for.
     Plan,
     /// A file could not be read.
     Read,

@@ -1,14 +1,9 @@
-//! What the definitions of verdicts and answers mean. These functions do nothing: the contract of each is a law.
-ghost use Rattle.nl_cli.specs.Laws.{AcceptedHasNoFault, AnswersAreUnique, CodeFaultsAreUnique, CodeIsAcceptedOrFaulty, FilesHaveVerdicts, VerdictsAreUnique, WordsHaveAnswers};
+//! What the definition of answers means. These functions do nothing: the contract of each is a law.
+ghost use Rattle.nl_cli.specs.Laws.{AnswersAreAlike, AnswersAreUnique, ChecksTellOfTables, TablesAreInParts, TablesAreLines, WordsHaveAnswers};
 
-/// Code that has tokens is accepted or has a first fault, and not both, and has one at most. So a model's file says one thing
-/// exactly.
-pub fn models_have_one_fault()
-    ensures either { CodeIsAcceptedOrFaulty }
-    ensures unique { CodeFaultsAreUnique }
-    ensures apart { AcceptedHasNoFault }
-    ensures verdicts { VerdictsAreUnique }
-    ensures said { FilesHaveVerdicts }
+/// A list of words has one status over a folder, and one answer at most where nothing is put.
+pub fn answers_are_alike()
+    ensures { AnswersAreAlike }
 {}
 
 /// A list of words has one answer at most over a folder.
@@ -19,4 +14,19 @@ pub fn answers_are_unique()
 /// A list of words has an answer over each folder.
 pub fn words_have_answers()
     ensures { WordsHaveAnswers }
+{}
+
+/// A table is its header and the rows that `rerun` puts for each of its runs, one after another. So its runs may be spread over machines.
+pub fn tables_are_in_parts()
+    ensures { TablesAreInParts }
+{}
+
+/// `check` is Done exactly where `table` is.
+pub fn checks_tell_of_tables()
+    ensures { ChecksTellOfTables }
+{}
+
+/// A table is its lines.
+pub fn tables_are_lines()
+    ensures { TablesAreLines }
 {}

@@ -1,16 +1,16 @@
 //! The line that tells why a call ended.
 ghost use Rattle.std.specs.Prelude.{◌≡◌, map, IfOk};
 ghost use Rattle.nl_cli.specs.Answer as spec;
-ghost use Rattle.nl_cli.specs.Answer.{joined_text};
+ghost use Rattle.nl_cli.specs.Table.{joined_text};
 ghost use Rattle.nl_cli.specs.Outcome.{Gets, given};
 ghost use Rattle.nl_cli.specs.inner.Stages.{Tells};
 ghost use Rattle.nl_cli.specs.Words.{paths_in, path_of};
 
 use crate::ends::{End, Status};
-use crate::fault::ModelFault;
-use crate::planning::{PlanFault, PlanKind};
 use crate::words::{Paths, Role, path_for};
+use nl_experiment::PlanFault;
 use nl_fixed::{NoMemory, Str};
+use nl_model::ModelFault;
 use nl_outer::Sink;
 use std::alloc::Global;
 
@@ -56,19 +56,8 @@ fn model_line(alloc: Global, path: &str, fault: &ModelFault) -> Result<Str, NoMe
 fn plan_line(alloc: Global, path: &str, fault: &PlanFault) -> Result<Str, NoMemory>
     ensures { IfOk result (λ line. line ≡ spec.plan_line path.now fault.now) }
 {
-    match fault.kind {
-        PlanKind::TooLong => joined(alloc, &[path.as_bytes(), b": TooLong\n"]),
-        PlanKind::NotToml => joined(alloc, &[path.as_bytes(), b": NotToml\n"]),
-        PlanKind::NotBuilt => joined(
-            alloc,
-            &[
-                path.as_bytes(),
-                b": ",
-                fault.key.as_bytes(),
-                b": NotBuilt\n",
-            ],
-        ),
-    }
+    let fault = fault.text(alloc)?;
+    joined(alloc, &[path.as_bytes(), b": ", fault.as_bytes(), b"\n"])
 }
 
 fn read_line(alloc: Global, paths: &Paths<'_>, role: Role) -> Result<Str, NoMemory>

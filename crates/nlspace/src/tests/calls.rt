@@ -9,17 +9,27 @@ use std::test::Fail;
 /// `cro 3`, `fd 1`: setup spends 2 units, each step 12.
 pub(crate) const MODEL: &[u8] = b"to setup cro 3 end to go ask turtles [ fd 1 ] end";
 
+/// The same model as a text.
+pub(crate) const MODEL_TEXT: &str = "to setup cro 3 end to go ask turtles [ fd 1 ] end";
+
 pub(crate) const EXPERIMENT: &[u8] =
     b"name = \"x\"\nseed = 42\nsteps = 2\nmetrics = [\"count turtles\"]\n";
+
+/// The lines of a header in front of the bounds of the world, where the experiment is called `x`.
+pub(crate) const HEAD: &str =
+    "\"BehaviorSpace results (fixed-point profile)\"\n\"m.nlogo\"\n\"x\"\n\
+\"min-pxcor\",\"max-pxcor\",\"min-pycor\",\"max-pycor\"\n";
 
 pub(crate) const HEADER: &[u8] =
     b"\"BehaviorSpace results (fixed-point profile)\"\n\"m.nlogo\"\n\"x\"\n\
 \"min-pxcor\",\"max-pxcor\",\"min-pycor\",\"max-pycor\"\n\"-16\",\"16\",\"-16\",\"16\"\n\
 \"[run number]\",\"[step]\",\"count turtles\",\"[end]\"\n";
 
-// What is told of a model that has no fault and isn't of the form that runs today, at the place where it leaves the form. Rows and helpers
-// that want a model without a fault name this kind alone, so that they change in one place with the form.
-pub(crate) const FAULTLESS: &str = "NotBuilt";
+/// An experiment beside which every model is judged by itself.
+const BARE: &[u8] = b"name = \"x\"\nsetup = \"\"\ngo = \"\"\n";
+
+/// In rows of faults: the model has none.
+pub(crate) const FAULTLESS: &str = "ok 1";
 
 // How many bytes a sink of a call has room for.
 const ROOM: usize = 200_000;
@@ -40,6 +50,14 @@ impl Call {
         let mut call = Call::of(alloc, &["table", "m.nlogo", "e.toml"])?;
         call.files.add(alloc, "m.nlogo", model)?;
         call.files.add(alloc, "e.toml", experiment)?;
+        Ok(call)
+    }
+
+    // `check m.nlogo e.toml` over this model.
+    pub(crate) fn check(alloc: Global, model: &[u8]) -> Result<Call, Fail> {
+        let mut call = Call::of(alloc, &["check", "m.nlogo", "e.toml"])?;
+        call.files.add(alloc, "m.nlogo", model)?;
+        call.files.add(alloc, "e.toml", BARE)?;
         Ok(call)
     }
 
@@ -70,20 +88,20 @@ pub(crate) fn ended(call: &mut Call) -> Status {
     )
 }
 
+// Whether the call ends with this status, puts these bytes to `out` and this line to `err`.
+pub(crate) fn told(call: &mut Call, status: Status, bytes: &[u8], line: &[u8]) -> bool {
+    let ended = ended(call);
+    call.err.bytes() == line && call.out.bytes() == bytes && ended == status
+}
+
 // The call is done with these bytes.
 pub(crate) fn assert_done(rt: &impl Abort, mut call: Call, bytes: &[u8]) {
-    let status = ended(&mut call);
-    assert!(rt; call.err.bytes().is_empty());
-    assert!(rt; call.out.bytes() == bytes);
-    assert!(rt; status == Status::Done);
+    assert!(rt; told(&mut call, Status::Done, bytes, b""));
 }
 
 // The call ends with this status and line, and puts nothing to out.
 pub(crate) fn assert_ended(rt: &impl Abort, mut call: Call, status: Status, line: &[u8]) {
-    let ended = ended(&mut call);
-    assert!(rt; call.err.bytes() == line);
-    assert!(rt; call.out.bytes().is_empty());
-    assert!(rt; ended == status);
+    assert!(rt; told(&mut call, status, b"", line));
 }
 
 // The table of a run whose name is `x`: the header and this row.
@@ -199,27 +217,21 @@ pub(crate) fn assert_fault(
     fault: &str,
 ) -> Result<(), Fail> {
     let line = format!(in alloc; "m.nlogo:{fault}\n")?;
-    let mut call = Call::table(alloc, model.as_bytes(), EXPERIMENT)?;
-    let status = ended(&mut call);
-    assert!(rt; call.err.bytes() == line.as_bytes(), "not {fault}: {model}");
-    assert!(rt; call.out.bytes().is_empty());
-    assert!(rt; status == Status::Model);
+    let mut call = Call::check(alloc, model.as_bytes())?;
+    let told = told(&mut call, Status::Model, b"", line.as_bytes());
+    assert!(rt; told, "not {fault}: {model}");
     Ok(())
 }
 
-// The model has no fault, and leaves the form at this place, as `1:4`.
-pub(crate) fn assert_faultless(
-    rt: &impl Abort,
-    alloc: Global,
-    model: &str,
-    place: &str,
-) -> Result<(), Fail> {
-    let kind = FAULTLESS;
-    let fault = format!(in alloc; "{place}: {kind}")?;
-    assert_fault(rt, alloc, model, fault.as_str())
+// The model has no fault.
+pub(crate) fn assert_faultless(rt: &impl Abort, alloc: Global, model: &str) -> Result<(), Fail> {
+    let mut call = Call::check(alloc, model.as_bytes())?;
+    let told = told(&mut call, Status::Done, b"ok 1\n", b"");
+    assert!(rt; told, "not faultless: {model}");
+    Ok(())
 }
 
-// Each model with the kind of its fault, which stands at the mark `~`, or `FAULTLESS` where it has none. The mark belongs to the row and not
+// Each model with the kind of its fault, which stands at the mark `~`, or `FAULTLESS` where it has none (then the mark says nothing). The mark belongs to the row and not
 // to the model.
 pub(crate) fn assert_marked(
     rt: &impl Abort,
@@ -241,6 +253,9 @@ pub(crate) fn assert_at_mark(
     let (front, rest) = marked.split_once('~').ok_or("no mark")?;
     let (line, column) = place_behind(front);
     let model = format!(in alloc; "{front}{rest}")?;
+    if kind == FAULTLESS {
+        return assert_faultless(rt, alloc, model.as_str());
+    }
     let fault = format!(in alloc; "{line}:{column}: {kind}")?;
     assert_fault(rt, alloc, model.as_str(), fault.as_str())
 }
@@ -313,7 +328,7 @@ impl Bodies {
         Ok(())
     }
 
-    // None of the gathered procedures has a fault: the model leaves the form at the name of its first one.
+    // None of the gathered procedures has a fault.
     pub(crate) fn assert_good(&self, rt: &impl Abort, declared: &str) -> Result<(), Fail> {
         let good = self.good.as_str();
         let marked = format!(in self.alloc; "{good} {declared}")?;

@@ -591,7 +591,7 @@ fn assert_exchanges(
     for (old, new, fault) in rows {
         let text = exchanged(rt, alloc, model.as_str(), *old, *new)?;
         if *fault == FAULTLESS {
-            assert_faultless(rt, alloc, text.as_str(), "1:1")?;
+            assert_faultless(rt, alloc, text.as_str())?;
         } else {
             assert_fault(rt, alloc, text.as_str(), *fault)?;
         }

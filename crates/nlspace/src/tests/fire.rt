@@ -130,7 +130,7 @@ fn cut_model(
     Ok(text)
 }
 
-// Where the body may end there, the model has no fault, and leaves the form at its first word or its second; else the `end` is unexpected.
+// Where the body may end there, the model has no fault; else the `end` is unexpected.
 fn assert_cut(
     rt: &impl Abort,
     alloc: Global,
@@ -140,7 +140,7 @@ fn assert_cut(
 ) -> Result<(), Fail> {
     if good {
         let text = cut_model(alloc, model, cut, " ")?;
-        assert_faultless(rt, alloc, text.as_str(), "1:1")
+        assert_faultless(rt, alloc, text.as_str())
     } else {
         let text = cut_model(alloc, model, cut, " ~")?;
         assert_at_mark(rt, alloc, text.as_str(), "Unexpected")
@@ -162,7 +162,7 @@ fn assert_cuts(rt: &impl Abort, alloc: Global, model: &[(&str, &str)]) -> Result
 fn the_fire_model_has_no_fault(rt: HostRuntime) -> Result<(), Fail> {
     let alloc = rt.alloc();
     let fire = whole(alloc, FIRE)?;
-    assert_faultless(&rt, alloc, fire.as_str(), "1:1")?;
+    assert_faultless(&rt, alloc, fire.as_str())?;
     // Without the slider nothing declares it.
     let bare = fire.as_str().replace(alloc, " density ]", " ]")?;
     assert_fault(&rt, alloc, bare.as_str(), "8:42: UnknownName")

@@ -49,7 +49,7 @@ fn a_long_key_is_named_whole(rt: HostRuntime) -> Result<(), Fail> {
     let alloc = rt.alloc();
     let key = long_name(alloc)?;
     let experiment = format!(in alloc; "name = \"x\"\n{key} = 1\n")?;
-    let line = format!(in alloc; "e.toml: {key}: NotBuilt\n")?;
+    let line = format!(in alloc; "e.toml: {key}: UnknownKey\n")?;
     let call = Call::table(alloc, MODEL, experiment.as_bytes())?;
     assert_ended(&rt, call, Status::Plan, line.as_bytes());
     Ok(())
@@ -70,7 +70,7 @@ fn chained(alloc: Global, count: u64) -> Result<String, Fail> {
 fn many_procedures_are_read(rt: HostRuntime) -> Result<(), Fail> {
     let alloc = rt.alloc();
     let model = chained(alloc, 2000)?;
-    assert_faultless(&rt, alloc, model.as_str(), "1:4")?;
+    assert_faultless(&rt, alloc, model.as_str())?;
     let faulty = format!(in alloc; "{model}to q tick p1999 end\n")?;
     assert_fault(&rt, alloc, faulty.as_str(), "2001:11: WrongContext")
 }
@@ -80,7 +80,7 @@ fn a_long_body_is_read(rt: HostRuntime) -> Result<(), Fail> {
     let alloc = rt.alloc();
     let statements = "fd 1\n".repeat(alloc, 50_000)?;
     let good = format!(in alloc; "to walk\n{statements}end")?;
-    assert_faultless(&rt, alloc, good.as_str(), "1:4")?;
+    assert_faultless(&rt, alloc, good.as_str())?;
     let faulty = format!(in alloc; "to walk\n{statements}tick end")?;
     assert_fault(&rt, alloc, faulty.as_str(), "50002:1: WrongContext")
 }
@@ -103,7 +103,7 @@ fn many_names(alloc: Global, count: u64) -> Result<String, Fail> {
 fn many_names_are_known(rt: HostRuntime) -> Result<(), Fail> {
     let alloc = rt.alloc();
     let model = many_names(alloc, 70)?;
-    assert_faultless(&rt, alloc, model.as_str(), "1:4")?;
+    assert_faultless(&rt, alloc, model.as_str())?;
     let faulty = format!(in alloc; "{model}\nto b show n0 end")?;
     assert_fault(&rt, alloc, faulty.as_str(), "73:11: UnknownName")
 }
@@ -114,7 +114,7 @@ fn long_lists_and_texts_are_read(rt: HostRuntime) -> Result<(), Fail> {
     let numbers = "1 ".repeat(alloc, 300)?;
     let letters = long_name(alloc)?;
     let good = format!(in alloc; "to a show [ {numbers}]\nshow \"{letters}\" end")?;
-    assert_faultless(&rt, alloc, good.as_str(), "1:4")?;
+    assert_faultless(&rt, alloc, good.as_str())?;
     let faulty = format!(in alloc; "to a show [ {numbers}]\nshow \"{letters}\"\nfoo end")?;
     assert_fault(&rt, alloc, faulty.as_str(), "3:1: UnknownName")
 }

@@ -1,19 +1,28 @@
 //! Lone texts that the observer runs beside a checked program: who may run their words, what is set, and where `report`
 //! and `stop` stand.
 
+ghost use Rattle.nl_tree.specs.Names.{AreWidgets};
+
 use crate::tests::texts::{NOWHERE, read};
 use nl_check::{CheckKind, CheckRefusal, check_text};
-use nl_cli::read_program;
 use nl_fixed::Names;
+use nl_model::read_program;
 use nl_scan::{Source, scan};
 use nl_tree::{Form, Program};
 use std::alloc::Global;
 use std::process::Abort;
 
-// The checked program of a model; none where that has a fault.
+fn no_widgets(alloc: Global) -> Names
+    ensures { AreWidgets result }
+{
+    Names::empty(alloc)
+}
+
+// The checked program of a model that has no widgets; none where that has a fault.
 fn program_of(alloc: Global, code: &[u8]) -> Option<Program> {
     let tokens = scan(alloc, code).ok()?;
-    read_program(alloc, &Source::new(code, tokens.as_slice())).ok()
+    let source = Source::new(code, tokens.as_slice());
+    read_program(alloc, &source, no_widgets(alloc)).ok()
 }
 
 // What the check says of a lone text; none where the text can't be read.

@@ -1,4 +1,4 @@
-use Rattle.nl_cli.proofs.OneAnswer.{answers_are_unique}
+use Rattle.nl_cli.proofs.Unique.{answers_are_unique}
 use Rattle.nl_cli.proofs.laws.answers_are_unique.Goals as goal
 
 pub returns : goal.returns

@@ -1,4 +1,4 @@
-use Rattle.nl_cli.proofs.EachVerdict.{words_have_answers}
+use Rattle.nl_cli.proofs.EachAnswer.{words_have_answers}
 use Rattle.nl_cli.proofs.laws.words_have_answers.Goals as goal
 
 pub returns : goal.returns

@@ -1,5 +1,5 @@
 use Rattle.std.proofs.Common.{◌≡◌, ◌++◌, drop, map}
-use Rattle.nl_cli.specs.Answer.{joined_text}
+use Rattle.nl_cli.specs.Table.{joined_text}
 use Rattle.nl_cli.proofs.told.joined.Given as goal
 
 -- the pieces so far, and those that are left

@@ -4,7 +4,7 @@ use Rattle.nl_scan.specs.Tokens.{IsTokenOf}
 use Rattle.nl_tree.specs.Tokens as plain
 use Rattle.nl_text.specs.Texts.{plain_tokens}
 use Rattle.nl_text.proofs.Meant.{tokens_are_plain}
-use Rattle.nl_cli.proofs.Programs.{tokens_of_text}
+use Rattle.nl_model.proofs.Programs.{tokens_of_text}
 use Rattle.nlspace.proofs.tests.texts.read.Goals as goal
 
 pub read_body-requires-clause-tokens : goal.read_body-requires-clause-tokens

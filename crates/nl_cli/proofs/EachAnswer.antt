@@ -1,0 +1,95 @@
+-- Words over a folder have an answer, since each step of it leads to one.
+use Rattle.std.proofs.Common.{◌≡◌, inl, inr, ℕ, ◌+◌, Bool, true, false, List, [], ◌∷◌, ◌++◌, Option, Some, None, Result, Ok, Err, length, nat_lt, refl}
+use Rattle.nl_fixed.specs.Nouns.{Bytes, Names}
+use Rattle.nl_scan.specs.CodePart.{code_of}
+use Rattle.nl_scan.specs.Faults.{ScanFault}
+use Rattle.nl_scan.specs.Tokens.{text_limit, tokens_of}
+use Rattle.nl_scan.specs.declared.token.Token.{Token}
+use Rattle.nl_tree.specs.Checked.{Checked}
+use Rattle.nl_tree.specs.Tree.{Node}
+use Rattle.nl_tree.specs.Vocabulary.{terms}
+use Rattle.nl_fields.specs.declared.fields.Fields.{Fields}
+use Rattle.nl_experiment.specs.Laws.{HaveTrees}
+use Rattle.nl_experiment.specs.Plan.{experiment_says}
+use Rattle.nl_experiment.specs.Texts.{metrics_from, texts_of, until_texts}
+use Rattle.nl_experiment.specs.Widgets.{widgets_of}
+use Rattle.nl_experiment.proofs.OneThing.{texts_have_trees_or_faults}
+use Rattle.nl_model.specs.Verdict.{FileSays, IsVerdict, ScannedSay, Verdict}
+use Rattle.nl_model.proofs.EachVerdict.{files_have_verdicts}
+use Rattle.nl_model.proofs.Programs.{bodies_many}
+use Rattle.nl_run.specs.Job.{Trees}
+use Rattle.nl_cli.specs.Steps.{◌>>=◌, with_fault}
+use Rattle.nl_cli.specs.declared.words.Role.{Role}
+use Rattle.nl_cli.specs.declared.ends.End.{End}
+use Rattle.nl_cli.specs.Words.{Command, command_of, paths_for}
+use Rattle.nl_cli.specs.Inputs.{AreTreesOf, Found, InputsSay, IsJob, Job, MaybeTree, MetricTrees, ModelSays, TextsSay, end_of_key, found_in, read}
+use Rattle.nl_cli.specs.Answer.{Answer, AnswersTo, answer_to, made_by, usage_answer}
+use Rattle.nl_cli.specs.Laws.{WordsHaveAnswers}
+use Rattle.nl_cli.proofs.InputSteps.{experiment_read, goes}
+
+-- ---- programs have as many bodies as procedures
+
+scanned_many : (widgets : Names) (code : Bytes) (scanned : Result (List Token) ScanFault) (p : Checked) → ScannedSay widgets code scanned (Ok p) → length p.bodies ≡ length p.declared.procedures
+scanned_many widgets code (Ok tokens) p said = bodies_many code tokens (terms p.declared) p.declared.procedures p.bodies said.read.trees
+scanned_many widgets code (Err fault) p said = cc
+
+file_many : (limit : ℕ) (long : Bool) (widgets : Names) (file : Bytes) (p : Checked) → FileSays limit long widgets file (Ok p) → length p.bodies ≡ length p.declared.procedures
+file_many limit true widgets file p said = cc
+file_many limit false widgets file p said = scanned_many widgets (code_of file) (tokens_of (code_of file)) p said
+
+verdict_many : (widgets : Names) (file : Bytes) (p : Checked) → IsVerdict widgets file (Ok p) → length p.bodies ≡ length p.declared.procedures
+unfolding IsVerdict
+verdict_many widgets file p said = file_many text_limit (nat_lt text_limit (length file)) widgets file p said
+
+-- ---- texts
+
+metrics_there : (p : Checked) (number : ℕ) (texts : Names) → HaveTrees p (metrics_from number texts) → (trees : List Node) × MetricTrees p texts trees
+metrics_there p number [] have = ([], tt)
+metrics_there p number (text ∷ texts) have =
+    let (trees, are) = metrics_there p (number + 1) texts have.1 in
+    (have.0.0 ∷ trees, (have.0.1, are))
+
+until_there : (p : Checked) (text : Option Bytes) (texts : Names) → HaveTrees p (until_texts text ++ metrics_from 1 texts)
+    → ((tree : Option Node) × MaybeTree p text tree) × HaveTrees p (metrics_from 1 texts)
+until_there p None texts have = ((None, tt), have)
+until_there p (Some text) texts have = ((Some have.0.0, have.0.1), have.1)
+
+trees_there : (f : Fields) (p : Checked) → HaveTrees p (texts_of f) → (trees : Trees) × AreTreesOf f p trees
+trees_there f p have =
+    let ((until, is), others) = until_there p f.until f.metrics have.1.1 in
+    let (metrics, are) = metrics_there p 1 f.metrics others in
+    (record { setup = have.0.0; go = have.1.0.0; until = until; metrics = metrics }, record { setup = have.0.1; go = have.1.0.1; until = is; metrics = are })
+
+texts_say : (f : Fields) (p : Checked) (source : Bytes) → length p.bodies ≡ length p.declared.procedures → (job : Result Job End) × TextsSay f p source job
+texts_say f p source many = elim (texts_have_trees_or_faults p f many) [
+  | inl have ↦ let (trees, are) = trees_there f p have in (Ok (record { fields = f; program = p; source = source; texts = trees }), inl (trees, (are, refl)))
+  | inr (fault, bad) ↦ (Err (End.Plan fault), inr (fault, (bad, refl)))
+]
+
+by_verdict : (f : Fields) (model : Bytes) (verdict : Verdict) → IsVerdict (widgets_of f) model verdict → (job : Result Job End) × ModelSays f model job
+by_verdict f model (Ok p) said = let (job, says) = texts_say f p (code_of model) (verdict_many (widgets_of f) model p said) in (job, (Ok p, (said, says)))
+by_verdict f model (Err fault) said = (Err (End.Model fault), (Err fault, (said, refl)))
+
+inputs_say : (model experiment : Bytes) → (job : Result Job End) × InputsSay model experiment job
+unfolding InputsSay
+inputs_say model experiment =
+    goes (with_fault end_of_key (experiment_says experiment)) (λ job fields. ModelSays fields model job)
+    (λ fields. let (verdict, said) = files_have_verdicts (widgets_of fields) model in by_verdict fields model verdict said)
+
+-- ---- answers
+
+jobs_are_there : (found : Found) → (job : Result Job End) × IsJob found job
+unfolding IsJob
+jobs_are_there found =
+    goes (read Role.Model found) (λ job. experiment_read found job) (λ model.
+    goes (read Role.Experiment found) (λ job experiment. InputsSay model experiment job) (λ experiment. inputs_say model experiment))
+
+answers_to : (found : Command → Found) (command : Option Command) → (answer : Answer) × AnswersTo command found answer
+answers_to found None = (usage_answer, refl)
+answers_to found (Some command) =
+    let (job, is) = jobs_are_there (found command) in
+    let result = job >>= made_by command in
+    (answer_to (paths_for command) result, (result, ((job, (is, refl)), refl)))
+
+pub words_have_answers : WordsHaveAnswers
+words_have_answers words folder = answers_to (λ command. found_in command folder) (command_of words)

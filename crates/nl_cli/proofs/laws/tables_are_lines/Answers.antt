@@ -1,0 +1,5 @@
+use Rattle.nl_cli.proofs.TableLaws.{tables_are_lines}
+use Rattle.nl_cli.proofs.laws.tables_are_lines.Goals as goal
+
+pub returns : goal.returns
+returns c = tables_are_lines
