@@ -4,9 +4,9 @@
 page=$tools/../docs/SWEEPS.md
 sweep=$tools/sweep
 mkdir "$work/sweep"
-cp -- "$tools"/tests/sweep/* "$work/sweep"
+cp -- "$tools"/tests/sweep/* "$tools"/../crates/nl_models/data/fire.{nlogo,toml} "$work/sweep"
 cd -- "$work/sweep" || exit 1
-for name in spill ends many; do
+for name in spill ends fire many; do
     "$nlspace" table "$name.nlogo" "$name.toml" > "$name.csv"
 done
 
@@ -35,7 +35,7 @@ gives_table() {
 # The very bytes of table
 
 for jobs in 1 2 7; do
-    for name in spill ends; do
+    for name in spill ends fire; do
         begin "sweep: the table of $name with $jobs jobs"
         run "$sweep" "$name.nlogo" "$name.toml" "$jobs"
         gives_table "$name"
