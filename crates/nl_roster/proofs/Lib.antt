@@ -1,0 +1,5 @@
+mod Copies
+mod Cutting
+mod Lists
+mod Rosters
+mod Tallies
