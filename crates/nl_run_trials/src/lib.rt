@@ -1,0 +1,25 @@
+//! Trials of runs: models and experiments, and the rows that they give over the store of one list.
+#![tactic(auto)]
+
+#[cfg(test)]
+mod budgets;
+#[cfg(test)]
+mod draws;
+#[cfg(test)]
+mod errors;
+#[cfg(test)]
+mod fire;
+#[cfg(test)]
+mod lines;
+#[cfg(test)]
+mod long;
+#[cfg(test)]
+mod measures;
+#[cfg(test)]
+mod playing;
+#[cfg(test)]
+mod rows;
+#[cfg(test)]
+mod settings;
+#[cfg(test)]
+mod steps;
