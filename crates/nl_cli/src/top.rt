@@ -15,7 +15,7 @@ use crate::told::{USAGE_LINE, say, tell};
 use crate::words::{Command, MEASURE, Paths, Task, command_of, paths_for};
 use nl_agents::Store;
 use nl_outer::{Args, Files, Sink};
-use nl_plain::Plain;
+use nl_store::Indexed;
 use std::alloc::Global;
 
 // A task over two files.
@@ -97,7 +97,7 @@ pub fn run<F: Files, O: Sink, E: Sink>(
         say(err, USAGE_LINE);
         return Status::Usage;
     };
-    match course::<Plain, F, O>(alloc, &command, files, out) {
+    match course::<Indexed, F, O>(alloc, &command, files, out) {
         Ok(()) => Status::Done,
         Err(end) => tell(alloc, &paths_for(&command), &end, err),
     }
