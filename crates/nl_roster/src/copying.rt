@@ -51,7 +51,8 @@ fn copy_turtle(alloc: Global, from: &Files, serial: u64, into: &mut Roster) -> R
     requires lives { IsSome (find (is_turtle serial) from.now.turtles) }
     requires next { into.old.turtles_given ≤ serial }
     requires given { serial < 9_000_000_000_000 }
-    requires among { (t : living.Turtle) → find (is_turtle serial) from.now.turtles ≡ Some t → IsTurtleAmong from.now t }
+    requires among { (t : living.Turtle) → find (is_turtle serial) from.now.turtles ≡ Some t →
+        IsTurtleAmong from.now t }
     requires shape { into.old.shape ≡ from.now.shape }
     requires breeds { into.old.breeds ≡ from.now.breeds }
     ensures { OnOk result ((t : living.Turtle) → find (is_turtle serial) from.now.turtles ≡ Some t →
@@ -69,7 +70,8 @@ fn copy_link(alloc: Global, from: &Files, serial: u64, into: &mut Roster) -> Res
     requires lives { IsSome (find (is_link serial) from.now.links) }
     requires next { into.old.links_given ≤ serial }
     requires given { serial < 9_000_000_000_000 }
-    requires among { (l : tie.Link) → find (is_link serial) from.now.links ≡ Some l → IsLinkAmong from.now l }
+    requires among { (l : tie.Link) → find (is_link serial) from.now.links ≡ Some l →
+        IsLinkAmong from.now l }
     requires turtles { into.old.turtles ≡ from.now.turtles }
     ensures { OnOk result ((l : tie.Link) → find (is_link serial) from.now.links ≡ Some l →
         into.new ≡ record into.old { links = into.old.links ++ l ∷ []; links_given = serial + 1 }) }
@@ -85,7 +87,8 @@ fn copy_link(alloc: Global, from: &Files, serial: u64, into: &mut Roster) -> Res
 /// All turtles are added to none, under the serials that they have, and as many serials are given.
 pub(crate) fn copy_turtles(alloc: Global, from: &Files, into: &mut Roster) -> Result<(), NoMemory>
     requires sound { AreSound from.now }
-    requires none { into.old ≡ record from.now { turtles = []; links = []; turtles_given = 0; links_given = 0 } }
+    requires none { into.old
+        ≡ record from.now { turtles = []; links = []; turtles_given = 0; links_given = 0 } }
     ensures { OnOk result (into.new ≡ record from.now { links = []; links_given = 0 }) }
 {
     let serials = turtles_counted::<Brand>(Blank::new(1), alloc, from)?;

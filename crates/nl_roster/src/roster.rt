@@ -98,7 +98,12 @@ impl Roster {
         requires breed { breed < self.old.breeds }
         ensures serial { IfOk result (λ serial. serial ≡ self.old.turtles_given) }
         ensures added { OnOk result (self.new ≡ record self.old {
-          turtles = self.old.turtles ++ (record { serial = self.old.turtles_given; breed = breed; at = at; vars = vars }) ∷ [];
+          turtles = self.old.turtles ++ (record {
+            serial = self.old.turtles_given;
+            breed = breed;
+            at = at;
+            vars = vars;
+          }) ∷ [];
           turtles_given = self.old.turtles_given + 1;
         }) }
         ensures kept { OnErr result (self.new ≡ self.old) }
@@ -147,7 +152,9 @@ impl Roster {
     /// The link is gone. It takes no memory.
     pub fn cut(&mut self, link: u64)
         requires { IsSome (find (is_link link) self.old.links) }
-        ensures { self.new ≡ record self.old { links = filter (λ l. not (is_link link l)) self.old.links } }
+        ensures { self.new ≡ record self.old {
+          links = filter (λ l. not (is_link link l)) self.old.links;
+        } }
     {
         let (breed, directed) = self.files.link_breed(link);
         self.files.remove_link(link);
@@ -172,7 +179,9 @@ impl Roster {
     fn cut_all_of(&mut self, turtle: u64)
         requires lives { IsSome (find (is_turtle turtle) self.old.turtles) }
         requires order { LinksAscend self.old.links }
-        ensures { self.new ≡ record self.old { links = filter (λ l. not (has_end turtle l)) self.old.links } }
+        ensures { self.new ≡ record self.old {
+          links = filter (λ l. not (has_end turtle l)) self.old.links;
+        } }
     {
         while let Some(link) = self.files().some_link_of(turtle) {
             self.cut(link);
@@ -183,7 +192,9 @@ impl Roster {
     fn remove(&mut self, turtle: u64)
         requires lives { IsSome (find (is_turtle turtle) self.old.turtles) }
         requires free { list_any (has_end turtle) self.old.links ≡ false }
-        ensures { self.new ≡ record self.old { turtles = filter (λ t. not (is_turtle turtle t)) self.old.turtles } }
+        ensures { self.new ≡ record self.old {
+          turtles = filter (λ t. not (is_turtle turtle t)) self.old.turtles;
+        } }
     {
         let breed = self.files.breed_of(turtle);
         self.files.remove_turtle(turtle);
@@ -206,7 +217,9 @@ impl Roster {
         requires lives { IsSome (find (is_turtle turtle) self.old.turtles) }
         requires many { KeepAll layout.now self.old.turtles }
         requires breed { breed < self.old.breeds }
-        ensures { self.new ≡ record self.old { turtles = turtles_rebred layout.now turtle breed self.old.turtles } }
+        ensures { self.new ≡ record self.old {
+          turtles = turtles_rebred layout.now turtle breed self.old.turtles;
+        } }
     {
         let was = self.files.breed_of(turtle);
         self.files.rebreed_turtle(alloc, layout, turtle, breed);
@@ -224,11 +237,13 @@ impl Roster {
         value: Value,
     ) -> Result<Value, Value>
         requires { IsSome (find (is_turtle turtle) self.old.turtles) }
-        ensures old { IfOk result (λ old. turtle_entry slots.now slot turtle self.old.turtles ≡ Some (plain old)) }
+        ensures old { IfOk result (λ old.
+            turtle_entry slots.now slot turtle self.old.turtles ≡ Some (plain old)) }
         ensures back { IfErr result (λ back. plain back ≡ plain value) }
         ensures not_owned { OnErr result (turtle_entry slots.now slot turtle self.old.turtles ≡ None) }
         ensures set { self.new ≡ record self.old {
-          turtles = turtles_filled (λ vars. value_set slots.now vars slot (plain value)) turtle self.old.turtles;
+          turtles = turtles_filled (λ vars. value_set slots.now vars slot (plain value)) turtle
+              self.old.turtles;
         } }
     {
         self.files.set_turtle(alloc, slots, turtle, slot, value)
@@ -244,7 +259,8 @@ impl Roster {
         value: Value,
     ) -> Result<Value, Value>
         requires { IsSome (find (is_link link) self.old.links) }
-        ensures old { IfOk result (λ old. link_entry slots.now slot link self.old.links ≡ Some (plain old)) }
+        ensures old { IfOk result (λ old.
+            link_entry slots.now slot link self.old.links ≡ Some (plain old)) }
         ensures back { IfErr result (λ back. plain back ≡ plain value) }
         ensures not_owned { OnErr result (link_entry slots.now slot link self.old.links ≡ None) }
         ensures set { self.new ≡ record self.old {
