@@ -10,5 +10,3 @@ pub mod orders;
 pub mod replies;
 pub mod sets;
 pub mod several;
-#[cfg(test)]
-mod tests;

@@ -8,8 +8,6 @@ pub mod frames;
 pub mod hands;
 pub mod locals;
 pub mod sound;
-#[cfg(test)]
-mod tests;
 pub mod turns;
 
 pub use exits::Exit;

@@ -1,9 +1,9 @@
 //! Locals and frames that are held, found again and copied.
 #![tactic(auto)]
 
-use crate::frames::{Frame, copy_frames};
-use crate::locals::{Local, Locals};
 use nl_fixed::NoMemory;
+use nl_frames::frames::{Frame, copy_frames};
+use nl_frames::locals::{Local, Locals};
 use nl_value::{Items, Value};
 use std::alloc::Global;
 

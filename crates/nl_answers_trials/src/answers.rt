@@ -1,11 +1,11 @@
 //! Members by what they answered. The answers were worked out by hand, and those of many members outside this program.
 #![tactic(auto)]
 
-use crate::extremes::extremes;
-use crate::lists::{members_of, values_of};
-use crate::orders::{are_comparable, in_order};
-use crate::replies::{Reply, reply_to};
-use crate::several::first_members;
+use nl_answers::extremes::extremes;
+use nl_answers::lists::{members_of, values_of};
+use nl_answers::orders::{are_comparable, in_order};
+use nl_answers::replies::{Reply, reply_to};
+use nl_answers::several::first_members;
 use nl_code::Over;
 use nl_fixed::{NoMemory, Num};
 use nl_frames::{Answered, Answers};
