@@ -10,6 +10,3 @@ pub mod values;
 pub use document::{FILE_LIMIT, table_of};
 pub use faults::{KeyFault, KeyRefusal, PlanKind};
 pub use rows::{TextKey, TruthKey, WholeKey};
-
-#[cfg(test)]
-mod tests;

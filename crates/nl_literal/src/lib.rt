@@ -3,7 +3,5 @@
 
 pub mod literals;
 mod nested;
-#[cfg(test)]
-mod tests;
 
 pub use literals::{literal, number, whole};

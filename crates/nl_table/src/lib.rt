@@ -4,8 +4,6 @@
 pub mod headers;
 pub mod laws;
 pub mod lines;
-#[cfg(test)]
-mod tests;
 
 pub use headers::header;
 pub use lines::{Record, line};

@@ -1,6 +1,6 @@
 //! The texts of the measure, byte by byte.
 
-use crate::texts::{experiment, model};
+use nl_bench::texts::{experiment, model};
 use std::alloc::Global;
 
 const FOR_ONE: &str =

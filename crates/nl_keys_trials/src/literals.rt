@@ -1,7 +1,7 @@
 //! Literals of each kind, and texts that hold none.
 
-use crate::literals::{literal, number, whole};
 use nl_fixed::{NoMemory, Str};
+use nl_literal::literals::{literal, number, whole};
 use nl_value::{Items, Value};
 use std::alloc::Global;
 

@@ -1,8 +1,8 @@
 //! Lines and headers, byte by byte.
 
-use crate::headers::header;
-use crate::lines::line;
 use nl_fixed::{Cells, Names, Str};
+use nl_table::headers::header;
+use nl_table::lines::line;
 use std::alloc::Global;
 
 /// Texts, as they stand in a table of tests.

@@ -1,9 +1,9 @@
 //! Values and faults at keys of small documents, and files of many keys.
 
-use crate::rows::{maybe_text_at, required_text_at, text_at, truth_at, whole_at};
-use crate::tables::{all_known, texts_at};
-use crate::{FILE_LIMIT, KeyRefusal, PlanKind, TextKey, TruthKey, WholeKey, table_of};
 use nl_fixed::{Names, NoMemory, Str};
+use nl_keys::rows::{maybe_text_at, required_text_at, text_at, truth_at, whole_at};
+use nl_keys::tables::{all_known, texts_at};
+use nl_keys::{FILE_LIMIT, KeyRefusal, PlanKind, TextKey, TruthKey, WholeKey, table_of};
 use std::alloc::Global;
 use toml::Table;
 

@@ -1,0 +1,11 @@
+//! Trials of what an experiment and a table are made of: keys, literals, lines and made texts.
+#![tactic(auto)]
+
+#[cfg(test)]
+mod benches;
+#[cfg(test)]
+mod keys;
+#[cfg(test)]
+mod literals;
+#[cfg(test)]
+mod tables;
