@@ -12,8 +12,3 @@ mod numbers;
 pub mod worlds;
 
 pub use fields::{Fields, fields_of};
-
-#[cfg(test)]
-mod fault_tests;
-#[cfg(test)]
-mod tests;

@@ -1,6 +1,6 @@
 //! Each fault of each key, and which of two faults is told.
 
-use crate::tests::{Said, says};
+use crate::documents::{Said, says};
 use nl_fixed::{NoMemory, Str};
 use nl_keys::PlanKind;
 use std::alloc::Global;

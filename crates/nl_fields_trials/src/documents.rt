@@ -1,6 +1,6 @@
 //! Documents and their first faults, fields that are left out, and files of many entries.
 
-use crate::{Fields, fields_of};
+use nl_fields::{Fields, fields_of};
 use nl_fixed::{NoMemory, Str};
 use nl_keys::{KeyRefusal, PlanKind};
 use nl_sweep::Choice;
