@@ -2,21 +2,28 @@
 //!
 //! Each table runs over every store that there is. Coordinates and numbers are in tenths.
 
-use nl_agents::Owner;
+use nl_agents::{Owner, Store};
 use nl_plain::Plain;
+use nl_store::Indexed;
 use nl_trials::trial_model::{FOXES, OWLS, ROPES, WIRES, program};
 use nl_trials::trials::{Look, Scene, Step, Wanted, played};
 use std::alloc::Global;
 use std::process::Abort;
 
-/// Plays the scenes on a new store of each kind.
-pub(crate) fn assert_scenes(rt: &impl Abort, alloc: Global, scenes: &[Scene]) {
+// Plays the scenes on a new store.
+fn assert_played<S: Store>(rt: &impl Abort, alloc: Global, scenes: &[Scene]) {
     let Some(model) = program(alloc) else {
         panic!(rt);
     };
-    if let Err(wrong) = played::<Plain>(alloc, model, scenes) {
+    if let Err(wrong) = played::<S>(alloc, model, scenes) {
         panic!(rt; "{wrong:?}");
     }
+}
+
+/// Plays the scenes on a new store of each kind.
+pub(crate) fn assert_scenes(rt: &impl Abort, alloc: Global, scenes: &[Scene]) {
+    assert_played::<Plain>(rt, alloc, scenes);
+    assert_played::<Indexed>(rt, alloc, scenes);
 }
 
 const HERE: (i64, i64) = (0, 0);
@@ -214,4 +221,28 @@ const COPIES: &[Scene] = &[
 #[test]
 fn a_copy_lives_apart(rt: HostRuntime) {
     assert_scenes(&rt, rt.alloc(), COPIES);
+}
+
+// One that comes to a patch later may have the lower serial, and so may one that comes to a breed.
+const LATE_COMERS: &[Scene] = &[(
+    &[
+        Step::Bear(0, HERE, None, 0),
+        Step::Bear(0, HERE, None, 1),
+        Step::Bear(0, HERE, None, 2),
+        Step::Bear(0, HERE, None, 3),
+        Step::Bear(0, HERE, None, 4),
+        Step::Rebreed(2, FOXES),
+        Step::Shift(3, (10, 0)),
+    ],
+    &[
+        Look::On(HERE, &[0, 1, 2, 4]),
+        Look::On((10, 0), &[3]),
+        Look::OfBreed(0, &[0, 1, 3, 4]),
+        Look::OfBreed(FOXES, &[2]),
+    ],
+)];
+
+#[test]
+fn a_patch_has_those_that_stayed(rt: HostRuntime) {
+    assert_scenes(&rt, rt.alloc(), LATE_COMERS);
 }
