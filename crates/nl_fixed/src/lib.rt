@@ -2,8 +2,6 @@
 #![tactic(auto)]
 
 pub mod arithmetic;
-#[cfg(test)]
-mod arithmetic_tests;
 pub mod characters;
 pub mod headings;
 pub mod lists;
@@ -16,11 +14,7 @@ pub mod sine;
 pub mod span;
 pub mod spelling;
 pub mod spelling_laws;
-#[cfg(test)]
-mod spelling_tests;
 pub mod text;
-#[cfg(test)]
-mod text_tests;
 
 pub use arithmetic::rounded_quotient;
 pub use lists::{Cells, Names};

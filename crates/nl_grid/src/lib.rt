@@ -9,8 +9,6 @@ pub mod nearby;
 pub mod patch_box;
 pub mod point;
 pub mod shape;
-#[cfg(test)]
-mod tests;
 
 pub use axis::Axis;
 pub use patch_box::PatchBox;

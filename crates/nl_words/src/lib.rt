@@ -9,6 +9,3 @@ pub mod words;
 pub use base::{ROWS, base_words};
 pub use entry::{Entry, Input, Kinds, Leaving, Manner, Role, Runner};
 pub use words::Words;
-
-#[cfg(test)]
-mod tests;

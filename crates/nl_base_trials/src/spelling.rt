@@ -1,6 +1,6 @@
 //! Words and texts of numbers, by rows that were worked out apart from the program.
 
-use crate::number::{Num, NumFault};
+use nl_fixed::number::{Num, NumFault};
 use std::test::Fail;
 
 /// The count or the fault that a word reads as.

@@ -1,8 +1,8 @@
 //! Rows as the NetLogo Dictionary has the words, and names that have no row.
-use crate::base::{ROWS, base_words};
-use crate::codes;
-use crate::entry::{Input, Kinds, Leaving, Manner, Role, Runner};
 use Input::{Commands, Expression, Fresh, MaybeCommands, Value};
+use nl_words::base::{ROWS, base_words};
+use nl_words::codes;
+use nl_words::entry::{Input, Kinds, Leaving, Manner, Role, Runner};
 
 const TEST: Input = Input::Reporter;
 

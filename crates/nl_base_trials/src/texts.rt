@@ -1,7 +1,7 @@
 //! Texts, their characters and lists of them, by rows and far past the usual sizes.
 
-use crate::lists::{Cells, Names};
-use crate::text::Str;
+use nl_fixed::lists::{Cells, Names};
+use nl_fixed::text::Str;
 use std::test::Fail;
 
 #[test]

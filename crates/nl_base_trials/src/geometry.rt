@@ -2,10 +2,10 @@
 ghost use Rattle.std.specs.Prelude.{IfOk, ◌<◌};
 ghost use Rattle.nl_grid.specs.Geometry.{IsPointOf, patches_of};
 
-use crate::patch_box::PatchBox;
-use crate::point::{Point, SamePoint};
-use crate::shape::Shape;
 use nl_fixed::{Num, NumFault};
+use nl_grid::patch_box::PatchBox;
+use nl_grid::point::{Point, SamePoint};
+use nl_grid::shape::Shape;
 use std::process::Abort;
 use std::test::Fail;
 

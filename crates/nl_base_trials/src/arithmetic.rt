@@ -1,8 +1,8 @@
 //! The operations on numbers, by rows of counts that were worked out apart from the program.
 
-use crate::arithmetic::rounded_quotient;
-use crate::number::{Num, NumFault};
-use crate::powers::whole_root;
+use nl_fixed::arithmetic::rounded_quotient;
+use nl_fixed::number::{Num, NumFault};
+use nl_fixed::powers::whole_root;
 use std::test::Fail;
 
 /// The operations on two numbers.
