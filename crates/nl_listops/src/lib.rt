@@ -7,13 +7,9 @@ mod inputs;
 mod kinds;
 mod many;
 mod numbers;
-#[cfg(test)]
-mod rows;
 mod series;
 mod shades;
 mod statistics;
-#[cfg(test)]
-mod tests;
 mod truths;
 pub mod words;
 

@@ -4,7 +4,7 @@ use Rattle.std.specs.List.{list_all}
 use Rattle.nl_value.specs.Living.{fits, no_life}
 use Rattle.nl_value.specs.Views.{plain}
 use Rattle.nl_value.specs.Plain.{Plain}
-use Rattle.nl_listops.proofs.tests.answer.Goals as goal
+use Rattle.nl_listops_trials.proofs.words.answer.Goals as goal
 
 all_fit : ((p : Plain) → fits no_life p ≡ true) → (ps : List Plain) → list_all (fits no_life) ps ≡ true
 all_fit fit [] = refl

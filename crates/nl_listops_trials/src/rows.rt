@@ -1,7 +1,7 @@
 //! What the words answer at inputs of which nothing lives: for each word a row for its meaning, for each kind of input that it takes, for
 //! inputs of other kinds, and for each of its errors.
 
-use crate::tests::{Chain, Given, Row, Step};
+use crate::words::{Chain, Given, Row, Step};
 use Given::{
     Agents, DeadLink, DeadTurtle, Deep, False, Millionths, Mixed, Nobody, Patch, Set, Text, Texts,
     True, Whole, Wholes,

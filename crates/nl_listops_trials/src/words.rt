@@ -2,9 +2,9 @@
 ghost use Rattle.std.specs.Prelude.{◌≡◌};
 
 use crate::rows;
-use crate::words::value_word;
 use nl_draw::Stream;
 use nl_fixed::{Num, Str};
+use nl_listops::words::value_word;
 use nl_series::ListFail;
 use nl_value::laws::every_value_fits_no_life;
 use nl_value::texts::text;
