@@ -12,6 +12,3 @@ pub use built_in::{COLOR, HEADING, rule_of};
 pub use layout::{BreedLayout, BreedLayouts, Layout};
 pub use rule::Rule;
 pub use slots::Slots;
-
-#[cfg(test)]
-mod tests;

@@ -6,7 +6,6 @@ use Rattle.nl_value.specs.declared.sets.AgentSet.{AgentSet}
 use Rattle.nl_value.specs.Plain.{Plain, Plains, PlainItems, PlainPatch, PlainSet, no_items, item_then, plains}
 use Rattle.nl_value.specs.Fit.{value_fits, values_fit}
 use Rattle.nl_value.specs.Living.{fits, no_life}
-use Rattle.nl_value.specs.inner.SmallWorld.{small_world}
 
 module _ (patch : ℕ → Bool) (set : AgentSet → Bool) where
   pub values_fit-plains : (ps : List Plain) → values_fit patch set (plains ps) ≡ list_all (value_fits patch set) ps
@@ -27,6 +26,3 @@ module _ (patch : ℕ → Bool) (set : AgentSet → Bool) where
 
 pub fits_no_life : (p : Plain) → fits no_life p ≡ true
 fits_no_life = value_fits-all no_life.patch_fits no_life.set_fits (λ n. refl) (λ s. refl)
-
-pub fits_small : (p : Plain) → fits small_world p ≡ true
-fits_small = value_fits-all small_world.patch_fits small_world.set_fits (λ n. refl) (λ s. refl)

@@ -1,9 +1,7 @@
--- What the proofs and the toolchain need and no caller reads: steps of private functions, codes and measures of values, and the
--- world of the tests. A change here changes no meaning of a value.
+-- What the proofs and the toolchain need and no caller reads: steps of private functions, codes and measures of values. A change here changes no meaning of a value.
 pub mod Appends
 pub mod Codes
 pub mod Contents
 pub mod Falls
 pub mod Rows
-pub mod SmallWorld
 pub mod Weights

@@ -9,11 +9,7 @@ pub mod life;
 pub mod measures;
 pub mod order;
 pub mod sets;
-#[cfg(test)]
-mod small_world;
 pub mod sorting;
-#[cfg(test)]
-mod tests;
 pub mod texts;
 pub mod values;
 

@@ -3,12 +3,12 @@ ghost use Rattle.std.specs.Prelude.{◌≡◌, IfOk};
 ghost use Rattle.std.specs.List.{filter};
 ghost use Rattle.std.specs.List.Sorted.{IsStrictlyIncreasing};
 ghost use Rattle.nl_value.specs.Living.{link_key};
-ghost use Rattle.nl_value.specs.inner.SmallWorld.{small_world, small_members, small_turtle_lives, small_link_lives};
+ghost use Rattle.nl_value_trials.specs.SmallWorld.{small_world, small_members, small_turtle_lives, small_link_lives};
 
-use crate::life::Life;
-use crate::sets::{AgentSet, Serials};
-use crate::values::Value;
 use nl_fixed::{NoMemory, Str};
+use nl_value::life::Life;
+use nl_value::sets::{AgentSet, Serials};
+use nl_value::values::Value;
 use std::alloc::Global;
 
 /// The living turtles of a list.

@@ -1,6 +1,6 @@
 use Rattle.std.proofs.lemmas.List.Kept.{IsStrictlyIncreasing-filter}
-use Rattle.nl_value.specs.inner.SmallWorld.{small_link_lives}
-use Rattle.nl_value.proofs.small_world.living_links.Goals as goal
+use Rattle.nl_value_trials.specs.SmallWorld.{small_link_lives}
+use Rattle.nl_value_trials.proofs.small_world.living_links.Goals as goal
 
 pub returns-in_err-members-clause-ascending : goal.returns-in_err-members-clause-ascending
 returns-in_err-members-clause-ascending c = IsStrictlyIncreasing-filter small_link_lives c.args.numbers.now c.as_slice-numbers.ensures.ascending

@@ -1,18 +1,18 @@
 //! Values compared, ordered, printed and measured: the expected answers were written down by the rules.
-#![tactic(auto, using(crate::proofs::Fitting::fits_no_life, crate::proofs::Fitting::fits_small))]
+#![tactic(auto, using(nl_value::proofs::Fitting::fits_no_life, crate::proofs::Fitting::fits_small))]
 
-use crate::colors::{color_named, primary_colors};
-use crate::equality::same;
-use crate::life::NoLife;
-use crate::order::{OrderKind, before, compare};
-use crate::sets::{AgentSet, Serials};
 use crate::small_world::SmallWorld;
-use crate::texts::{TextFail, text};
-use crate::values::{Items, Value};
 use Leaf::{Link, Nobody, Number, Patch, Truth, Turtle, Words};
 use Members::{Breed, Links, Patches, SomeLinks, SomePatches, SomeTurtles, Turtles};
 use Sample::{Deep, Falling, Letters, List, Nested, One, Set};
 use nl_fixed::{NoMemory, Num, Str};
+use nl_value::colors::{color_named, primary_colors};
+use nl_value::equality::same;
+use nl_value::life::NoLife;
+use nl_value::order::{OrderKind, before, compare};
+use nl_value::sets::{AgentSet, Serials};
+use nl_value::texts::{TextFail, text};
+use nl_value::values::{Items, Value};
 use std::alloc::Global;
 use std::test::Fail;
 

@@ -1,7 +1,7 @@
 //! Slots, and a layout that is made by hand.
-use crate::layout::{BreedLayout, BreedLayouts, Layout};
-use crate::slots::Slots;
 use nl_fixed::{NoMemory, Str};
+use nl_layout::layout::{BreedLayout, BreedLayouts, Layout};
+use nl_layout::slots::Slots;
 use nl_tree::What;
 use nl_words::{Kinds, codes};
 use std::alloc::Global;
