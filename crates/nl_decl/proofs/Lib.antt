@@ -14,6 +14,5 @@ mod Once
 mod Sizes
 mod Spread
 mod Untaken
-mod WidgetExamples
 mod Within
 pub mod BodyOrder

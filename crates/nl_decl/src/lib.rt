@@ -9,8 +9,6 @@ pub mod laws;
 mod ledger;
 mod marks;
 pub mod refusal;
-#[cfg(test)]
-mod tests;
 
 pub use declaring::declare;
 pub use nl_tree::{Word, word};

@@ -7,8 +7,6 @@ mod mode;
 mod owners;
 pub mod reading;
 pub mod refusal;
-#[cfg(test)]
-mod tests;
 
 pub use declaration::{Declaration, Owner, Sort};
 pub use reading::outline;

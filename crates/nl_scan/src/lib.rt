@@ -8,8 +8,6 @@ mod pieces;
 pub mod place;
 pub mod scanner;
 pub mod source;
-#[cfg(test)]
-mod tests;
 pub mod texts;
 pub mod token;
 

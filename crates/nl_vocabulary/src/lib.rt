@@ -4,8 +4,6 @@
 pub mod index;
 pub mod made;
 mod name_set;
-#[cfg(test)]
-mod tests;
 mod variables;
 
 pub use index::index_of;

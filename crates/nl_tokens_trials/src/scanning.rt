@@ -3,11 +3,11 @@
 ghost use Rattle.std.specs.Prelude.{IsTrue};
 ghost use Rattle.nl_scan.specs.Texts.{LiesIn};
 
-use crate::{
+use nl_fixed::{NoMemory, Str};
+use nl_scan::{
     Lexeme, ScanKind, ScanRefusal, Source, Token, Tokens, bytes_of, code_part, line_column, scan,
     text_of, word_of,
 };
-use nl_fixed::{NoMemory, Str};
 use std::alloc::Global;
 use std::test::Fail;
 

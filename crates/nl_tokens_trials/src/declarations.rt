@@ -2,8 +2,8 @@
 ghost use Rattle.std.specs.Prelude.{IfOk};
 ghost use Rattle.nl_tree.specs.Names.{AreWidgets, IsDeclared};
 
-use crate::declaring::declare;
-use crate::refusal::{DeclKind, DeclRefusal};
+use nl_decl::declaring::declare;
+use nl_decl::refusal::{DeclKind, DeclRefusal};
 use nl_fixed::{Names, NoMemory, Str};
 use nl_scan::{Source, scan};
 use nl_tree::{Declared, What, word};

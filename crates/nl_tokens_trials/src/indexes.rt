@@ -3,10 +3,10 @@ ghost use Rattle.std.specs.Prelude.{◌+◌, ◌<◌, ◌^◌, length};
 ghost use Rattle.nl_tree.specs.Names.{breeds_names, procedures_names};
 ghost use Rattle.nl_vocabulary.specs.Rooms.{AreFew};
 
-use crate::index::index_of;
 use Input::{MaybeCommands, Value};
 use nl_fixed::{Names, NoMemory, Str};
 use nl_tree::{Breed, Breeds, Declared, NamedWords, Procedure, Procedures, What, Word};
+use nl_vocabulary::index::index_of;
 use nl_words::{Input, Kinds, Role};
 use std::alloc::Global;
 use std::process::Abort;

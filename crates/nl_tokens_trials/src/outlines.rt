@@ -1,9 +1,9 @@
 //! Texts with their declarations and bad tokens, by rows that were worked out apart from the program.
 
-use crate::declaration::{Declaration, Owner, Sort};
-use crate::reading::outline;
-use crate::refusal::OutlineRefusal;
 use nl_fixed::{Names, NoMemory};
+use nl_outline::declaration::{Declaration, Owner, Sort};
+use nl_outline::reading::outline;
+use nl_outline::refusal::OutlineRefusal;
 use nl_scan::scan;
 use std::alloc::Global;
 use std::process::Abort;
