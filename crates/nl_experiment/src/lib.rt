@@ -15,8 +15,3 @@ pub use nl_keys::PlanKind;
 pub use nl_lone::{Inner, InnerKind};
 pub use nl_sweep::{Choice, Setting, Settings, Varies, Vary};
 pub use texts::Texts;
-
-#[cfg(test)]
-mod tests;
-#[cfg(test)]
-mod text_tests;

@@ -4,8 +4,6 @@
 pub mod faults;
 pub mod laws;
 pub mod lone;
-#[cfg(test)]
-mod tests;
 
 pub use faults::{Inner, InnerKind, LoneRefusal};
 pub use lone::read_lone;

@@ -5,8 +5,6 @@ pub mod faults;
 pub mod laws;
 pub mod model;
 pub mod program;
-#[cfg(test)]
-mod tests;
 
 pub use faults::{ModelFault, ModelKind, ModelRefusal};
 pub use model::read_model;

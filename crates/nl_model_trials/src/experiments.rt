@@ -1,7 +1,7 @@
 //! Experiments with too many runs or without a world, and the runs, widgets and numbers of those that are read.
 ghost use Rattle.nl_experiment.specs.Numbers.{AreDigits};
 
-use crate::{Experiment, PlanKind, PlanRefusal};
+use nl_experiment::{Experiment, PlanKind, PlanRefusal};
 use nl_fixed::{NoMemory, Str};
 use nl_sweep::Setting;
 use nl_value::Value;

@@ -2,9 +2,9 @@
 ghost use Rattle.std.specs.Prelude.{◌≡◌, [], IfOk};
 ghost use Rattle.nl_tree.specs.Names.{IsDeclared};
 
-use crate::{InnerKind, LoneRefusal, read_lone};
 use nl_check::{CheckRefusal, check};
 use nl_fixed::{Names, NoMemory, Str};
+use nl_lone::{InnerKind, LoneRefusal, read_lone};
 use nl_tree::{Breeds, Declared, Form, NamedWords, Procedures, Program, Trees};
 use std::alloc::Global;
 
@@ -171,5 +171,5 @@ fn too_long_texts_are_refused(rt: HostRuntime) {
 
 #[test]
 fn the_law_is_stated() {
-    crate::laws::lone_texts_say_one_thing();
+    nl_lone::laws::lone_texts_say_one_thing();
 }

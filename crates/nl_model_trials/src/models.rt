@@ -2,10 +2,10 @@
 ghost use Rattle.std.specs.Prelude.{IfOk};
 ghost use Rattle.nl_tree.specs.Names.{AreWidgets};
 
-use crate::{ModelKind, ModelRefusal, read_model};
 use nl_check::CheckKind;
 use nl_decl::DeclKind;
 use nl_fixed::{Names, NoMemory, Str};
+use nl_model::{ModelKind, ModelRefusal, read_model};
 use nl_parse::BodyKind;
 use nl_scan::ScanKind;
 use nl_tree::Program;
@@ -210,5 +210,5 @@ fn long_models_are_read_to_their_end(rt: HostRuntime) {
 
 #[test]
 fn the_law_is_stated() {
-    crate::laws::models_say_one_thing();
+    nl_model::laws::models_say_one_thing();
 }

@@ -1,5 +1,5 @@
 use Rattle.nl_lone.proofs.Nothing.{nothing_names}
-use Rattle.nl_lone.proofs.tests.nothing.Goals as goal
+use Rattle.nl_model_trials.proofs.lone.nothing.Goals as goal
 
 pub returns-clause-names : goal.returns-clause-names
 returns-clause-names c =

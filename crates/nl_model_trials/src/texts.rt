@@ -2,8 +2,8 @@
 ghost use Rattle.std.specs.Prelude.{◌≡◌, ◌<◌, []};
 ghost use Rattle.nl_tree.specs.Names.{IsDeclared};
 
-use crate::{Experiment, InnerKind, PlanKind, PlanRefusal, Texts};
 use nl_check::{CheckRefusal, check};
+use nl_experiment::{Experiment, InnerKind, PlanKind, PlanRefusal, Texts};
 use nl_fixed::{Names, NoMemory, Str};
 use nl_tree::{Breeds, Declared, NamedWords, Procedures, Program, Trees};
 use std::alloc::Global;
