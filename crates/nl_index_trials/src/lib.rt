@@ -6,3 +6,6 @@ pub mod filing;
 mod tests;
 
 pub use filing::Filing;
+
+#[cfg(test)]
+mod records;

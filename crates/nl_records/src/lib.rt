@@ -5,8 +5,6 @@ pub mod fields;
 pub mod places;
 pub mod record;
 pub mod records;
-#[cfg(test)]
-mod tests;
 
 pub use fields::{Body, Fields};
 pub use places::{Border, place_at, set_next, set_place, set_previous};

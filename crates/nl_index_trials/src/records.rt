@@ -2,12 +2,12 @@
 ghost use Rattle.std.specs.Prelude.{◌≡◌, ◌<◌, IsSome, IsTrue};
 ghost use Rattle.nl_records.specs.Records.{record_at};
 
-use crate::fields::{Body, Fields};
-use crate::record::Record;
-use crate::records::Records;
 use nl_agents::{Steps, Variables};
 use nl_fixed::Num;
 use nl_grid::Point;
+use nl_records::fields::{Body, Fields};
+use nl_records::record::Record;
+use nl_records::records::Records;
 use std::alloc::Global;
 use std::marker::Brand;
 use std::sync::ledger::{Blank, Ledger};
