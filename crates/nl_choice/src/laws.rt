@@ -13,14 +13,3 @@ pub fn some_keep_their_order<T>()
 pub fn some_members_differ()
     ensures { SomeMembersDiffer }
 {}
-
-#[cfg(test)]
-mod tests {
-    use super::*;
-
-    #[test]
-    fn laws_hold_of_lists_of_texts() {
-        some_keep_their_order::<&str>();
-        some_members_differ();
-    }
-}

@@ -14,6 +14,8 @@ mod dead;
 #[cfg(test)]
 mod giving;
 #[cfg(test)]
+mod laws;
+#[cfg(test)]
 mod links;
 #[cfg(test)]
 mod measures;
