@@ -161,6 +161,10 @@ const BAD_LITERALS: &[Row] = &[
     ("globals.a = \"\"", "globals.a"),
     ("globals.a = \"; 3\"", "globals.a"),
     ("globals.a = \"{\"", "globals.a"),
+];
+
+// What is no name or literal of a variable that is varied.
+const BAD_ENTRIES: &[Row] = &[
     ("vary = [{name = \"\", values = [1]}]", "vary 1.name"),
     ("vary = [{name = \"a b\", values = [1]}]", "vary 1.name"),
     ("vary = [{name = \"Size\", values = [1]}]", "vary 1.name"),
@@ -381,20 +385,46 @@ fn first_other(alloc: Global, rows: &[Row], kind: PlanKind) -> Option<&'static s
 }
 
 #[test]
-fn each_key_has_its_faults(rt: HostRuntime) {
-    let alloc = rt.alloc();
-    assert_eq!(rt; first_other(alloc, FLOATS, PlanKind::FloatValue), None);
-    assert_eq!(rt; first_other(alloc, WRONG_KINDS, PlanKind::WrongKind), None);
+fn a_floating_point_number_is_told_at_each_key(rt: HostRuntime) {
+    assert_eq!(rt; first_other(rt.alloc(), FLOATS, PlanKind::FloatValue), None);
+}
+
+#[test]
+fn another_kind_is_told_at_each_key(rt: HostRuntime) {
     assert_eq!(rt;
-        first_other(alloc, BAD_LITERALS, PlanKind::BadLiteral),
+        first_other(rt.alloc(), WRONG_KINDS, PlanKind::WrongKind),
         None
     );
+}
+
+#[test]
+fn a_bad_literal_is_told_at_each_key(rt: HostRuntime) {
     assert_eq!(rt;
-        first_other(alloc, UNKNOWN_KEYS, PlanKind::UnknownKey),
+        first_other(rt.alloc(), BAD_LITERALS, PlanKind::BadLiteral),
         None
     );
+}
+
+#[test]
+fn a_bad_literal_is_told_in_each_entry(rt: HostRuntime) {
     assert_eq!(rt;
-        first_other(alloc, MISSING_KEYS, PlanKind::MissingKey),
+        first_other(rt.alloc(), BAD_ENTRIES, PlanKind::BadLiteral),
+        None
+    );
+}
+
+#[test]
+fn an_unknown_key_is_told_at_each_place(rt: HostRuntime) {
+    assert_eq!(rt;
+        first_other(rt.alloc(), UNKNOWN_KEYS, PlanKind::UnknownKey),
+        None
+    );
+}
+
+#[test]
+fn a_missing_key_is_told(rt: HostRuntime) {
+    assert_eq!(rt;
+        first_other(rt.alloc(), MISSING_KEYS, PlanKind::MissingKey),
         None
     );
 }
