@@ -35,9 +35,11 @@ pub(crate) fn set_variable(
     value: Value,
 ) -> Result<Value, Value>
     requires { IsSome (record_at records.old key) }
-    ensures old { IfOk result (λ old. entry_in slots.now slot (fields_at (record_at records.old) key) ≡ Some (plain old)) }
+    ensures old { IfOk result (λ old.
+        entry_in slots.now slot (fields_at (record_at records.old) key) ≡ Some (plain old)) }
     ensures back { IfErr result (λ back. plain back ≡ plain value) }
-    ensures not_owned { OnErr result (entry_in slots.now slot (fields_at (record_at records.old) key) ≡ None) }
+    ensures not_owned { OnErr result
+        (entry_in slots.now slot (fields_at (record_at records.old) key) ≡ None) }
     ensures set { ChangesVars (record_at records.old) (record_at records.new) key
         (λ vars. value_set slots.now vars slot (plain value)) }
 {

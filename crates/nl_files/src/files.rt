@@ -50,9 +50,11 @@ impl Model for Files {
 
     ghost coded = { Prim.hlevel (codes, plain_code) };
 
-    ghost view = { λ f. agents_of f.chains (record_at f.records) f.turtle_keys f.link_keys f.turtles_given f.links_given };
+    ghost view = { λ f. agents_of f.chains (record_at f.records) f.turtle_keys f.link_keys
+        f.turtles_given f.links_given };
 
-    ghost invariant = { λ f. IsFiles f.chains f.ends (record_at f.records) (key_in f.turtle_keys) (key_in f.link_keys) f.turtles_given f.links_given
+    ghost invariant = { λ f. IsFiles f.chains f.ends (record_at f.records)
+        (key_in f.turtle_keys) (key_in f.link_keys) f.turtles_given f.links_given
         × AreCounted (record_at f.records) f.turtle_keys f.link_keys f.turtles_given f.links_given };
 }
 
@@ -135,7 +137,12 @@ impl Files {
         requires breed { breed < self.old.breeds }
         ensures serial { IfOk result (λ serial. serial ≡ self.old.turtles_given) }
         ensures added { OnOk result (self.new ≡ record self.old {
-          turtles = self.old.turtles ++ (record { serial = self.old.turtles_given; breed = breed; at = at; vars = vars }) ∷ [];
+          turtles = self.old.turtles ++ (record {
+            serial = self.old.turtles_given;
+            breed = breed;
+            at = at;
+            vars = vars;
+          }) ∷ [];
           turtles_given = self.old.turtles_given + 1;
         }) }
         ensures kept { OnErr result (self.new ≡ self.old) }
@@ -207,9 +214,13 @@ impl Files {
     /// The link is gone. It takes no memory.
     pub fn remove_link(&mut self, link: u64)
         requires { IsSome (find (is_link link) self.old.links) }
-        ensures left { self.new ≡ record self.old { links = filter (λ l. not (is_link link l)) self.old.links } }
-        ensures counts { (test : tie.Link → Bool) (l : tie.Link) → find (is_link link) self.old.links ≡ Some l →
-            length (filter test self.new.links) + (if test l then 1 else 0) ≡ length (filter test self.old.links) }
+        ensures left { self.new ≡ record self.old {
+          links = filter (λ l. not (is_link link l)) self.old.links;
+        } }
+        ensures counts { (test : tie.Link → Bool) (l : tie.Link) →
+            find (is_link link) self.old.links ≡ Some l →
+            length (filter test self.new.links) + (if test l then 1 else 0)
+            ≡ length (filter test self.old.links) }
     {
         let key = self.link_keys.take(link);
         self.ends.remove(&mut self.records, key);
@@ -221,9 +232,13 @@ impl Files {
     pub fn remove_turtle(&mut self, turtle: u64)
         requires lives { IsSome (find (is_turtle turtle) self.old.turtles) }
         requires free { list_any (has_end turtle) self.old.links ≡ false }
-        ensures left { self.new ≡ record self.old { turtles = filter (λ t. not (is_turtle turtle t)) self.old.turtles } }
-        ensures counts { (test : living.Turtle → Bool) (t : living.Turtle) → find (is_turtle turtle) self.old.turtles ≡ Some t →
-            length (filter test self.new.turtles) + (if test t then 1 else 0) ≡ length (filter test self.old.turtles) }
+        ensures left { self.new ≡ record self.old {
+          turtles = filter (λ t. not (is_turtle turtle t)) self.old.turtles;
+        } }
+        ensures counts { (test : living.Turtle → Bool) (t : living.Turtle) →
+            find (is_turtle turtle) self.old.turtles ≡ Some t →
+            length (filter test self.new.turtles) + (if test t then 1 else 0)
+            ≡ length (filter test self.old.turtles) }
     {
         let key = self.turtle_keys.take(turtle);
         self.ends.leave(turtle);
@@ -328,7 +343,8 @@ impl Files {
         steps: &mut Steps<L>,
     ) -> Result<(), NoMemory>
         requires { breed < self.now.breeds }
-        ensures list { OnOk result (into.new ≡ map (λ t. t.serial) (filter (is_of_breed breed) self.now.turtles)) }
+        ensures list { OnOk result (into.new
+            ≡ map (λ t. t.serial) (filter (is_of_breed breed) self.now.turtles)) }
         ensures reads { steps.new ≤ steps.old + length (filter (is_of_breed breed) self.now.turtles) }
     {
         let first = self.chains.first(Chain::Breed(breed));
@@ -347,7 +363,8 @@ impl Files {
         requires { patch < patches_of self.now.shape }
         ensures list { OnOk result (into.new
             ≡ map (λ t. t.serial) (filter (λ t. patch_at self.now.shape t.at == patch) self.now.turtles)) }
-        ensures reads { steps.new ≤ steps.old + length (filter (λ t. patch_at self.now.shape t.at == patch) self.now.turtles) }
+        ensures reads { steps.new
+            ≤ steps.old + length (filter (λ t. patch_at self.now.shape t.at == patch) self.now.turtles) }
     {
         let first = self.chains.first(Chain::Patch(patch));
         let most = self.turtle_keys.len();
@@ -387,7 +404,9 @@ impl Files {
         requires lives { IsSome (find (is_turtle turtle) self.old.turtles) }
         requires many { KeepAll layout.now self.old.turtles }
         requires breed { breed < self.old.breeds }
-        ensures { self.new ≡ record self.old { turtles = turtles_rebred layout.now turtle breed self.old.turtles } }
+        ensures { self.new ≡ record self.old {
+          turtles = turtles_rebred layout.now turtle breed self.old.turtles;
+        } }
     {
         self.refill_turtle(alloc, layout, turtle, breed);
         self.refile_turtle(turtle, breed);
@@ -396,7 +415,9 @@ impl Files {
     fn refill_turtle(&mut self, alloc: Global, layout: &Layout, turtle: u64, breed: u32)
         requires lives { IsSome (find (is_turtle turtle) self.old.turtles) }
         requires many { KeepAll layout.now self.old.turtles }
-        ensures { self.new ≡ record self.old { turtles = turtles_filled (bred_vars layout.now breed) turtle self.old.turtles } }
+        ensures { self.new ≡ record self.old {
+          turtles = turtles_filled (bred_vars layout.now breed) turtle self.old.turtles;
+        } }
     {
         let key = key_of(&self.turtle_keys, turtle);
         rebreed_variables(alloc, &mut self.records, key, layout, breed);
@@ -405,7 +426,9 @@ impl Files {
     fn refile_turtle(&mut self, turtle: u64, breed: u32)
         requires lives { IsSome (find (is_turtle turtle) self.old.turtles) }
         requires breed { breed < self.old.breeds }
-        ensures { self.new ≡ record self.old { turtles = turtles_of_other_breed turtle breed self.old.turtles } }
+        ensures { self.new ≡ record self.old {
+          turtles = turtles_of_other_breed turtle breed self.old.turtles;
+        } }
     {
         let key = key_of(&self.turtle_keys, turtle);
         let at = point_of(&self.records, key);
@@ -422,11 +445,13 @@ impl Files {
         value: Value,
     ) -> Result<Value, Value>
         requires { IsSome (find (is_turtle turtle) self.old.turtles) }
-        ensures old { IfOk result (λ old. turtle_entry slots.now slot turtle self.old.turtles ≡ Some (plain old)) }
+        ensures old { IfOk result (λ old.
+            turtle_entry slots.now slot turtle self.old.turtles ≡ Some (plain old)) }
         ensures back { IfErr result (λ back. plain back ≡ plain value) }
         ensures not_owned { OnErr result (turtle_entry slots.now slot turtle self.old.turtles ≡ None) }
         ensures set { self.new ≡ record self.old {
-          turtles = turtles_filled (λ vars. value_set slots.now vars slot (plain value)) turtle self.old.turtles;
+          turtles = turtles_filled (λ vars. value_set slots.now vars slot (plain value)) turtle
+              self.old.turtles;
         } }
     {
         let key = key_of(&self.turtle_keys, turtle);

@@ -62,7 +62,8 @@ pub(crate) struct LinkParts {
 /// What the link under a key is.
 pub(crate) fn link_parts(records: &Records, key: usize) -> LinkParts
     requires { IsSome (link_at (record_at records.now) key) }
-    ensures directed { option_map (λ l. l.directed) (link_at (record_at records.now) key) ≡ Some result.directed }
+    ensures directed { option_map (λ l. l.directed) (link_at (record_at records.now) key)
+        ≡ Some result.directed }
     ensures first { option_map (λ l. l.end1) (link_at (record_at records.now) key) ≡ Some result.end1 }
     ensures second { option_map (λ l. l.end2) (link_at (record_at records.now) key) ≡ Some result.end2 }
 {
