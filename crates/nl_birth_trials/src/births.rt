@@ -5,6 +5,7 @@
 use crate::making::{Act, Answer, Call, NONE, acted, assert_acts};
 use nl_agents::{Owner, Store};
 use nl_plain::Plain;
+use nl_store::Indexed;
 use nl_trials::Tried;
 use nl_trials::trial_model::{FOXES, OWLS};
 use nl_trials::trials::{Look, Place, Step, Wanted};
@@ -110,6 +111,7 @@ fn assert_seven<S: Store>(rt: &impl Abort, alloc: Global) {
 #[test]
 fn seven_turtles_in_order_stand_around_a_turn(rt: HostRuntime) {
     assert_seven::<Plain>(&rt, rt.alloc());
+    assert_seven::<Indexed>(&rt, rt.alloc());
 }
 
 const SPROUTED: &[Act] = &[

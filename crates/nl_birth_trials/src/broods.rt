@@ -6,6 +6,7 @@ use crate::making::{Act, Answer, Call, NONE, act, acted, go_on, links};
 use nl_agents::Store;
 use nl_birth::{BirthFail, Way};
 use nl_plain::Plain;
+use nl_store::Indexed;
 use nl_trials::Tried;
 use nl_trials::trial_model::{FOXES, OWLS};
 use nl_trials::trials::{Look, Place, Scene, Step};
@@ -36,6 +37,7 @@ fn assert_flood<S: Store>(rt: &impl Abort, alloc: Global) {
 #[test]
 fn of_200001_turtles_200000_are_created(rt: HostRuntime) {
     assert_flood::<Plain>(&rt, rt.alloc());
+    assert_flood::<Indexed>(&rt, rt.alloc());
 }
 
 // The last ones that fit are hatched, and stay; then none is made, whichever way.
@@ -97,6 +99,7 @@ fn assert_full<S: Store>(rt: &impl Abort, alloc: Global) {
 #[test]
 fn those_that_fit_are_born_and_stay(rt: HostRuntime) {
     assert_full::<Plain>(&rt, rt.alloc());
+    assert_full::<Indexed>(&rt, rt.alloc());
 }
 
 const EVERYONE: &[Act] = &[(
@@ -105,10 +108,10 @@ const EVERYONE: &[Act] = &[(
     &[],
 )];
 
-// The serials of all but one.
-fn others(alloc: Global, without: u64) -> Option<Vec<u64>> {
+// The serials of so many turtles but one.
+fn others(alloc: Global, count: u64, without: u64) -> Option<Vec<u64>> {
     let mut numbers = Vec::new(alloc);
-    for number in 0..MOST_TURTLES as u64 {
+    for number in 0..count {
         if number != without {
             numbers.push(number).ok()?;
         }
@@ -116,12 +119,23 @@ fn others(alloc: Global, without: u64) -> Option<Vec<u64>> {
     Some(numbers)
 }
 
-// Whether a turtle makes links with all others, and the call answers so.
-fn links_all<S: Store>(tried: &mut Tried<S>, alloc: Global, caller: u64, answer: Answer) -> bool {
-    match others(alloc, caller) {
+// Whether a turtle makes links with all others of so many, and the call answers so.
+fn links_among<S: Store>(
+    tried: &mut Tried<S>,
+    alloc: Global,
+    count: u64,
+    caller: u64,
+    answer: Answer,
+) -> bool {
+    match others(alloc, count, caller) {
         Some(numbers) => links(tried, alloc, 0, Way::With, caller, &numbers, answer),
         None => false,
     }
+}
+
+// Whether a turtle makes links with all others that may live, and the call answers so.
+fn links_all<S: Store>(tried: &mut Tried<S>, alloc: Global, caller: u64, answer: Answer) -> bool {
+    links_among(tried, alloc, MOST_TURTLES as u64, caller, answer)
 }
 
 fn assert_web<S: Store>(rt: &impl Abort, alloc: Global) {
@@ -132,9 +146,47 @@ fn assert_web<S: Store>(rt: &impl Abort, alloc: Global) {
     assert!(rt; tried.store.link_count() == 400_000);
     // The three for which there was room.
     assert!(rt; tried.answers(alloc, Look::LinksOf(4, &[3, 200_001, 399_998])));
+    assert!(rt; tried.play(alloc, Step::ClearTurtles));
+    assert!(rt; tried.store.turtle_count() == 0 && tried.store.link_count() == 0);
+    assert!(rt; tried.store.base() == 200_000);
 }
 
 #[test]
-fn four_hundred_thousand_links_may_live(rt: HostRuntime) {
+fn four_hundred_thousand_links_may_live_and_be_cleared(rt: HostRuntime) {
     assert_web::<Plain>(&rt, rt.alloc());
+    assert_web::<Indexed>(&rt, rt.alloc());
+}
+
+const CROWD: u64 = 1_001;
+
+const CROWD_IS_BORN: &[Act] = &[(
+    Call::Create(0, 10_010, true),
+    Answer::Many(0, CROWD as usize),
+    &[],
+)];
+
+const HUB_DIES: &[Scene] = &[(
+    &[Step::Kill(0)],
+    &[
+        Look::Links(&[]),
+        Look::Unbreeded(false, 0),
+        Look::LinksOf(1, &[]),
+        Look::LinksOf(1_000, &[]),
+        Look::DeadTurtle(0),
+        Look::DeadLink(0),
+        Look::DeadLink(999),
+    ],
+)];
+
+fn assert_star<S: Store>(rt: &impl Abort, alloc: Global) {
+    let mut tried: Tried<S> = acted(rt, alloc, &[], CROWD_IS_BORN);
+    assert!(rt; links_among(&mut tried, alloc, CROWD, 0, Answer::Many(0, 1_000)));
+    go_on(rt, alloc, &mut tried, HUB_DIES);
+    assert!(rt; tried.store.turtle_count() == 1_000);
+}
+
+#[test]
+fn a_thousand_links_die_with_their_turtle(rt: HostRuntime) {
+    assert_star::<Plain>(&rt, rt.alloc());
+    assert_star::<Indexed>(&rt, rt.alloc());
 }

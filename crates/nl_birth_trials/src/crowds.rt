@@ -4,6 +4,7 @@ use crate::making::{begun, go_on};
 use nl_agents::{Owner, Store};
 use nl_grid::Shape;
 use nl_plain::Plain;
+use nl_store::Indexed;
 use nl_trials::Tried;
 use nl_trials::asking::Listed;
 use nl_trials::trial_model::{FOXES, OWLS, program};
@@ -102,6 +103,7 @@ fn assert_full<S: Store>(rt: &impl Abort, alloc: Global) {
 #[test]
 fn two_hundred_thousand_turtles_may_live(rt: HostRuntime) {
     assert_full::<Plain>(&rt, rt.alloc());
+    assert_full::<Indexed>(&rt, rt.alloc());
 }
 
 const CROWD: u64 = 10_000;
@@ -117,6 +119,7 @@ fn assert_copied<S: Store>(rt: &impl Abort, alloc: Global) {
 #[test]
 fn a_crowd_is_listed_and_copied(rt: HostRuntime) {
     assert_copied::<Plain>(&rt, rt.alloc());
+    assert_copied::<Indexed>(&rt, rt.alloc());
 }
 
 const SPOKES: u64 = 400;
@@ -143,6 +146,7 @@ fn assert_star<S: Store>(rt: &impl Abort, alloc: Global) {
 #[test]
 fn many_links_have_one_turtle_as_an_end(rt: HostRuntime) {
     assert_star::<Plain>(&rt, rt.alloc());
+    assert_star::<Indexed>(&rt, rt.alloc());
 }
 
 const ZERO: Wanted = Wanted::Number(0);
@@ -178,4 +182,5 @@ fn assert_wide<S: Store>(rt: &impl Abort, alloc: Global) {
 #[test]
 fn a_wide_world_has_all_of_its_patches(rt: HostRuntime) {
     assert_wide::<Plain>(&rt, rt.alloc());
+    assert_wide::<Indexed>(&rt, rt.alloc());
 }

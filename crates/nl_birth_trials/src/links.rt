@@ -6,6 +6,7 @@ use crate::making::{Act, Answer, Call, NONE, acted, assert_acts, links};
 use nl_agents::Store;
 use nl_birth::{BirthFail, Way};
 use nl_plain::Plain;
+use nl_store::Indexed;
 use nl_trials::Tried;
 use nl_trials::trial_model::{FOXES, OWLS, ROPES, WIRES};
 use nl_trials::trials::{Look, Place, Step};
@@ -76,6 +77,7 @@ fn assert_clique<S: Store>(rt: &impl Abort, alloc: Global) {
 #[test]
 fn a_clique_of_ten_has_forty_five_links(rt: HostRuntime) {
     assert_clique::<Plain>(&rt, rt.alloc());
+    assert_clique::<Indexed>(&rt, rt.alloc());
 }
 
 // A turtle makes a link to another one, and then is to make one without a direction.

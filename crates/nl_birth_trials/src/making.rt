@@ -8,6 +8,7 @@ use nl_agents::Store;
 use nl_birth::{BirthFail, Way, create, hatch, link, sprout};
 use nl_draw::Stream;
 use nl_plain::Plain;
+use nl_store::Indexed;
 use nl_trials::Tried;
 use nl_trials::trial_model::program;
 use nl_trials::trials::{Look, Place, Scene, Step, played, proceed, tenths};
@@ -249,4 +250,5 @@ pub(crate) fn acted<S: Store>(
 /// Makes the calls on a new store of each kind, where the steps were made before.
 pub(crate) fn assert_acts(rt: &impl Abort, alloc: Global, steps: &'static [Step], acts: &[Act]) {
     let _plain: Tried<Plain> = acted(rt, alloc, steps, acts);
+    let _indexed: Tried<Indexed> = acted(rt, alloc, steps, acts);
 }

@@ -7,6 +7,7 @@ use nl_agents::{Owner, Store};
 use nl_birth::Way;
 use nl_draw::Stream;
 use nl_plain::Plain;
+use nl_store::Indexed;
 use nl_trials::Tried;
 use nl_trials::trial_model::{FOXES, OWLS, ROPES, WIRES, program};
 use nl_trials::trials::{Look, Step, Wanted};
@@ -137,5 +138,6 @@ fn assert_kept<S: Store>(rt: &impl Abort, alloc: Global, trial: &Trial) {
 fn what_was_made_before_memory_is_refused_stays(rt: HostRuntime) {
     for trial in TRIALS {
         assert_kept::<Plain>(&rt, rt.alloc(), trial);
+        assert_kept::<Indexed>(&rt, rt.alloc(), trial);
     }
 }

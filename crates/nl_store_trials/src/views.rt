@@ -2,6 +2,7 @@
 
 use nl_agents::{Store, View};
 use nl_plain::Plain;
+use nl_store::Indexed;
 use nl_trials::Tried;
 use nl_trials::naming::Named;
 use nl_trials::trial_model::{FOXES, OWLS, ROPES, WIRES, program};
@@ -123,6 +124,7 @@ fn assert_texts<S: Store>(rt: &impl Abort, alloc: Global) {
 #[test]
 fn agents_and_sets_of_a_store_have_these_texts(rt: HostRuntime) {
     assert_texts::<Plain>(&rt, rt.alloc());
+    assert_texts::<Indexed>(&rt, rt.alloc());
 }
 
 // Dead agents are nobody; sets are the same where they are of one kind and have the same living members.
@@ -158,6 +160,7 @@ fn assert_same<S: Store>(rt: &impl Abort, alloc: Global) {
 #[test]
 fn agents_and_sets_of_a_store_are_compared(rt: HostRuntime) {
     assert_same::<Plain>(&rt, rt.alloc());
+    assert_same::<Indexed>(&rt, rt.alloc());
 }
 
 // Links go by their ends, then by breed, then by serial.
@@ -190,4 +193,5 @@ fn assert_ordered<S: Store>(rt: &impl Abort, alloc: Global) {
 #[test]
 fn agents_of_a_store_have_an_order(rt: HostRuntime) {
     assert_ordered::<Plain>(&rt, rt.alloc());
+    assert_ordered::<Indexed>(&rt, rt.alloc());
 }

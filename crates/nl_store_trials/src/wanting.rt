@@ -4,6 +4,7 @@
 
 use nl_agents::{Owner, Store};
 use nl_plain::Plain;
+use nl_store::Indexed;
 use nl_trials::trial_model::{FOXES, OWLS, ROPES, WIRES, program};
 use nl_trials::trials::{Look, Step, Tried, Wanted};
 use std::alloc::Global;
@@ -93,5 +94,6 @@ fn assert_whole<S: Store>(rt: &impl Abort, alloc: Global, call: Step, after: &[L
 fn a_call_is_made_whole_or_not_at_all(rt: HostRuntime) {
     for (call, after) in TRIALS {
         assert_whole::<Plain>(&rt, rt.alloc(), *call, after);
+        assert_whole::<Indexed>(&rt, rt.alloc(), *call, after);
     }
 }
