@@ -10,6 +10,7 @@ use nl_agents::Store;
 use nl_draw::Stream;
 use nl_motion::climb;
 use nl_plain::Plain;
+use nl_store::Indexed;
 use std::alloc::Global;
 use std::process::Abort;
 
@@ -59,9 +60,11 @@ fn ascend<S: Store>(rt: &impl Abort, alloc: Global, sides: Sides, row: &Climb) {
     assert!(rt; is_field(&store, slot, field, others.len()), "{row:?}");
 }
 
-fn ascend_all<S: Store>(rt: &impl Abort, alloc: Global, sides: Sides, rows: &[Climb]) {
+// Each row in a world of its own, over each store.
+fn ascend_all(rt: &impl Abort, alloc: Global, sides: Sides, rows: &[Climb]) {
     for row in rows {
-        ascend::<S>(rt, alloc, sides, row);
+        ascend::<Plain>(rt, alloc, sides, row);
+        ascend::<Indexed>(rt, alloc, sides, row);
     }
 }
 
@@ -136,7 +139,7 @@ const CLIMBS: &[Climb] = &[
 
 #[test]
 fn a_turtle_climbs_to_the_best_neighbor(rt: HostRuntime) {
-    ascend_all::<Plain>(&rt, rt.alloc(), WIDE, CLIMBS);
+    ascend_all(&rt, rt.alloc(), WIDE, CLIMBS);
 }
 
 // The draw is made before the number of the turtle's own patch is looked at.
@@ -166,7 +169,7 @@ const NO_CLIMBS: &[Climb] = &[
 
 #[test]
 fn a_turtle_stays_at_the_center_where_no_neighbor_is_better(rt: HostRuntime) {
-    ascend_all::<Plain>(&rt, rt.alloc(), WIDE, NO_CLIMBS);
+    ascend_all(&rt, rt.alloc(), WIDE, NO_CLIMBS);
 }
 
 const ALONE: &[Climb] = &[
@@ -176,8 +179,8 @@ const ALONE: &[Climb] = &[
 
 #[test]
 fn a_turtle_on_the_one_patch_goes_to_its_center(rt: HostRuntime) {
-    ascend_all::<Plain>(&rt, rt.alloc(), (0, 0, 0, 0, true, true), ALONE);
-    ascend_all::<Plain>(&rt, rt.alloc(), (0, 0, 0, 0, false, false), ALONE);
+    ascend_all(&rt, rt.alloc(), (0, 0, 0, 0, true, true), ALONE);
+    ascend_all(&rt, rt.alloc(), (0, 0, 0, 0, false, false), ALONE);
 }
 
 const THREE_HIGH: &[Climb] = &[
@@ -231,9 +234,9 @@ const TWO_WIDE: &[Climb] = &[
 
 #[test]
 fn a_turtle_climbs_in_narrow_worlds(rt: HostRuntime) {
-    ascend_all::<Plain>(&rt, rt.alloc(), (0, 0, -1, 1, true, true), THREE_HIGH);
-    ascend_all::<Plain>(&rt, rt.alloc(), (0, 0, 0, 1, true, true), TWO_HIGH);
-    ascend_all::<Plain>(&rt, rt.alloc(), (0, 1, -1, 1, true, true), TWO_WIDE);
+    ascend_all(&rt, rt.alloc(), (0, 0, -1, 1, true, true), THREE_HIGH);
+    ascend_all(&rt, rt.alloc(), (0, 0, 0, 1, true, true), TWO_HIGH);
+    ascend_all(&rt, rt.alloc(), (0, 1, -1, 1, true, true), TWO_WIDE);
 }
 
 const WALLED: &[Climb] = &[(
@@ -248,7 +251,7 @@ const WALLED: &[Climb] = &[(
 
 #[test]
 fn a_turtle_climbs_between_walls(rt: HostRuntime) {
-    ascend_all::<Plain>(&rt, rt.alloc(), (0, 1, -1, 1, false, false), WALLED);
+    ascend_all(&rt, rt.alloc(), (0, 1, -1, 1, false, false), WALLED);
 }
 
 // One patch, and one above it.
@@ -293,7 +296,7 @@ const NO_NUMBERS: &[Climb] = &[
 
 #[test]
 fn nothing_is_drawn_where_no_neighbor_keeps_a_number(rt: HostRuntime) {
-    ascend_all::<Plain>(&rt, rt.alloc(), (0, 0, 0, 1, false, false), NO_NUMBERS);
+    ascend_all(&rt, rt.alloc(), (0, 0, 0, 1, false, false), NO_NUMBERS);
 }
 
 const PASSED_OVER: &[Climb] = &[
@@ -319,5 +322,5 @@ const PASSED_OVER: &[Climb] = &[
 
 #[test]
 fn what_is_no_number_is_passed_over(rt: HostRuntime) {
-    ascend_all::<Plain>(&rt, rt.alloc(), WIDE, PASSED_OVER);
+    ascend_all(&rt, rt.alloc(), WIDE, PASSED_OVER);
 }

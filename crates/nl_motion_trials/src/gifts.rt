@@ -7,6 +7,7 @@ use nl_agents::Store;
 use nl_fixed::Num;
 use nl_motion::{MoveFault, diffuse};
 use nl_plain::Plain;
+use nl_store::Indexed;
 use std::alloc::Global;
 use std::process::Abort;
 
@@ -26,9 +27,14 @@ fn give<S: Store>(rt: &impl Abort, alloc: Global, sides: Sides, others: Others, 
     assert!(rt; is_field(&store, slot, after, others.len()), "{gift:?}");
 }
 
-fn give_all<S: Store>(rt: &impl Abort, alloc: Global, sides: Sides, gifts: &[Gift]) {
+fn give_over_each(rt: &impl Abort, alloc: Global, sides: Sides, others: Others, gift: &Gift) {
+    give::<Plain>(rt, alloc, sides, others, gift);
+    give::<Indexed>(rt, alloc, sides, others, gift);
+}
+
+fn give_all(rt: &impl Abort, alloc: Global, sides: Sides, gifts: &[Gift]) {
     for gift in gifts {
-        give::<S>(rt, alloc, sides, &[], gift);
+        give_over_each(rt, alloc, sides, &[], gift);
     }
 }
 
@@ -105,7 +111,7 @@ const GIFTS: &[Gift] = &[
 
 #[test]
 fn a_patch_gives_to_all_its_neighbors_alike(rt: HostRuntime) {
-    give_all::<Plain>(&rt, rt.alloc(), WIDE, GIFTS);
+    give_all(&rt, rt.alloc(), WIDE, GIFTS);
 }
 
 // The upper side is a wall, and behind the left one lies the right one.
@@ -154,7 +160,7 @@ const CORNER_GIFTS: &[Gift] = &[
 
 #[test]
 fn a_patch_at_a_wall_keeps_what_has_no_neighbor(rt: HostRuntime) {
-    give_all::<Plain>(&rt, rt.alloc(), WIDE, CORNER_GIFTS);
+    give_all(&rt, rt.alloc(), WIDE, CORNER_GIFTS);
 }
 
 const ONE_EACH: Field = &[(0, 1, ALL), (1, 1, ALL), (0, 0, ALL), (1, 0, ALL)];
@@ -200,8 +206,8 @@ const AROUND_THE_MIDDLE: &[Gift] = &[(
 
 #[test]
 fn patches_of_small_worlds_give(rt: HostRuntime) {
-    give_all::<Plain>(&rt, rt.alloc(), (0, 1, 0, 1, false, false), WALLED_GIFTS);
-    give_all::<Plain>(
+    give_all(&rt, rt.alloc(), (0, 1, 0, 1, false, false), WALLED_GIFTS);
+    give_all(
         &rt,
         rt.alloc(),
         (-1, 1, -1, 1, false, false),
@@ -216,8 +222,8 @@ const ALONE: &[Gift] = &[
 
 #[test]
 fn a_patch_without_neighbors_keeps_all(rt: HostRuntime) {
-    give_all::<Plain>(&rt, rt.alloc(), (0, 0, 0, 0, true, true), ALONE);
-    give_all::<Plain>(&rt, rt.alloc(), (0, 0, 0, 0, false, false), ALONE);
+    give_all(&rt, rt.alloc(), (0, 0, 0, 0, true, true), ALONE);
+    give_all(&rt, rt.alloc(), (0, 0, 0, 0, false, false), ALONE);
 }
 
 // A neighbor that can be reached both ways around the world is one neighbor.
@@ -280,9 +286,9 @@ const TWO_WIDE: &[Gift] = &[
 
 #[test]
 fn patches_of_narrow_worlds_give_once_to_each_neighbor(rt: HostRuntime) {
-    give_all::<Plain>(&rt, rt.alloc(), (0, 0, -1, 1, true, true), THREE_HIGH);
-    give_all::<Plain>(&rt, rt.alloc(), (0, 0, 0, 1, true, true), TWO_HIGH);
-    give_all::<Plain>(&rt, rt.alloc(), (0, 1, -1, 1, true, true), TWO_WIDE);
+    give_all(&rt, rt.alloc(), (0, 0, -1, 1, true, true), THREE_HIGH);
+    give_all(&rt, rt.alloc(), (0, 0, 0, 1, true, true), TWO_HIGH);
+    give_all(&rt, rt.alloc(), (0, 1, -1, 1, true, true), TWO_WIDE);
 }
 
 const NO_PARTS: &[Gift] = &[
@@ -292,7 +298,7 @@ const NO_PARTS: &[Gift] = &[
 
 #[test]
 fn a_share_is_from_0_to_1(rt: HostRuntime) {
-    give_all::<Plain>(&rt, rt.alloc(), WIDE, NO_PARTS);
+    give_all(&rt, rt.alloc(), WIDE, NO_PARTS);
 }
 
 const MOST: i64 = 9_000_000_000_000_000_000;
@@ -313,7 +319,7 @@ const HEAP: Field = &[
 #[test]
 fn nothing_is_given_where_a_patch_would_have_too_much(rt: HostRuntime) {
     let gift: Gift = (HEAP, ALL, false, Err(MoveFault::Overflow), HEAP);
-    give::<Plain>(&rt, rt.alloc(), BOX, &[], &gift);
+    give_over_each(&rt, rt.alloc(), BOX, &[], &gift);
 }
 
 // What is no number comes before what is out of range, and behind a share that is none.
@@ -357,18 +363,18 @@ const ABOVE_WITHOUT: &[(Others, Gift)] = &[
     ),
 ];
 
-fn give_none<S: Store>(rt: &impl Abort, alloc: Global, sides: Sides, rows: &[(Others, Gift)]) {
+fn give_none(rt: &impl Abort, alloc: Global, sides: Sides, rows: &[(Others, Gift)]) {
     for (others, gift) in rows {
-        give::<S>(rt, alloc, sides, others, gift);
+        give_over_each(rt, alloc, sides, others, gift);
     }
 }
 
 #[test]
 fn nothing_is_given_where_a_patch_keeps_no_number(rt: HostRuntime) {
-    give_none::<Plain>(&rt, rt.alloc(), WIDE, NO_NUMBERS);
-    give_none::<Plain>(&rt, rt.alloc(), (0, 0, 0, 0, true, true), ALONE_WITHOUT);
-    give_none::<Plain>(&rt, rt.alloc(), (0, 0, 0, 1, true, true), ABOVE_WITHOUT);
-    give_none::<Plain>(&rt, rt.alloc(), (0, 0, 0, 1, false, false), ABOVE_WITHOUT);
+    give_none(&rt, rt.alloc(), WIDE, NO_NUMBERS);
+    give_none(&rt, rt.alloc(), (0, 0, 0, 0, true, true), ALONE_WITHOUT);
+    give_none(&rt, rt.alloc(), (0, 0, 0, 1, true, true), ABOVE_WITHOUT);
+    give_none(&rt, rt.alloc(), (0, 0, 0, 1, false, false), ABOVE_WITHOUT);
 }
 
 // As many patches as a world may have.
@@ -393,5 +399,5 @@ const LARGE_GIFTS: &[Gift] = &[(
 
 #[test]
 fn patches_of_the_largest_world_give(rt: HostRuntime) {
-    give_all::<Plain>(&rt, rt.alloc(), LARGE, LARGE_GIFTS);
+    give_all(&rt, rt.alloc(), LARGE, LARGE_GIFTS);
 }

@@ -7,6 +7,7 @@ use nl_agents::{HEADING, Owner, Store};
 use nl_fixed::Num;
 use nl_motion::{MoveFault, step};
 use nl_plain::Plain;
+use nl_store::Indexed;
 use nl_value::Value;
 use std::alloc::Global;
 use std::process::Abort;
@@ -59,6 +60,11 @@ fn go<S: Store>(rt: &impl Abort, alloc: Global, sides: Sides, way: Way) {
     }
 }
 
+fn go_over_each(rt: &impl Abort, alloc: Global, sides: Sides, way: Way) {
+    go::<Plain>(rt, alloc, sides, way);
+    go::<Indexed>(rt, alloc, sides, way);
+}
+
 const EAST: Motion = Motion::Turn(90_000_000);
 
 const STEPS: Way = &[
@@ -77,7 +83,7 @@ const STEPS: Way = &[
 
 #[test]
 fn a_turtle_steps_by_its_heading_and_around_the_world(rt: HostRuntime) {
-    go::<Plain>(&rt, rt.alloc(), WIDE, STEPS);
+    go_over_each(&rt, rt.alloc(), WIDE, STEPS);
 }
 
 // The sides are at 2.5, and the lower one belongs to the world.
@@ -99,7 +105,7 @@ const SIDES: Way = &[
 
 #[test]
 fn a_turtle_stays_where_a_step_leads_out(rt: HostRuntime) {
-    go::<Plain>(&rt, rt.alloc(), WIDE, SIDES);
+    go_over_each(&rt, rt.alloc(), WIDE, SIDES);
 }
 
 const PLACES: Way = &[
@@ -121,7 +127,7 @@ const PLACES: Way = &[
 
 #[test]
 fn a_turtle_is_placed_in_the_world_alone(rt: HostRuntime) {
-    go::<Plain>(&rt, rt.alloc(), WIDE, PLACES);
+    go_over_each(&rt, rt.alloc(), WIDE, PLACES);
 }
 
 const IN_A_BOX: Way = &[
@@ -147,7 +153,7 @@ const IN_A_BOX: Way = &[
 
 #[test]
 fn a_turtle_goes_at_a_slant_and_stays_in_a_box(rt: HostRuntime) {
-    go::<Plain>(&rt, rt.alloc(), BOX, IN_A_BOX);
+    go_over_each(&rt, rt.alloc(), BOX, IN_A_BOX);
 }
 
 // The one patch is all of the world, and a turtle that leaves it comes back on its other side.
@@ -160,5 +166,5 @@ const ON_ONE_PATCH: Way = &[
 
 #[test]
 fn a_turtle_goes_around_one_patch(rt: HostRuntime) {
-    go::<Plain>(&rt, rt.alloc(), (0, 0, 0, 0, true, true), ON_ONE_PATCH);
+    go_over_each(&rt, rt.alloc(), (0, 0, 0, 0, true, true), ON_ONE_PATCH);
 }
