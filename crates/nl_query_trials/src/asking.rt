@@ -9,6 +9,7 @@ use nl_draw::Stream;
 use nl_grid::Shape;
 use nl_plain::Plain;
 use nl_query::words::Whole;
+use nl_store::Indexed;
 use nl_trials::Tried;
 use nl_trials::trial_model::{FOXES, ROPES, WIRES, program};
 use nl_trials::trials::{Scene, Step, Wanted, proceed};
@@ -203,6 +204,7 @@ fn assert_over<S: Store>(rt: &impl Abort, alloc: Global, caller: Owner, rows: &[
 /// Asks each store that there is all of this.
 pub(crate) fn assert_rows(rt: &impl Abort, alloc: Global, caller: Owner, rows: &[Row]) {
     assert_over::<Plain>(rt, alloc, caller, rows);
+    assert_over::<Indexed>(rt, alloc, caller, rows);
 }
 
 pub(crate) const CALLER: Owner = Owner::Turtle(2);

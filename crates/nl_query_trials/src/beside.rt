@@ -5,6 +5,7 @@ use crate::giving::Given;
 use nl_agents::{Owner, Store};
 use nl_grid::Shape;
 use nl_plain::Plain;
+use nl_store::Indexed;
 use nl_trials::trial_model::{FOXES, OWLS, ROPES, WIRES};
 use nl_trials::trials::{Scene, Step, Wanted};
 use std::alloc::Global;
@@ -58,4 +59,6 @@ fn assert_on<S: Store>(
 pub(crate) fn assert_beside(rt: &impl Abort, alloc: Global, caller: Owner, rows: &[Beside]) {
     assert_on::<Plain>(rt, alloc, true, caller, rows);
     assert_on::<Plain>(rt, alloc, false, caller, rows);
+    assert_on::<Indexed>(rt, alloc, true, caller, rows);
+    assert_on::<Indexed>(rt, alloc, false, caller, rows);
 }

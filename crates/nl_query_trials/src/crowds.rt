@@ -4,6 +4,7 @@ use crate::asking::{ONE, Row, Told, tells};
 use crate::giving::Given;
 use nl_agents::{Owner, Store};
 use nl_plain::Plain;
+use nl_store::Indexed;
 use nl_trials::Tried;
 use nl_trials::naming::Named;
 use nl_trials::trial_model::{FOXES, program};
@@ -120,4 +121,5 @@ fn assert_crowded<S: Store>(rt: &impl Abort, alloc: Global) {
 #[test]
 fn queries_of_thousands_have_memory(rt: HostRuntime) {
     assert_crowded::<Plain>(&rt, rt.alloc());
+    assert_crowded::<Indexed>(&rt, rt.alloc());
 }

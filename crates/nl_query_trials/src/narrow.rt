@@ -5,6 +5,7 @@ use crate::giving::Given;
 use nl_agents::{Owner, Store};
 use nl_grid::Shape;
 use nl_plain::Plain;
+use nl_store::Indexed;
 use nl_trials::naming::Named;
 use nl_words::codes;
 use std::alloc::Global;
@@ -65,5 +66,7 @@ fn neighbors_are_named_once_in_narrow_worlds(rt: HostRuntime) {
     for (greatest, torus, walled) in WORLDS {
         assert_in::<Plain>(&rt, rt.alloc(), *greatest, true, *torus);
         assert_in::<Plain>(&rt, rt.alloc(), *greatest, false, *walled);
+        assert_in::<Indexed>(&rt, rt.alloc(), *greatest, true, *torus);
+        assert_in::<Indexed>(&rt, rt.alloc(), *greatest, false, *walled);
     }
 }
