@@ -9,21 +9,22 @@ use nl_agents::Store;
 use nl_exec::{End, Machine, Turn};
 use nl_fixed::{NoMemory, Num};
 use nl_plain::Plain;
+use nl_store::Indexed;
 use nl_tree::{Form, Program, Tree};
 use nl_value::Value;
 use std::alloc::Global;
 
 // A machine with an open text of commands.
-fn begun<'a>(
+fn begun<'a, S: Store>(
     alloc: Global,
     program: &'a Program,
     text: &'a Tree,
     budget: u64,
-) -> Option<Machine<'a, Plain>>
+) -> Option<Machine<'a, S>>
     ensures { IfSome result IsOpen }
 {
     let shape = shape_of(WIDE)?;
-    let mut machine = Machine::<'a, Plain>::new(alloc, program, shape, SEED, budget).ok()?;
+    let mut machine = Machine::<'a, S>::new(alloc, program, shape, SEED, budget).ok()?;
     if machine.begin(alloc, text, Form::Commands).is_err() {
         let_go(machine);
         return None;
@@ -32,7 +33,7 @@ fn begun<'a>(
 }
 
 // Whether so many units are spent, and so many turtles live.
-fn stands(machine: &Machine<'_, Plain>, spent: u64, turtles: usize) -> bool {
+fn stands<S: Store>(machine: &Machine<'_, S>, spent: u64, turtles: usize) -> bool {
     machine.spent() == spent && machine.world().turtle_count() == turtles
 }
 
@@ -55,9 +56,9 @@ fn end_in(turn: Result<Turn, NoMemory>) -> Option<End>
 }
 
 // Whether a slice leaves more to do, with so many units spent and so many turtles living.
-fn goes_on(
+fn goes_on<S: Store>(
     alloc: Global,
-    machine: &mut Machine<'_, Plain>,
+    machine: &mut Machine<'_, S>,
     units: u64,
     spent: u64,
     turtles: usize,
@@ -72,9 +73,9 @@ fn goes_on(
 }
 
 // Whether a slice ends the text so, with so many units spent and so many turtles living.
-fn ends(
+fn ends<S: Store>(
     alloc: Global,
-    machine: &mut Machine<'_, Plain>,
+    machine: &mut Machine<'_, S>,
     units: u64,
     wanted: Ends,
     spent: u64,
@@ -93,8 +94,8 @@ fn ends(
 
 // ---- slices
 
-fn two_slices(alloc: Global, program: &Program, text: &Tree) -> bool {
-    let Some(mut machine) = begun(alloc, program, text, 100) else {
+fn two_slices<S: Store>(alloc: Global, program: &Program, text: &Tree) -> bool {
+    let Some(mut machine) = begun::<S>(alloc, program, text, 100) else {
         return false;
     };
     let right = goes_on(alloc, &mut machine, 3, 3, 2)
@@ -103,8 +104,8 @@ fn two_slices(alloc: Global, program: &Program, text: &Tree) -> bool {
     right
 }
 
-fn six_slices(alloc: Global, program: &Program, text: &Tree) -> bool {
-    let Some(mut machine) = begun(alloc, program, text, 100) else {
+fn six_slices<S: Store>(alloc: Global, program: &Program, text: &Tree) -> bool {
+    let Some(mut machine) = begun::<S>(alloc, program, text, 100) else {
         return false;
     };
     let right = goes_on(alloc, &mut machine, 1, 1, 2)
@@ -118,8 +119,8 @@ fn six_slices(alloc: Global, program: &Program, text: &Tree) -> bool {
 }
 
 // A unit is wanted, and the budget is spent.
-fn scarce_slice(alloc: Global, program: &Program, text: &Tree) -> bool {
-    let Some(mut machine) = begun(alloc, program, text, 3) else {
+fn scarce_slice<S: Store>(alloc: Global, program: &Program, text: &Tree) -> bool {
+    let Some(mut machine) = begun::<S>(alloc, program, text, 3) else {
         return false;
     };
     let right = ends(alloc, &mut machine, 3, Ends::Budget, 3, 2);
@@ -128,8 +129,8 @@ fn scarce_slice(alloc: Global, program: &Program, text: &Tree) -> bool {
 }
 
 // A slice of no units goes on to where the first one is wanted.
-fn empty_slice(alloc: Global, program: &Program, text: &Tree) -> bool {
-    let Some(mut machine) = begun(alloc, program, text, 100) else {
+fn empty_slice<S: Store>(alloc: Global, program: &Program, text: &Tree) -> bool {
+    let Some(mut machine) = begun::<S>(alloc, program, text, 100) else {
         return false;
     };
     let right = goes_on(alloc, &mut machine, 0, 0, 0)
@@ -141,7 +142,7 @@ fn empty_slice(alloc: Global, program: &Program, text: &Tree) -> bool {
 // ---- copies and texts that are given up
 
 // A copy comes to the end of its text.
-fn copy_ends(alloc: Global, machine: &Machine<'_, Plain>) -> bool
+fn copy_ends<S: Store>(alloc: Global, machine: &Machine<'_, S>) -> bool
     requires { IsOpen machine.now }
 {
     let Ok(mut copied) = machine.copy(alloc) else {
@@ -153,8 +154,8 @@ fn copy_ends(alloc: Global, machine: &Machine<'_, Plain>) -> bool
 }
 
 // A copy goes its own way, with units and a world of its own.
-fn copy_is_apart(alloc: Global, program: &Program, text: &Tree) -> bool {
-    let Some(mut machine) = begun(alloc, program, text, 6) else {
+fn copy_is_apart<S: Store>(alloc: Global, program: &Program, text: &Tree) -> bool {
+    let Some(mut machine) = begun::<S>(alloc, program, text, 6) else {
         return false;
     };
     let right = goes_on(alloc, &mut machine, 4, 4, 1)
@@ -167,7 +168,7 @@ fn copy_is_apart(alloc: Global, program: &Program, text: &Tree) -> bool {
 
 // The open text is given up, and another one begins.
 #[tactic(auto, using(crate::proofs::Abandoned::abandoned))]
-fn begins_anew<'a>(alloc: Global, machine: &mut Machine<'a, Plain>, text: &'a Tree) -> bool
+fn begins_anew<'a, S: Store>(alloc: Global, machine: &mut Machine<'a, S>, text: &'a Tree) -> bool
     ensures { result ≡ true → IsOpen machine.new }
 {
     machine.abandon();
@@ -175,8 +176,8 @@ fn begins_anew<'a>(alloc: Global, machine: &mut Machine<'a, Plain>, text: &'a Tr
 }
 
 // A text that is given up leaves the world as it stands, and another one can begin.
-fn another_begins<'a>(alloc: Global, program: &'a Program, text: &'a Tree) -> bool {
-    let Some(mut machine) = begun(alloc, program, text, 100) else {
+fn another_begins<'a, S: Store>(alloc: Global, program: &'a Program, text: &'a Tree) -> bool {
+    let Some(mut machine) = begun::<S>(alloc, program, text, 100) else {
         return false;
     };
     let right = goes_on(alloc, &mut machine, 4, 4, 1)
@@ -189,17 +190,17 @@ fn another_begins<'a>(alloc: Global, program: &'a Program, text: &'a Tree) -> bo
 // ---- units, variables and the stream
 
 // A machine that runs no text yet.
-fn idle<'a>(alloc: Global, program: &'a Program, budget: u64) -> Option<Machine<'a, Plain>>
+fn idle<'a, S: Store>(alloc: Global, program: &'a Program, budget: u64) -> Option<Machine<'a, S>>
     ensures { IfSome result IsClosed }
 {
     let shape = shape_of(WIDE)?;
-    Machine::<'a, Plain>::new(alloc, program, shape, SEED, budget).ok()
+    Machine::<'a, S>::new(alloc, program, shape, SEED, budget).ok()
 }
 
 // Whether a lone reporter says this.
-fn says<'a>(
+fn says<'a, S: Store>(
     alloc: Global,
-    machine: &mut Machine<'a, Plain>,
+    machine: &mut Machine<'a, S>,
     text: &'a Tree,
     words: &'static str,
 ) -> bool
@@ -218,7 +219,7 @@ fn says<'a>(
 }
 
 // A variable is set, and two units are spent; a third isn't there.
-fn sum_is_said<'a>(alloc: Global, machine: &mut Machine<'a, Plain>, text: &'a Tree) -> bool
+fn sum_is_said<'a, S: Store>(alloc: Global, machine: &mut Machine<'a, S>, text: &'a Tree) -> bool
     requires { IsClosed machine.old }
 {
     let Some(number) = Num::new(2_500_000) else {
@@ -230,8 +231,8 @@ fn sum_is_said<'a>(alloc: Global, machine: &mut Machine<'a, Plain>, text: &'a Tr
 }
 
 // A global variable is set from outside, and units are spent so.
-fn set_from_outside<'a>(alloc: Global, program: &'a Program, text: &'a Tree) -> bool {
-    let Some(mut machine) = idle(alloc, program, 2) else {
+fn set_from_outside<'a, S: Store>(alloc: Global, program: &'a Program, text: &'a Tree) -> bool {
+    let Some(mut machine) = idle::<S>(alloc, program, 2) else {
         return false;
     };
     let right = sum_is_said(alloc, &mut machine, text);
@@ -240,7 +241,7 @@ fn set_from_outside<'a>(alloc: Global, program: &'a Program, text: &'a Tree) -> 
 }
 
 // What a reporter says twice, between which the stream is put back.
-fn says_twice<'a>(alloc: Global, machine: &mut Machine<'a, Plain>, text: &'a Tree) -> bool
+fn says_twice<'a, S: Store>(alloc: Global, machine: &mut Machine<'a, S>, text: &'a Tree) -> bool
     requires { IsClosed machine.old }
 {
     let mark = machine.mark();
@@ -251,8 +252,8 @@ fn says_twice<'a>(alloc: Global, machine: &mut Machine<'a, Plain>, text: &'a Tre
     says(alloc, machine, text, "[5 9 6]")
 }
 
-fn draws_again<'a>(alloc: Global, program: &'a Program, text: &'a Tree) -> bool {
-    let Some(mut machine) = idle(alloc, program, 9) else {
+fn draws_again<'a, S: Store>(alloc: Global, program: &'a Program, text: &'a Tree) -> bool {
+    let Some(mut machine) = idle::<S>(alloc, program, 9) else {
         return false;
     };
     let right = says_twice(alloc, &mut machine, text);
@@ -290,16 +291,16 @@ fn text_of(trial: Trial) -> (Form, &'static str) {
     }
 }
 
-fn tried<'a>(alloc: Global, trial: Trial, program: &'a Program, text: &'a Tree) -> bool {
+fn tried<'a, S: Store>(alloc: Global, trial: Trial, program: &'a Program, text: &'a Tree) -> bool {
     match trial {
-        Trial::TwoSlices => two_slices(alloc, program, text),
-        Trial::SixSlices => six_slices(alloc, program, text),
-        Trial::ScarceSlice => scarce_slice(alloc, program, text),
-        Trial::EmptySlice => empty_slice(alloc, program, text),
-        Trial::OwnCopy => copy_is_apart(alloc, program, text),
-        Trial::OtherText => another_begins(alloc, program, text),
-        Trial::Outside => set_from_outside(alloc, program, text),
-        Trial::Stream => draws_again(alloc, program, text),
+        Trial::TwoSlices => two_slices::<S>(alloc, program, text),
+        Trial::SixSlices => six_slices::<S>(alloc, program, text),
+        Trial::ScarceSlice => scarce_slice::<S>(alloc, program, text),
+        Trial::EmptySlice => empty_slice::<S>(alloc, program, text),
+        Trial::OwnCopy => copy_is_apart::<S>(alloc, program, text),
+        Trial::OtherText => another_begins::<S>(alloc, program, text),
+        Trial::Outside => set_from_outside::<S>(alloc, program, text),
+        Trial::Stream => draws_again::<S>(alloc, program, text),
     }
 }
 
@@ -308,12 +309,13 @@ fn read_and_tried(alloc: Global, trial: Trial, program: &Program) -> bool {
     let Some(text) = tree_of(alloc, program, form, words) else {
         return false;
     };
-    let right = tried(alloc, trial, program, &text);
+    let right = tried::<Plain>(alloc, trial, &*program, &text)
+        && tried::<Indexed>(alloc, trial, &*program, &text);
     let_go(text);
     right
 }
 
-// Whether a trial goes as is wanted.
+// Whether a trial goes as is wanted over each store.
 fn goes_well(alloc: Global, trial: Trial) -> bool {
     let Some(program) = program_of(alloc, model_of(trial)) else {
         return false;

@@ -1,4 +1,4 @@
-//! Trials of the machine: texts of models, over the store of one list.
+//! Trials of the machine: texts of models, over each store that there is.
 #![tactic(auto)]
 
 #[cfg(test)]

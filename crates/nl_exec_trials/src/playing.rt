@@ -15,6 +15,7 @@ use nl_lone::read_lone;
 use nl_model::read_program;
 use nl_plain::Plain;
 use nl_scan::{Source, scan};
+use nl_store::Indexed;
 use nl_tree::{Form, Program, Tree};
 use nl_value::Value;
 use nl_value::texts::text;
@@ -87,7 +88,12 @@ fn prints<S: Store>(alloc: Global, store: &S, layout: &Layout, value: &Value, wo
 }
 
 /// Whether a text of the machine has ended as is wanted.
-pub(crate) fn is_end(alloc: Global, machine: &Machine<'_, Plain>, end: &End, ends: Ends) -> bool
+pub(crate) fn is_end<S: Store>(
+    alloc: Global,
+    machine: &Machine<'_, S>,
+    end: &End,
+    ends: Ends,
+) -> bool
     requires { EndFits (ground_of (world_of machine.now).rest) end.now }
 {
     match end {
@@ -110,7 +116,7 @@ pub(crate) fn is_end(alloc: Global, machine: &Machine<'_, Plain>, end: &End, end
 // ---- ways to the end
 
 // The end of the open text, in slices of so many units.
-fn end_in_slices(alloc: Global, machine: &mut Machine<'_, Plain>, units: u64) -> Option<End>
+fn end_in_slices<S: Store>(alloc: Global, machine: &mut Machine<'_, S>, units: u64) -> Option<End>
     requires { IsOpen machine.old }
     ensures fits { IfSome result (EndFits (ground_of (world_of machine.new).rest)) }
     ensures closed { OnSome result (IsClosed machine.new) }
@@ -125,7 +131,7 @@ fn end_in_slices(alloc: Global, machine: &mut Machine<'_, Plain>, units: u64) ->
 }
 
 // The end of the open text, unit by unit, where a copy goes on each time.
-fn end_by_copies(alloc: Global, machine: &mut Machine<'_, Plain>) -> Option<End>
+fn end_by_copies<S: Store>(alloc: Global, machine: &mut Machine<'_, S>) -> Option<End>
     requires { IsOpen machine.old }
     ensures fits { IfSome result (EndFits (ground_of (world_of machine.new).rest)) }
     ensures closed { OnSome result (IsClosed machine.new) }
@@ -142,7 +148,7 @@ fn end_by_copies(alloc: Global, machine: &mut Machine<'_, Plain>) -> Option<End>
 }
 
 /// The end of the open text.
-pub(crate) fn end_of(alloc: Global, machine: &mut Machine<'_, Plain>, way: Way) -> Option<End>
+pub(crate) fn end_of<S: Store>(alloc: Global, machine: &mut Machine<'_, S>, way: Way) -> Option<End>
     requires { IsOpen machine.old }
     ensures fits { IfSome result (EndFits (ground_of (world_of machine.new).rest)) }
     ensures closed { OnSome result (IsClosed machine.new) }
@@ -165,9 +171,9 @@ pub(crate) struct Texts<'a> {
 }
 
 // Whether a lone reporter ends as is wanted. The random stream is put back behind it.
-fn looks_right<'a>(
+fn looks_right<'a, S: Store>(
     alloc: Global,
-    machine: &mut Machine<'a, Plain>,
+    machine: &mut Machine<'a, S>,
     reporter: &'a Tree,
     ends: Ends,
 ) -> bool
@@ -188,9 +194,9 @@ fn looks_right<'a>(
 }
 
 // Whether the lone reporters of a row end as is wanted.
-fn all_look_right<'a>(
+fn all_look_right<'a, S: Store>(
     alloc: Global,
-    machine: &mut Machine<'a, Plain>,
+    machine: &mut Machine<'a, S>,
     looks: &'a [Tree],
     row: &Row,
 ) -> bool
@@ -205,9 +211,9 @@ fn all_look_right<'a>(
 }
 
 // Whether a row's text and its lone reporters end as is wanted.
-fn plays_on<'a>(
+fn plays_on<'a, S: Store>(
     alloc: Global,
-    machine: &mut Machine<'a, Plain>,
+    machine: &mut Machine<'a, S>,
     texts: Texts<'a>,
     row: &Row,
     way: Way,
@@ -228,8 +234,8 @@ fn plays_on<'a>(
     right && machine.spent() == row.spent && all_look_right(alloc, machine, texts.looks, row)
 }
 
-/// Whether a row's text and its lone reporters end as is wanted, with so many units to spend.
-pub(crate) fn plays<'a>(
+// Whether a row's text and its lone reporters end as is wanted over a store, with so many units to spend.
+fn plays<'a, S: Store>(
     alloc: Global,
     texts: Texts<'a>,
     shape: Shape,
@@ -237,8 +243,7 @@ pub(crate) fn plays<'a>(
     row: &Row,
     way: Way,
 ) -> bool {
-    let Ok(mut machine) = Machine::<'a, Plain>::new(alloc, texts.program, shape, SEED, budget)
-    else {
+    let Ok(mut machine) = Machine::<'a, S>::new(alloc, texts.program, shape, SEED, budget) else {
         return false;
     };
     let right = plays_on(alloc, &mut machine, texts, row, way);
@@ -246,7 +251,7 @@ pub(crate) fn plays<'a>(
     right
 }
 
-// The same for a row's text as a tree.
+// The same for a row's text as a tree, over each store.
 fn looks_and_plays(
     alloc: Global,
     program: &Program,
@@ -264,13 +269,14 @@ fn looks_and_plays(
                 commands,
                 looks: &looks,
             };
-            plays(alloc, texts, shape, budget, row, way)
+            plays::<Plain>(alloc, texts, shape, budget, row, way)
+                && plays::<Indexed>(alloc, texts, shape, budget, row, way)
         };
     let_go(looks);
     right
 }
 
-// Whether a row holds over a program.
+// Whether a row holds over a program, over each store.
 fn holds(alloc: Global, program: &Program, world: World, budget: u64, row: &Row, way: Way) -> bool {
     let Some(shape) = shape_of(world) else {
         return false;

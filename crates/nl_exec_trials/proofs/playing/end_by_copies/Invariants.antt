@@ -3,4 +3,4 @@ use Rattle.nl_exec.specs.Machines.{IsOpen}
 use Rattle.nl_exec_trials.proofs.playing.end_by_copies.Given as goal
 
 abbrev pub invariant-loop : goal.invariant-loop
-invariant-loop l = IsOpen l.machine
+invariant-loop g l = IsOpen l.machine
