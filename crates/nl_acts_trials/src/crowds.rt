@@ -9,6 +9,7 @@ use nl_fixed::Str;
 use nl_listops::ValueWord;
 use nl_listops::words::OfList;
 use nl_plain::Plain;
+use nl_store::Indexed;
 use nl_trials::naming::Named;
 use nl_trials::trial_model::{FOXES, program};
 use nl_trials::trials::{Step, Tried};
@@ -97,6 +98,7 @@ fn is_right_of_a_crowd<S: Store>(alloc: Global, row: &Row) -> bool {
 fn thousands_of_agents_are_sorted(rt: HostRuntime) {
     for row in ROWS {
         assert!(rt; is_right_of_a_crowd::<Plain>(rt.alloc(), row));
+        assert!(rt; is_right_of_a_crowd::<Indexed>(rt.alloc(), row));
     }
 }
 
@@ -146,4 +148,5 @@ fn tells_a_name<S: Store>(alloc: Global, length: usize) -> bool {
 #[test]
 fn the_longest_name_of_an_experiment_is_told(rt: HostRuntime) {
     assert!(rt; tells_a_name::<Plain>(rt.alloc(), LONGEST));
+    assert!(rt; tells_a_name::<Indexed>(rt.alloc(), LONGEST));
 }

@@ -14,6 +14,8 @@ use nl_agents::{Owner, Steps, Store};
 use nl_draw::Stream;
 use nl_fixed::Num;
 use nl_listops::ValueWord;
+use nl_plain::Plain;
+use nl_store::Indexed;
 use nl_trials::trial_model::{FOXES, ROPES, WIRES, program};
 use nl_trials::trials::{Scene, Step, Tried, Wanted, played};
 use nl_value::Value;
@@ -216,14 +218,21 @@ fn world<S: Store>(alloc: Global) -> Option<Tried<S>> {
     played::<S>(alloc, model, WORLD).ok()
 }
 
-/// The first row whose act answers or leaves something else. Each is made in a world of its own.
-pub(crate) fn wrong_in<S: Store>(alloc: Global, rows: &[Row]) -> Option<usize> {
+// The same in a world of its own.
+fn is_right_over<S: Store>(alloc: Global, row: &Row) -> bool {
+    match world::<S>(alloc) {
+        Some(tried) => is_right(alloc, tried, row),
+        None => false,
+    }
+}
+
+/// The first row whose act answers or leaves something else over one of the stores. Each is made in a world of its own.
+pub(crate) fn wrong_in(alloc: Global, rows: &[Row]) -> Option<usize> {
     for (at, row) in rows.iter().enumerate() {
-        let right = match world::<S>(alloc) {
-            Some(tried) => is_right(alloc, tried, row),
-            None => false,
-        };
-        if !right {
+        if !is_right_over::<Plain>(alloc, row) {
+            return Some(at);
+        }
+        if !is_right_over::<Indexed>(alloc, row) {
             return Some(at);
         }
     }

@@ -9,7 +9,6 @@ use crate::told::After::{At, Holds};
 use nl_acts::{Look, Move};
 use nl_agents::Owner;
 use nl_layout::built_in::{HEADING, HIDDEN, PEN_MODE};
-use nl_plain::Plain;
 use nl_trials::naming::Named;
 use nl_trials::trials::Wanted;
 
@@ -128,7 +127,7 @@ const GOES: &[Row] = &[
 
 #[test]
 fn turtles_go_where_the_word_says(rt: HostRuntime) {
-    let wrong = wrong_in::<Plain>(rt.alloc(), GOES);
+    let wrong = wrong_in(rt.alloc(), GOES);
     assert!(rt; wrong.is_none(), "{wrong:?}");
 }
 
@@ -224,7 +223,7 @@ const LOOKS_TO: &[Row] = &[
 
 #[test]
 fn turtles_look_where_the_word_says(rt: HostRuntime) {
-    let wrong = wrong_in::<Plain>(rt.alloc(), LOOKS_TO);
+    let wrong = wrong_in(rt.alloc(), LOOKS_TO);
     assert!(rt; wrong.is_none(), "{wrong:?}");
 }
 
@@ -289,6 +288,6 @@ const DRAWN: &[Row] = &[
 
 #[test]
 fn agents_are_drawn_as_the_word_says(rt: HostRuntime) {
-    let wrong = wrong_in::<Plain>(rt.alloc(), DRAWN);
+    let wrong = wrong_in(rt.alloc(), DRAWN);
     assert!(rt; wrong.is_none(), "{wrong:?}");
 }

@@ -10,7 +10,6 @@ use nl_acts::{Bound, Clear, Clock, OfRun, Spot, Whom};
 use nl_agents::Owner;
 use nl_listops::ValueWord;
 use nl_listops::words::{OfList, Search};
-use nl_plain::Plain;
 use nl_trials::naming::Named;
 use nl_trials::trial_model::FOXES;
 
@@ -147,7 +146,7 @@ const CLOCK: &[Row] = &[
 
 #[test]
 fn the_clock_goes_forward_where_it_is_on(rt: HostRuntime) {
-    let wrong = wrong_in::<Plain>(rt.alloc(), CLOCK);
+    let wrong = wrong_in(rt.alloc(), CLOCK);
     assert!(rt; wrong.is_none(), "{wrong:?}");
 }
 
@@ -180,7 +179,7 @@ const CLEARS: &[Row] = &[
 
 #[test]
 fn clears_take_what_they_name(rt: HostRuntime) {
-    let wrong = wrong_in::<Plain>(rt.alloc(), CLEARS);
+    let wrong = wrong_in(rt.alloc(), CLEARS);
     assert!(rt; wrong.is_none(), "{wrong:?}");
 }
 
@@ -246,7 +245,7 @@ const STREAM: &[Row] = &[
 
 #[test]
 fn coordinates_are_drawn_once(rt: HostRuntime) {
-    let wrong = wrong_in::<Plain>(rt.alloc(), STREAM);
+    let wrong = wrong_in(rt.alloc(), STREAM);
     assert!(rt; wrong.is_none(), "{wrong:?}");
 }
 
@@ -277,7 +276,7 @@ const BOUNDS: &[Row] = &[
 
 #[test]
 fn the_run_tells_its_bounds(rt: HostRuntime) {
-    let wrong = wrong_in::<Plain>(rt.alloc(), BOUNDS);
+    let wrong = wrong_in(rt.alloc(), BOUNDS);
     assert!(rt; wrong.is_none(), "{wrong:?}");
 }
 
@@ -353,7 +352,7 @@ const WHO: &[Row] = &[
 
 #[test]
 fn agents_are_told_of_each_other(rt: HostRuntime) {
-    let wrong = wrong_in::<Plain>(rt.alloc(), WHO);
+    let wrong = wrong_in(rt.alloc(), WHO);
     assert!(rt; wrong.is_none(), "{wrong:?}");
 }
 
@@ -408,7 +407,7 @@ const SORTS: &[Row] = &[
 
 #[test]
 fn sets_are_sorted(rt: HostRuntime) {
-    let wrong = wrong_in::<Plain>(rt.alloc(), SORTS);
+    let wrong = wrong_in(rt.alloc(), SORTS);
     assert!(rt; wrong.is_none(), "{wrong:?}");
 }
 
@@ -554,6 +553,6 @@ const MEMBERS: &[Row] = &[
 
 #[test]
 fn members_live_and_are_listed(rt: HostRuntime) {
-    let wrong = wrong_in::<Plain>(rt.alloc(), MEMBERS);
+    let wrong = wrong_in(rt.alloc(), MEMBERS);
     assert!(rt; wrong.is_none(), "{wrong:?}");
 }
