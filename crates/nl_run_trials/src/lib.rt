@@ -1,4 +1,4 @@
-//! Trials of runs: models and experiments, and the rows that they give over the store of one list.
+//! Trials of runs: models and experiments, and the rows that they give over each store that there is.
 #![tactic(auto)]
 
 #[cfg(test)]

@@ -1,7 +1,8 @@
 //! Runs far past the usual: none of them is a want of memory.
-use crate::playing::wrong_in;
-use crate::rows::{FEW_WAYS, Trial};
+use crate::playing::{wrong_in, wrong_over};
+use crate::rows::{FEW_WAYS, Trial, Way};
 use nl_fixed::NoMemory;
+use nl_store::Indexed;
 use std::alloc::Global;
 
 // Whether a run of an experiment beside no code has these lines, if both could be made.
@@ -110,5 +111,27 @@ const TEXTS: &[Trial<'static>] = &[
 #[test]
 fn a_run_measures_long_texts(rt: HostRuntime) {
     let wrong = wrong_in(rt.alloc(), TEXTS, FEW_WAYS);
+    assert!(rt; wrong.is_none(), "{wrong:?}");
+}
+
+// ---- many turtles
+
+const CROWD: &[Trial<'static>] = &[
+    // Two hundred thousand turtles ask four times who else stands on their patch. A store that looks at each turtle for each of these
+    // 800,000 questions doesn't come to an end in the time of a test.
+    Trial {
+        model: "",
+        plan: "name = \"x\"\nseed = 42\nsteps = 4\nbudget = 3600009\n\
+setup = \"cro 200000 [ setxy random-xcor random-ycor ]\"\n\
+go = \"ask turtles [ if any? other turtles-here [ fd 1 ] ]\"\nmetrics = [\"count turtles\"]\n\
+[world]\nmin-pxcor = -250\nmax-pxcor = 250\nmin-pycor = -250\nmax-pycor = 250\n",
+        number: 1,
+        lines: "\"1\",\"4\",\"200000\",\"steps\"\n",
+    },
+];
+
+#[test]
+fn a_crowd_asks_who_stands_beside_each_of_it(rt: HostRuntime) {
+    let wrong = wrong_over::<Indexed>(rt.alloc(), CROWD, &[Way::Whole]);
     assert!(rt; wrong.is_none(), "{wrong:?}");
 }

@@ -6,12 +6,14 @@ ghost use Rattle.nl_run.specs.Runs.{HasEnded};
 
 use crate::lines::have_lines;
 use crate::rows::{Trial, Way};
+use nl_agents::Store;
 use nl_experiment::{Experiment, Texts};
 use nl_fixed::{Names, NoMemory};
 use nl_model::read_model;
 use nl_plain::Plain;
 use nl_run::{Run, RunTurn};
 use nl_scan::code_part;
+use nl_store::Indexed;
 use nl_tree::Program;
 use std::alloc::Global;
 
@@ -59,7 +61,7 @@ fn program_of(alloc: Global, file: &[u8], widgets: &Names) -> Option<Program>
 // ---- runs
 
 // Whether a run ends, in slices of so many units.
-fn ends_in_slices(alloc: Global, run: &mut Run<'_, Plain>, units: u64) -> bool
+fn ends_in_slices<S: Store>(alloc: Global, run: &mut Run<'_, S>, units: u64) -> bool
     requires { HasEnded run.old → ⊥ }
 {
     for _ in 0..AMPLE {
@@ -73,7 +75,7 @@ fn ends_in_slices(alloc: Global, run: &mut Run<'_, Plain>, units: u64) -> bool
 }
 
 // Whether a run ends.
-fn ends(alloc: Global, run: &mut Run<'_, Plain>, way: Way) -> bool
+fn ends<S: Store>(alloc: Global, run: &mut Run<'_, S>, way: Way) -> bool
     requires { HasEnded run.old → ⊥ }
 {
     match way {
@@ -91,7 +93,12 @@ struct Job<'a> {
 }
 
 // The run of a number, counted from 1; none where the experiment has no such run.
-fn run_of<'a>(alloc: Global, job: Job<'a>, source: &'a [u8], number: u64) -> Option<Run<'a, Plain>>
+fn run_of<'a, S: Store>(
+    alloc: Global,
+    job: Job<'a>,
+    source: &'a [u8],
+    number: u64,
+) -> Option<Run<'a, S>>
     requires { AreWritten job.experiment.now }
     ensures { IfSome result (λ run. HasEnded run → ⊥) }
 {
@@ -109,12 +116,12 @@ fn run_of<'a>(alloc: Global, job: Job<'a>, source: &'a [u8], number: u64) -> Opt
     Run::new(alloc, program, source, experiment, texts, number).ok()
 }
 
-// Whether a trial's run has its lines.
-fn plays(alloc: Global, job: Job<'_>, trial: &Trial<'_>, way: Way) -> bool
+// Whether a trial's run has its lines over a store.
+fn plays<S: Store>(alloc: Global, job: Job<'_>, trial: &Trial<'_>, way: Way) -> bool
     requires { AreWritten job.experiment.now }
 {
     let source = code_part(trial.model.as_bytes());
-    let Some(mut run) = run_of(alloc, job, source, trial.number) else {
+    let Some(mut run) = run_of::<S>(alloc, job, source, trial.number) else {
         return false;
     };
     let metrics = job.experiment.fields().metrics.as_slice().len();
@@ -124,12 +131,12 @@ fn plays(alloc: Global, job: Job<'_>, trial: &Trial<'_>, way: Way) -> bool
     right
 }
 
-// The first of these ways in which a trial's run doesn't have its lines.
-fn wrong_way(alloc: Global, job: Job<'_>, trial: &Trial<'_>, ways: &[Way]) -> Option<Way>
+// The first of these ways in which a trial's run over a store doesn't have its lines.
+fn wrong_way<S: Store>(alloc: Global, job: Job<'_>, trial: &Trial<'_>, ways: &[Way]) -> Option<Way>
     requires { AreWritten job.experiment.now }
 {
     for way in ways {
-        if !plays(alloc, job, trial, *way) {
+        if !plays::<S>(alloc, job, trial, *way) {
             return Some(*way);
         }
     }
@@ -139,7 +146,7 @@ fn wrong_way(alloc: Global, job: Job<'_>, trial: &Trial<'_>, ways: &[Way]) -> Op
 // ---- trials
 
 // The same beside a program; the first way where the texts have a fault.
-fn wrong_beside(
+fn wrong_beside<S: Store>(
     alloc: Global,
     experiment: &Experiment,
     program: &Program,
@@ -156,13 +163,13 @@ fn wrong_beside(
         program,
         texts: &texts,
     };
-    let wrong = wrong_way(alloc, job, trial, ways);
+    let wrong = wrong_way::<S>(alloc, job, trial, ways);
     let_go(texts);
     wrong
 }
 
 // The same of an experiment; the first way where the model has a fault.
-fn wrong_with(
+fn wrong_with<S: Store>(
     alloc: Global,
     experiment: &Experiment,
     trial: &Trial<'_>,
@@ -173,31 +180,44 @@ fn wrong_with(
     let Some(program) = program_of(alloc, trial.model.as_bytes(), experiment.widgets()) else {
         return Some(Way::Whole);
     };
-    let wrong = wrong_beside(alloc, experiment, &program, trial, ways);
+    let wrong = wrong_beside::<S>(alloc, experiment, &program, trial, ways);
     let_go(program);
     wrong
 }
 
 // The same; the first way where the experiment has a fault.
-fn wrong_of(alloc: Global, trial: &Trial<'_>, ways: &[Way]) -> Option<Way> {
+fn wrong_of<S: Store>(alloc: Global, trial: &Trial<'_>, ways: &[Way]) -> Option<Way> {
     let Some(experiment) = experiment_of(alloc, trial.plan.as_bytes()) else {
         return Some(Way::Whole);
     };
-    let wrong = wrong_with(alloc, &experiment, trial, ways);
+    let wrong = wrong_with::<S>(alloc, &experiment, trial, ways);
     let_go(experiment);
     wrong
 }
 
-/// The first of these trials whose run doesn't have its lines, or whose inputs have a fault, and the way.
-pub(crate) fn wrong_in<'a>(
+/// The first of these trials whose run over a store doesn't have its lines, or whose inputs have a fault, and the way.
+pub(crate) fn wrong_over<'a, S: Store>(
     alloc: Global,
     trials: &[Trial<'a>],
     ways: &[Way],
 ) -> Option<(&'a str, Way)> {
     for trial in trials {
-        if let Some(way) = wrong_of(alloc, trial, ways) {
+        if let Some(way) = wrong_of::<S>(alloc, trial, ways) {
             return Some((trial.plan, way));
         }
     }
     None
+}
+
+/// The same over each store that there is.
+pub(crate) fn wrong_in<'a>(
+    alloc: Global,
+    trials: &[Trial<'a>],
+    ways: &[Way],
+) -> Option<(&'a str, Way)> {
+    let wrong = wrong_over::<Plain>(alloc, trials, ways);
+    if wrong.is_some() {
+        return wrong;
+    }
+    wrong_over::<Indexed>(alloc, trials, ways)
 }
