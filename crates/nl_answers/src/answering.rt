@@ -23,7 +23,7 @@ use nl_agents::{Owner, Store};
 use nl_code::{Code, Over};
 use nl_fixed::{NoMemory, Span};
 use nl_frames::ends::fault;
-use nl_frames::{Answered, Answers, Exit, Frame, Gathered, Hands, Next, Turns};
+use nl_frames::{Answered, BoxedAnswers, BoxedTurns, Exit, Frame, Gathered, Hands, Next};
 use nl_meaning::Site;
 use nl_turns::living::{first_living, owner_of};
 use nl_value::{AgentKind, Value};
@@ -83,8 +83,8 @@ pub fn next_answer<S: Store>(
     node: u32,
     index: u32,
     word: Over,
-    mut turns: Turns,
-    made: Answers,
+    mut turns: BoxedTurns,
+    made: BoxedAnswers,
     gathered: Gathered,
 ) -> Result<Next, NoMemory>
     requires fit { HandsFit hands.old }
@@ -98,18 +98,20 @@ pub fn next_answer<S: Store>(
     ensures fits { IfOk result (λ next. NextFits (ground hands.new) next) }
     ensures stands { IfOk result (λ next. Stands hands.new hands.old) }
 {
-    let members = turns.members.as_slice();
-    let Some(at) = first_living(&hands.stage.store, turns.which, members, turns.at) else {
-        let exit = finish(alloc, code, hands, node, turns.which, made, gathered)?;
+    let all = turns.get();
+    let members = all.members.as_slice();
+    let Some(at) = first_living(&hands.stage.store, all.which, members, all.at) else {
+        let made = made.into_answers();
+        let exit = finish(alloc, code, hands, node, all.which, made, gathered)?;
         return Ok(Next::Answer(exit));
     };
     let member = members[at];
     let Some(block) = code.part(node, index) else {
         return Ok(Next::Answer(fault(ErrorKind::WrongType, code.span(node), hands.site)));
     };
-    let agent = agent_of(hands, turns.which, member);
-    run_as(hands, agent, turns.site);
-    turns.at = at + 1;
+    let agent = agent_of(hands, all.which, member);
+    run_as(hands, agent, all.site);
+    turns.go_to(at + 1);
     let frame = Frame::Answering {
         node,
         index,
@@ -173,8 +175,8 @@ fn answer_told<S: Store>(
     index: u32,
     word: Over,
     member: u64,
-    turns: Turns,
-    mut made: Answers,
+    turns: BoxedTurns,
+    mut made: BoxedAnswers,
     gathered: Gathered,
     value: Value,
 ) -> Result<Next, NoMemory>
@@ -213,8 +215,8 @@ pub fn resume_answer<S: Store>(
     index: u32,
     word: Over,
     member: u64,
-    turns: Turns,
-    made: Answers,
+    turns: BoxedTurns,
+    made: BoxedAnswers,
     gathered: Gathered,
     exit: Exit,
 ) -> Result<Next, NoMemory>
@@ -230,7 +232,7 @@ pub fn resume_answer<S: Store>(
     ensures fits { IfOk result (λ next. NextFits (ground hands.new) next) }
     ensures stands { IfOk result (λ next. Stands hands.new hands.old) }
 {
-    match valued(hands, turns.site, code.span(node), exit) {
+    match valued(hands, turns.get().site, code.span(node), exit) {
         Ok(value) => answer_told(
             alloc, code, hands, node, index, word, member, turns, made, gathered, value,
         ),

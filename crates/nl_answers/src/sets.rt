@@ -22,7 +22,7 @@ use nl_code::{Code, Over};
 use nl_fixed::NoMemory;
 use nl_frames::children::go;
 use nl_frames::ends::{fault, number_of};
-use nl_frames::{Answers, Exit, Frame, Gathered, Hands, Next, Turns};
+use nl_frames::{BoxedAnswers, BoxedTurns, Exit, Frame, Gathered, Hands, Next, Turns};
 use nl_turns::agents::{agents_in, set_in};
 use nl_value::Value;
 use std::alloc::Global;
@@ -87,7 +87,8 @@ fn from_set<S: Store>(
                 at: 0,
                 site: hands.site,
             };
-            let none = Answers::empty(alloc);
+            let turns = BoxedTurns::new(alloc, turns)?;
+            let none = BoxedAnswers::empty(alloc)?;
             next_answer(alloc, code, hands, node, index, word, turns, none, gathered)
         }
         Err(ActFail::Error(kind)) => { Ok(Next::Answer(fault(kind, code.span(node), hands.site))) }
@@ -244,7 +245,8 @@ pub fn resume_of_who<S: Store>(
                 at: 0,
                 site: hands.site,
             };
-            let none = Answers::empty(alloc);
+            let turns = BoxedTurns::new(alloc, turns)?;
+            let none = BoxedAnswers::empty(alloc)?;
             next_answer(alloc, code, hands, node, 0, Over::Of, turns, none, gathered)
         }
         Err(ActFail::Error(kind)) => { Ok(Next::Answer(fault(kind, code.span(node), hands.site))) }

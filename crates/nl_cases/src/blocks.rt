@@ -68,7 +68,7 @@ pub fn resume_negated<S: Store>(code: &Code, hands: &Hands<S>, node: u32, exit: 
 // ---- statements
 
 // The locals that a block made are forgotten.
-#[inline]
+#[inline(always)]
 fn cut<S: Store>(hands: &mut Hands<S>, kept: usize)
     requires { HandsFit hands.old }
     ensures state { (c : Nodes) (units : ℕ) →
@@ -81,7 +81,7 @@ fn cut<S: Store>(hands: &mut Hands<S>, kept: usize)
 }
 
 // The statements from an index on. A dead agent leaves before each.
-#[inline]
+#[inline(always)]
 fn next_statement<S: Store>(
     code: &Code,
     hands: &mut Hands<S>,
@@ -113,7 +113,7 @@ fn next_statement<S: Store>(
 }
 
 /// A block, or the body of a procedure: its own locals are those behind the ones that are known here.
-#[inline]
+#[inline(always)]
 #[tactic(auto, using(nl_frames::proofs::Newest::held_length))]
 pub fn enter_statements<S: Store>(code: &Code, hands: &mut Hands<S>, node: u32) -> Next
     requires { HandsFit hands.old }
@@ -128,7 +128,7 @@ pub fn enter_statements<S: Store>(code: &Code, hands: &mut Hands<S>, node: u32) 
 }
 
 /// A statement is over.
-#[inline]
+#[inline(always)]
 pub fn resume_statement<S: Store>(
     code: &Code,
     hands: &mut Hands<S>,

@@ -24,7 +24,7 @@ use nl_code::Code;
 use nl_fixed::{NoMemory, Span};
 use nl_frames::children::go;
 use nl_frames::ends::fault;
-use nl_frames::{Exit, Frame, Hands, Local, Locals, Next};
+use nl_frames::{BoxedSite, Exit, Frame, Hands, Local, Locals, Next};
 use nl_meaning::Site;
 use nl_tree::Procedure;
 use nl_value::{Items, Value};
@@ -59,6 +59,7 @@ fn procedure_of<'a>(code: &Code<'a>, procedure: u32) -> Option<&'a Procedure>
 }
 
 /// The body of a procedure comes next, with the values as its inputs.
+#[inline(never)]
 pub fn call<S: Store>(
     alloc: Global,
     code: &Code,
@@ -83,7 +84,7 @@ pub fn call<S: Store>(
         return Ok(Next::Answer(fault(ErrorKind::WrongType, code.span(node), hands.site)));
     }
     let inputs = bind(alloc, code, procedure, &made)?;
-    let site = hands.site;
+    let site = BoxedSite::new(alloc, hands.site)?;
     hands.site.body = u64::from(procedure) + 1;
     let saved = std::mem::replace(&mut hands.locals, inputs);
     let frame = Frame::Body {
@@ -103,7 +104,7 @@ pub fn resume_body<S: Store>(
     node: u32,
     reporter: bool,
     saved: Locals,
-    site: Site,
+    site: BoxedSite,
     exit: Exit,
 ) -> Next
     requires saved { LocalsFit (ground hands.old) saved }
@@ -116,6 +117,7 @@ pub fn resume_body<S: Store>(
     ensures fits { NextFits (ground hands.new) result }
     ensures stands { Stands hands.new hands.old }
 {
+    let site = site.get();
     back(hands, ends_text(&exit), saved, site);
     Next::Answer(returned(reporter, exit, code.span(node), site))
 }

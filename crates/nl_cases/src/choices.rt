@@ -102,7 +102,7 @@ pub fn resume_right<S: Store>(code: &Code, hands: &Hands<S>, node: u32, exit: Ex
 // ---- blocks that are chosen
 
 /// The test comes first.
-#[inline]
+#[inline(always)]
 pub fn enter_if<S: Store>(code: &Code, hands: &Hands<S>, node: u32) -> Next
     ensures meaning { Means code.now result hands.now hands.now
         (λ prev s. if_case prev (node_at code.now node) s) }
@@ -113,7 +113,7 @@ pub fn enter_if<S: Store>(code: &Code, hands: &Hands<S>, node: u32) -> Next
 }
 
 /// The block runs where the test is true.
-#[inline]
+#[inline(always)]
 pub fn resume_if<S: Store>(code: &Code, hands: &Hands<S>, node: u32, exit: Exit) -> Next
     ensures meaning { Means code.now result hands.now hands.now
         (λ prev s. resumed code.now prev (frame.IfTest node) (ended exit s)) }

@@ -43,7 +43,7 @@ pub fn enter_repeat<S: Store>(code: &Code, hands: &Hands<S>, node: u32) -> Next
 }
 
 // So many turns are left.
-#[inline]
+#[inline(always)]
 fn next_turn<S: Store>(code: &Code, hands: &Hands<S>, node: u32, left: u64) -> Next
     ensures meaning { Means code.now result hands.now hands.now
         (λ prev s. turns left prev (node_at code.now node) s) }
@@ -79,7 +79,7 @@ pub fn resume_repeat<S: Store>(code: &Code, hands: &Hands<S>, node: u32, exit: E
 }
 
 /// A turn is over.
-#[inline]
+#[inline(always)]
 pub fn resume_turn<S: Store>(
     code: &Code,
     hands: &Hands<S>,

@@ -28,7 +28,7 @@ use nl_value::{Items, Value};
 use std::alloc::Global;
 
 // What a node makes of the values of all its parts.
-#[inline]
+#[inline(always)]
 #[tactic(auto, using(nl_frames::proofs::Grounds::items_fit))]
 fn finish<S: Store>(
     alloc: Global,
@@ -63,7 +63,7 @@ fn finish<S: Store>(
 }
 
 // The parts from an index on.
-#[inline]
+#[inline(always)]
 fn next_part<S: Store>(
     alloc: Global,
     code: &Code,
@@ -96,7 +96,7 @@ fn next_part<S: Store>(
 }
 
 /// The first part comes, if there is one.
-#[inline]
+#[inline(always)]
 pub fn enter_parts<S: Store>(
     alloc: Global,
     code: &Code,
@@ -116,7 +116,7 @@ pub fn enter_parts<S: Store>(
 }
 
 /// A part has its value.
-#[inline]
+#[inline(always)]
 #[tactic(auto, using(nl_frames::proofs::Grounds::pass_push))]
 pub fn resume_part<S: Store>(
     alloc: Global,

@@ -4,3 +4,4 @@ pub mod Steadying
 pub mod Stops
 pub mod Opening
 pub mod Entering
+pub mod Following

@@ -57,7 +57,7 @@ use std::alloc::Global;
 // ---- nodes
 
 // Begins a word that evaluates its parts in a way of its own. One that only living agents may run has a living one.
-#[inline]
+#[inline(always)]
 fn enter_control<S: Store>(
     code: &Code,
     hands: &mut Hands<S>,
@@ -146,7 +146,7 @@ fn enter_over<S: Store>(code: &Code, hands: &mut Hands<S>, node: u32, word: Over
 }
 
 // Begins a built-in word, where the agent that runs lives and may run it.
-#[inline]
+#[inline(always)]
 fn enter_built<S: Store>(
     alloc: Global,
     code: &Code,
@@ -179,8 +179,8 @@ fn enter_built<S: Store>(
 }
 
 // Begins a word: a dead agent leaves, and an agent of another kind may not run it.
-#[inline]
-fn enter_word<S: Store>(
+#[inline(always)]
+pub(crate) fn enter_word<S: Store>(
     alloc: Global,
     code: &Code,
     hands: &mut Hands<S>,

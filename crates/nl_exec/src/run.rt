@@ -1,23 +1,28 @@
 //! The machine's steps.
-ghost use Rattle.std.specs.Prelude.{◌≡◌, ℕ, suc, ◌+◌, ◌-◌, ◌<◌, ◌≤◌, List, [], ◌∷◌, ◌++◌, length, vec_len, IfOk};
+ghost use Rattle.std.specs.Prelude.{◌≡◌, true, IsTrue, ℕ, suc, ◌+◌, ◌-◌, ◌<◌, ◌≤◌, List, [], ◌∷◌, ◌++◌, length, vec_len, IfOk};
+ghost use Rattle.nl_value.specs.Limits.{within_limits};
+ghost use Rattle.nl_value.specs.Views.{plain};
 ghost use Rattle.nl_tree.specs.Tree.{span};
 ghost use Rattle.nl_tree.specs.declared.declared.Form.TheVariants.{Commands};
 ghost use Rattle.nl_code.specs.Code.{Code as Nodes, node_at};
 ghost use Rattle.nl_meaning.specs.State.{State};
 ghost use Rattle.nl_meaning.specs.Meaning.{evaluator, limited};
 ghost use Rattle.nl_frames.specs.Frames.{going};
-ghost use Rattle.nl_frames.specs.Ground.{Ground};
+ghost use Rattle.nl_frames.specs.Ground.{Ground, fits};
 ghost use Rattle.nl_frames.specs.Seen.{ended, ground, state_of};
 ghost use Rattle.nl_frames.specs.Standing.{ExitFits, NextFits};
 ghost use Rattle.nl_frames.specs.Work.{frame_work, next_work};
+ghost use Rattle.nl_frames.specs.declared.exits.Exit.TheVariants.{Gives};
 ghost use Rattle.nl_exec.specs.Rest.{through, rest, stopped, wished, begun, IsOver, IsSpent, stop_exit};
 ghost use Rattle.nl_exec.specs.Steady.{IsSteady, LevelsFit, FocusFits, StopFits};
 ghost use Rattle.nl_exec.specs.Work.{levels_work, total_work};
 ghost use Rattle.nl_exec.specs.declared.focus.Focus.TheVariants.{Start, Enter, Give};
 
-use crate::dispatch::{enter, enter_text, resume};
+use crate::begins::begin;
+use crate::dispatch::enter_text;
 use crate::focus::{Focus, Stop, Wish};
 use crate::levels::Level;
+use crate::often::go_on;
 use nl_acts::ErrorKind;
 use nl_agents::Store;
 use nl_code::Code;
@@ -28,6 +33,36 @@ use nl_tree::Form;
 use nl_value::Value;
 use std::alloc::Global;
 
+// Whether a value is within the limits whatever it is, since it lists nothing.
+#[inline(always)]
+fn lists_nothing(value: &Value) -> bool
+    ensures { result ≡ true → within_limits (plain value.now) ≡ true }
+{
+    match value {
+        Value::Number(_)
+        | Value::Truth(_)
+        | Value::Turtle(_)
+        | Value::Patch(_)
+        | Value::Link(_)
+        | Value::Nobody => true,
+        Value::Words(_) | Value::Items(_) | Value::Set(_) => false,
+    }
+}
+
+// The same of a value that is looked at whole.
+#[inline(never)]
+fn limited_value(code: &Code, site: Site, node: u32, value: Value) -> Exit
+    ensures meaning { (s : State) → s.site ≡ site →
+        ended result s ≡ limited (span (node_at code.now node)) (ended (Gives value) s) }
+    ensures fits { (g : Ground) → IsTrue (fits g (plain value)) → ExitFits g result }
+{
+    if value.is_within_limits() {
+        Exit::Gives(value)
+    } else {
+        Exit::Error(ErrorKind::TooLarge, code.span(node), site.body)
+    }
+}
+
 // How a node ends whose case ended so: a value that passes the limits on values is an error.
 #[inline(always)]
 fn limited(code: &Code, site: Site, node: u32, exit: Exit) -> Exit
@@ -37,10 +72,10 @@ fn limited(code: &Code, site: Site, node: u32, exit: Exit) -> Exit
 {
     match exit {
         Exit::Gives(value) => {
-            if value.is_within_limits() {
+            if lists_nothing(&value) {
                 Exit::Gives(value)
             } else {
-                Exit::Error(ErrorKind::TooLarge, code.span(node), site.body)
+                limited_value(code, site, node, value)
             }
         }
         exit => exit,
@@ -50,7 +85,7 @@ fn limited(code: &Code, site: Site, node: u32, exit: Exit) -> Exit
 // Puts what a node does next on the stack.
 #[inline(always)]
 #[tactic(auto, using(crate::proofs::Works::works_push, crate::proofs::Steadying::steady_push))]
-fn follow<S: Store>(
+pub(crate) fn follow<S: Store>(
     code: &Code,
     hands: &Hands<S>,
     levels: &mut Vec<Level>,
@@ -126,8 +161,7 @@ fn enter_node<S: Store>(
     if levels.len() >= limit {
         return Ok(too_nested(code, hands.site, node));
     }
-    let next = enter(alloc, code, hands, node)?;
-    let focus = follow(code, hands, levels, node, next)?;
+    let focus = begin(alloc, code, hands, levels, node)?;
     Ok(focus)
 }
 
@@ -187,8 +221,7 @@ fn resume_level<S: Store>(
     ensures focus { IfOk result (FocusFits (ground hands.new)) }
 {
     let Level { node, frame } = level;
-    let next = resume(alloc, code, hands, frame, exit)?;
-    let focus = follow(code, hands, levels, node, next)?;
+    let focus = go_on(alloc, code, hands, levels, node, frame, exit)?;
     Ok(focus)
 }
 

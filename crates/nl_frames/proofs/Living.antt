@@ -1,5 +1,5 @@
 -- An agent that hasn't died lives.
-use Rattle.std.proofs.Common.{◌≡◌, ◌<◌, ℕ, Bool, true, false, IsTrue, Option, Some, None, IsSome, is_some, if◌then◌else◌, refl}
+use Rattle.std.proofs.Common.{◌≡◌, true, false, IsTrue, Option, Some, None, IsSome, is_some, if◌then◌else◌, refl}
 use Rattle.std.proofs.lemmas.Bool.{ltb-true}
 use Rattle.nl_grid.specs.Geometry.{patches_of}
 use Rattle.nl_agents.specs.World.{World}

@@ -5,7 +5,7 @@ use Rattle.nl_agents.specs.declared.store.Store.{Ghosts}
 use Rattle.nl_frames.specs.Ground.{Ground, ground_of, SiteFits}
 use Rattle.nl_frames.specs.Means.{Stands}
 use Rattle.nl_frames.specs.Seen.{ground}
-use Rattle.nl_frames.specs.Standing.{HandsFit, LocalsFit}
+use Rattle.nl_frames.specs.Standing.{LocalsFit}
 use Rattle.nl_frames.specs.declared.hands.Hands.{Hands}
 
 pub ground_same : (now before : Rest) → (now.shape ≡ before.shape) × (now.layout ≡ before.layout) → ground_of now ≡ ground_of before

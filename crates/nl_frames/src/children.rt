@@ -18,7 +18,7 @@ use nl_agents::Store;
 use nl_code::Code;
 
 /// The part of a node at an index comes next, and then the frame.
-#[inline]
+#[inline(always)]
 #[tactic(auto, using(crate::proofs::Grounds::plain_fits))]
 pub fn go<S: Store>(code: &Code, hands: &Hands<S>, node: u32, at: u32, frame: Frame) -> Next
     requires { HoldsNothing frame }
@@ -36,7 +36,7 @@ pub fn go<S: Store>(code: &Code, hands: &Hands<S>, node: u32, at: u32, frame: Fr
 }
 
 /// The part of a node at an index comes once a unit is spent, and then the frame.
-#[inline]
+#[inline(always)]
 #[tactic(auto, using(crate::proofs::Grounds::plain_fits))]
 pub fn want<S: Store>(code: &Code, hands: &Hands<S>, node: u32, at: u32, frame: Frame) -> Next
     requires { HoldsNothing frame }

@@ -35,7 +35,7 @@ pub fn fault(kind: ErrorKind, place: Span, site: Site) -> Exit
 // ---- what a value is taken for
 
 /// The number that a value is.
-#[inline]
+#[inline(always)]
 pub fn number_of(value: Value) -> Option<Num>
     ensures { (place : Place) (s : State) (next : ℤ → Outcome) →
         with_number (plain value) place s next ≡ found result WrongType place s next }
@@ -47,7 +47,7 @@ pub fn number_of(value: Value) -> Option<Num>
 }
 
 /// The truth that a value is.
-#[inline]
+#[inline(always)]
 pub fn truth_of(value: Value) -> Option<bool>
     ensures { (place : Place) (s : State) (next : Bool → Outcome) →
         with_truth (plain value) place s next ≡ found result WrongType place s next }
@@ -61,7 +61,7 @@ pub fn truth_of(value: Value) -> Option<bool>
 // ---- who may go on
 
 /// Whether the agent that runs has died.
-#[inline]
+#[inline(always)]
 pub fn is_dead<S: Store>(hands: &Hands<S>) -> bool
     ensures { result ≡ is_gone (S.world hands.now.stage.store).rest hands.now.site.agent }
 {
@@ -74,7 +74,7 @@ pub fn is_dead<S: Store>(hands: &Hands<S>) -> bool
 }
 
 /// How a word ends before it acts where its agent has died. A word that the observer runs too goes on.
-#[inline]
+#[inline(always)]
 #[tactic(auto, using(crate::proofs::Living::owner_lives))]
 pub fn left<S: Store>(hands: &Hands<S>, runs: Kinds) -> Option<Exit>
     ensures ends { (c : Nodes) (units : ℕ) (next : Outcome) → let s = state_of c.names hands.now units in
@@ -94,7 +94,7 @@ pub fn left<S: Store>(hands: &Hands<S>, runs: Kinds) -> Option<Exit>
 }
 
 // Whether an agent of this kind may run a word of these kinds.
-#[inline]
+#[inline(always)]
 fn allows(runs: Kinds, agent: Owner) -> bool
     ensures { result ≡ allows runs (kind_of agent) }
 {
@@ -107,7 +107,7 @@ fn allows(runs: Kinds, agent: Owner) -> bool
 }
 
 /// How a word ends before its inputs: where its agent has died, and where it is of a kind that may not run the word.
-#[inline]
+#[inline(always)]
 pub fn barred<S: Store>(hands: &Hands<S>, runs: Kinds, place: Span) -> Option<Exit>
     ensures ends { (c : Nodes) (units : ℕ) (next : Outcome) → let s = state_of c.names hands.now units in
         allowed runs place s next ≡ unless_ended result s next }

@@ -1,12 +1,12 @@
 //! What is left to do above a node.
 ghost use Rattle.std.specs.Prelude.{◌≡◌, IfOk, length, vec_len};
 
+use crate::boxed::{BoxedAnswers, BoxedSite, BoxedTurns};
 use crate::exits::Exit;
 use crate::locals::Locals;
-use crate::turns::{Answers, Gathered, Turns};
+use crate::turns::Gathered;
 use nl_code::{Making, Over};
 use nl_fixed::{NoMemory, Num};
-use nl_meaning::Site;
 use nl_value::{Items, Value};
 use nl_words::Kinds;
 use std::alloc::Global;
@@ -115,7 +115,7 @@ pub enum Frame {
         node: u32,
         reporter: bool,
         saved: Locals,
-        site: Site,
+        site: BoxedSite,
     },
     /// Who is asked.
     AskWho {
@@ -125,7 +125,7 @@ pub enum Frame {
     Asked {
         node: u32,
         index: u32,
-        turns: Turns,
+        turns: BoxedTurns,
     },
     /// The set whose members a word asks for values: the block is the part at the index.
     SetWho {
@@ -156,8 +156,8 @@ pub enum Frame {
         index: u32,
         word: Over,
         member: u64,
-        turns: Turns,
-        made: Answers,
+        turns: BoxedTurns,
+        made: BoxedAnswers,
         gathered: Gathered,
     },
     /// What a word takes that makes agents.
@@ -209,7 +209,7 @@ impl Frame {
                 node: *node,
                 reporter: *reporter,
                 saved: saved.copy(alloc)?,
-                site: *site,
+                site: site.copy(alloc)?,
             },
             Frame::Inside { node } => Frame::Inside { node: *node },
             Frame::Negated { node } => Frame::Negated { node: *node },

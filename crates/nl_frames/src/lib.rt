@@ -1,6 +1,7 @@
 //! What a machine holds while a text runs: the frames of the nodes that are under way, the locals, and who runs.
 #![tactic(auto)]
 
+pub mod boxed;
 pub mod children;
 pub mod ends;
 pub mod exits;
@@ -10,6 +11,7 @@ pub mod locals;
 pub mod sound;
 pub mod turns;
 
+pub use boxed::{BoxedAnswers, BoxedSite, BoxedTurns};
 pub use exits::Exit;
 pub use frames::{Frame, Next};
 pub use hands::Hands;

@@ -29,7 +29,7 @@ use nl_birth::{BirthFail, Way, create, hatch, link, sprout};
 use nl_code::{Code, Making};
 use nl_fixed::{NoMemory, Num};
 use nl_frames::ends::{fault, left, number_of};
-use nl_frames::{Exit, Frame, Hands, Next, Turns};
+use nl_frames::{BoxedTurns, Exit, Frame, Hands, Next, Turns};
 use nl_query::agents::breed_or_none;
 use nl_query::inputs::as_agent;
 use nl_value::{AgentKind, Serials, Value};
@@ -299,23 +299,24 @@ fn kind_made(word: Making) -> AgentKind
 
 // The new ones run the block, where there is one, in random order.
 fn run_by_new<S: Store>(
+    alloc: Global,
     code: &Code,
     hands: &mut Hands<S>,
     node: u32,
     which: AgentKind,
     made: Serials,
-) -> Next
+) -> Result<Next, NoMemory>
     requires made { (numbers : List ℕ) → MembersFit (ground hands.old) which numbers }
     requires fit { HandsFit hands.old }
     ensures meaning { let t = node_at code.now node in
-        Means code.now result hands.new hands.old
-        (λ prev s. run_by_new prev t 1 which made (slice_get (parts t) 1) s) }
-    ensures falls { next_work code.now result ≡ 0 }
-    ensures fits { NextFits (ground hands.new) result }
-    ensures stands { Stands hands.new hands.old }
+        IfOk result (λ next. Means code.now next hands.new hands.old
+        (λ prev s. run_by_new prev t 1 which made (slice_get (parts t) 1) s)) }
+    ensures falls { IfOk result (λ next. next_work code.now next ≡ 0) }
+    ensures fits { IfOk result (λ next. NextFits (ground hands.new) next) }
+    ensures stands { IfOk result (λ next. Stands hands.new hands.old) }
 {
     let Some(_block) = code.part(node, 1) else {
-        return Next::Answer(Exit::Gives(Value::Nobody));
+        return Ok(Next::Answer(Exit::Gives(Value::Nobody)));
     };
     let list = made.into_vec();
     let members = mixed(hands, list);
@@ -325,7 +326,8 @@ fn run_by_new<S: Store>(
         at: 0,
         site: hands.site,
     };
-    next_turn(code, hands, node, 1, turns)
+    let turns = BoxedTurns::new(alloc, turns)?;
+    Ok(next_turn(code, hands, node, 1, turns))
 }
 
 /// A dead agent leaves; else the agents are made, all of them before the block is run.
@@ -358,7 +360,7 @@ pub fn resume_making<S: Store>(
         return Ok(Next::Answer(exit));
     }
     match made_of(alloc, hands, word, breed, runs, value) {
-        Ok(made) => Ok(run_by_new(code, hands, node, kind_made(word), made)),
+        Ok(made) => run_by_new(alloc, code, hands, node, kind_made(word), made),
         Err(ActFail::Error(kind)) => { Ok(Next::Answer(fault(kind, code.span(node), hands.site))) }
         Err(ActFail::NoMemory) => Err(NoMemory),
     }

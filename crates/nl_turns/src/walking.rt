@@ -22,13 +22,13 @@ use nl_code::Code;
 use nl_fixed::NoMemory;
 use nl_frames::children::go;
 use nl_frames::ends::fault;
-use nl_frames::{Exit, Frame, Hands, Next, Turns};
+use nl_frames::{BoxedTurns, Exit, Frame, Hands, Next, Turns};
 use nl_meaning::Site;
 use nl_value::Value;
 use std::alloc::Global;
 
 // Who runs from here on.
-#[inline]
+#[inline(always)]
 fn run_as<S: Store>(hands: &mut Hands<S>, site: Site)
     requires site { SiteFits (ground hands.old) site }
     requires fit { HandsFit hands.old }
@@ -45,7 +45,7 @@ pub fn next_turn<S: Store>(
     hands: &mut Hands<S>,
     node: u32,
     index: u32,
-    mut turns: Turns,
+    mut turns: BoxedTurns,
 ) -> Next
     requires turns { TurnsFit (ground hands.old) turns }
     requires fit { HandsFit hands.old }
@@ -57,8 +57,9 @@ pub fn next_turn<S: Store>(
 {
     // What the numbers of patches rest on: the store stands for a world.
     let _stands = hands.stage.store.shape();
-    let members = turns.members.as_slice();
-    let Some(at) = first_living(&hands.stage.store, turns.which, members, turns.at) else {
+    let all = turns.get();
+    let members = all.members.as_slice();
+    let Some(at) = first_living(&hands.stage.store, all.which, members, all.at) else {
         return Next::Answer(Exit::Gives(Value::Nobody));
     };
     let Some(member) = member_at(members, at) else {
@@ -68,11 +69,11 @@ pub fn next_turn<S: Store>(
         return Next::Answer(fault(ErrorKind::WrongType, code.span(node), hands.site));
     };
     let site = Site {
-        agent: owner_of(turns.which, member),
-        asker: turns.site.agent,
-        body: turns.site.body,
+        agent: owner_of(all.which, member),
+        asker: all.site.agent,
+        body: all.site.body,
     };
-    turns.at = at + 1;
+    turns.go_to(at + 1);
     run_as(hands, site);
     let frame = Frame::Asked { node, index, turns };
     Next::Want(frame, block)
@@ -123,17 +124,18 @@ pub fn resume_ask<S: Store>(
         at: 0,
         site: hands.site,
     };
+    let turns = BoxedTurns::new(alloc, turns)?;
     Ok(next_turn(code, hands, node, 1, turns))
 }
 
 // A turn is over, and who asked runs again until the next one.
-#[inline]
+#[inline(always)]
 fn turn_after<S: Store>(
     code: &Code,
     hands: &mut Hands<S>,
     node: u32,
     index: u32,
-    turns: Turns,
+    turns: BoxedTurns,
 ) -> Next
     requires turns { TurnsFit (ground hands.old) turns }
     requires fit { HandsFit hands.old }
@@ -143,19 +145,19 @@ fn turn_after<S: Store>(
     ensures fits { NextFits (ground hands.new) result }
     ensures stands { Stands hands.new hands.old }
 {
-    run_as(hands, turns.site);
+    run_as(hands, turns.get().site);
     next_turn(code, hands, node, index, turns)
 }
 
 /// A turn is over, and who asked runs again. One that was stopped, or left by an agent that died, goes on with
 /// the next one.
-#[inline]
+#[inline(always)]
 pub fn resume_turn<S: Store>(
     code: &Code,
     hands: &mut Hands<S>,
     node: u32,
     index: u32,
-    turns: Turns,
+    turns: BoxedTurns,
     exit: Exit,
 ) -> Next
     requires turns { TurnsFit (ground hands.old) turns }
@@ -171,7 +173,7 @@ pub fn resume_turn<S: Store>(
         Exit::Stopped => turn_after(code, hands, node, index, turns),
         Exit::Left => turn_after(code, hands, node, index, turns),
         Exit::Reported(value) => {
-            run_as(hands, turns.site);
+            run_as(hands, turns.get().site);
             Next::Answer(Exit::Reported(value))
         }
         exit => Next::Answer(exit),

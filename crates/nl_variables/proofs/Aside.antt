@@ -1,11 +1,10 @@
 -- Variables that are kept under no slot: what there is of an agent, and that it fits the world.
 use Rattle.std.proofs.Common.{◌≡◌, ℕ, zero, suc, IsTrue, Option, Some, None, IfSome, option_map, refl, ap, ◌∙◌, sym, subst}
 use Rattle.std.specs.Option.{option_and_then}
-use Rattle.nl_value.specs.Plain.{Plain, PlainNumber, PlainTurtle, PlainSet}
+use Rattle.nl_value.specs.Plain.{Plain}
 use Rattle.nl_grid.specs.Geometry.{patch_at}
 use Rattle.nl_grid.specs.declared.point.Point.{Point}
 use Rattle.nl_layout.specs.Layouts.{is_turtle_breed, is_link_breed}
-use Rattle.nl_layout.specs.declared.layout.Layout.{Layout}
 use Rattle.nl_agents.specs.World.{Rest, World}
 use Rattle.nl_agents.specs.Changes.{turtle_of, link_of, is_link}
 use Rattle.nl_agents.specs.Standing.{IsWorld, IsLinkOf}

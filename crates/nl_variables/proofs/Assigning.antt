@@ -1,5 +1,5 @@
 -- Variables that are set.
-use Rattle.std.proofs.Common.{◌≡◌, ◌==◌, ◌<◌, ◌-◌, ℕ, Bool, true, false, IsTrue, IfSome, Option, Some, length, slice_set, if◌then◌else◌, refl, ap, ◌∙◌, sym, subst}
+use Rattle.std.proofs.Common.{◌≡◌, ◌==◌, ◌<◌, ◌-◌, true, IsTrue, IfSome, Option, Some, length, slice_set, if◌then◌else◌, refl, ap, ◌∙◌, sym, subst}
 use Rattle.std.proofs.lemmas.Bool.{eqb-true, lt-ltb}
 use Rattle.nl_value.specs.Plain.{Plain, PlainNumber, PlainTruth, PlainWords, PlainItems, PlainTurtle, PlainPatch, PlainLink, PlainNobody, PlainSet}
 use Rattle.nl_layout.specs.Nouns.{Slot}
@@ -7,7 +7,7 @@ use Rattle.nl_layout.specs.BuiltIn.{heading_slot, rule_of}
 use Rattle.nl_layout.specs.declared.rule.Rule.TheVariants as rule
 use Rattle.nl_agents.specs.World.{Rest, World}
 use Rattle.nl_agents.specs.Changes.{revalued}
-use Rattle.nl_agents.specs.Standing.{IsNumber, MayHold, is_heading, fits_rest}
+use Rattle.nl_agents.specs.Standing.{IsNumber, MayHold, fits_rest}
 use Rattle.nl_agents.specs.declared.agents.Owner.{Owner}
 use Rattle.nl_agents.specs.declared.agents.Owner.TheVariants as owner
 use Rattle.nl_meaning.specs.Variables.{kept_as}

@@ -1,5 +1,5 @@
 -- Locals by the numbers of their names.
-use Rattle.std.proofs.Common.{◌≡◌, ◌==◌, ◌<◌, ℕ, zero, suc, Bool, true, false, IsTrue, List, [], ◌∷◌, Option, Some, None, length, slice_get, slice_set, option_map, refl, ap, ◌∙◌, sym, arith}
+use Rattle.std.proofs.Common.{◌≡◌, ◌==◌, ◌<◌, ℕ, suc, Bool, true, false, IsTrue, List, [], ◌∷◌, Option, Some, None, length, slice_get, option_map, refl, ap, ◌∙◌, sym, arith}
 use Rattle.std.specs.Option.{option_and_then}
 use Rattle.nl_fixed.specs.Nouns.{Names}
 use Rattle.nl_value.specs.Plain.{Plain}

@@ -40,7 +40,7 @@ use nl_words::Kinds;
 // ---- `let`
 
 /// The value comes first.
-#[inline]
+#[inline(always)]
 pub fn enter_let<S: Store>(code: &Code, hands: &Hands<S>, node: u32) -> Next
     ensures meaning { Means code.now result hands.now hands.now
         (λ prev s. let_case code.now.program prev (node_at code.now node) s) }
@@ -57,7 +57,7 @@ pub fn enter_let<S: Store>(code: &Code, hands: &Hands<S>, node: u32) -> Next
 }
 
 /// A local is made.
-#[inline]
+#[inline(always)]
 #[tactic(auto, using(nl_frames::proofs::Newest::held_push, nl_frames::proofs::Grounds::pass_push))]
 pub fn resume_let<S: Store>(
     code: &Code,
@@ -86,7 +86,7 @@ pub fn resume_let<S: Store>(
 // ---- `set`
 
 /// The value comes first.
-#[inline]
+#[inline(always)]
 pub fn enter_set<S: Store>(code: &Code, hands: &Hands<S>, node: u32) -> Next
     ensures meaning { Means code.now result hands.now hands.now
         (λ prev s. set_case code.now.program prev (node_at code.now node) s) }
@@ -355,7 +355,7 @@ fn assign<S: Store>(
 }
 
 /// The variable is set.
-#[inline]
+#[inline(always)]
 pub fn resume_set<S: Store>(
     code: &Code,
     hands: &mut Hands<S>,

@@ -28,8 +28,19 @@ use std::alloc::Global;
 
 // ---- locals and global variables
 
+// The same value again. A number, which comes most often, is had at once.
+#[inline(always)]
+fn again(alloc: Global, value: &Value) -> Result<Value, NoMemory>
+    ensures { IfOk result (λ again. again ≡ value.now) }
+{
+    match value {
+        Value::Number(number) => Ok(Value::Number(*number)),
+        value => value.copy(alloc),
+    }
+}
+
 // The value of the newest local whose name has this number.
-#[inline]
+#[inline(always)]
 fn local<'a, S: Store>(code: &Code, hands: &'a Hands<S>, id: u32) -> Option<&'a Value>
     requires apart { IsOneToOne code.now.names }
     requires fit { HandsFit hands.now }
@@ -47,7 +58,7 @@ fn local<'a, S: Store>(code: &Code, hands: &'a Hands<S>, id: u32) -> Option<&'a 
 }
 
 /// The newest local whose name has this number.
-#[inline]
+#[inline(always)]
 pub fn read_local<S: Store>(
     alloc: Global,
     code: &Code,
@@ -62,13 +73,13 @@ pub fn read_local<S: Store>(
     ensures fits { IfOk result (λ exit. ExitFits (ground hands.now) exit) }
 {
     match local(code, hands, id) {
-        Some(value) => Ok(Exit::Gives(value.copy(alloc)?)),
+        Some(value) => Ok(Exit::Gives(again(alloc, value)?)),
         None => Ok(fault(ErrorKind::WrongType, place, hands.site)),
     }
 }
 
 // The value of a global variable. Behind those of the model the store keeps what tells of the run.
-#[inline]
+#[inline(always)]
 #[tactic(auto, using(nl_frames::proofs::Grounds::fits_is))]
 pub(crate) fn global<S: Store>(hands: &Hands<S>, slot: u32) -> Option<&Value>
     ensures value { option_map plain (option_copied result)
@@ -86,7 +97,7 @@ pub(crate) fn global<S: Store>(hands: &Hands<S>, slot: u32) -> Option<&Value>
 }
 
 /// A global variable.
-#[inline]
+#[inline(always)]
 pub fn read_global<S: Store>(
     alloc: Global,
     code: &Code,
@@ -99,7 +110,7 @@ pub fn read_global<S: Store>(
     ensures fits { IfOk result (λ exit. ExitFits (ground hands.now) exit) }
 {
     match global(hands, slot) {
-        Some(value) => Ok(Exit::Gives(value.copy(alloc)?)),
+        Some(value) => Ok(Exit::Gives(again(alloc, value)?)),
         None => Ok(fault(ErrorKind::WrongType, place, hands.site)),
     }
 }
@@ -143,7 +154,7 @@ pub fn read_owned<S: Store>(
         return Ok(exit);
     }
     match hands.stage.store.var(owner_of(hands, slot), slot) {
-        Some(value) => Ok(Exit::Gives(value.copy(alloc)?)),
+        Some(value) => Ok(Exit::Gives(again(alloc, value)?)),
         None => Ok(fault(ErrorKind::NoVariable, place, hands.site)),
     }
 }

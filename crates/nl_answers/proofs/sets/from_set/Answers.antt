@@ -18,8 +18,8 @@ use Rattle.nl_turns.specs.Groups.{group_of, listing}
 use Rattle.nl_turns.specs.Telling.{Tells}
 use Rattle.nl_answers.proofs.sets.from_set.Goals as goal
 
-pub returns-in-Ok-clause-meaning : goal.returns-in-Ok-clause-meaning
-returns-in-Ok-clause-meaning g c =
+pub returns-in_ok-none-in-Ok-clause-meaning : goal.returns-in_ok-none-in-Ok-clause-meaning
+returns-in_ok-none-in-Ok-clause-meaning g c =
     let code = c.args.code.now in
     let t = node_at code c.args.node in
     let turns : Turns = record { which = c.in-Ok.group.which; members = c.in-Ok.group.members; at = 0; site = c.args.hands.now.site } in
@@ -28,7 +28,8 @@ returns-in-Ok-clause-meaning g c =
     let s = state_of code.names c.args.hands.now units in
     let first : Group → State → Outcome = λ group x. collect_group c.args.word prev t c.args.index group x (λ all s2. finished c.args.gathered group.which (span t) all s2) in
     meant prev units thrifty
-    ∙ ap (λ (made : List Answer). gathered_from prev t c.args.index c.args.word c.args.gathered turns made s) c.empty-none.ensures
+    ∙ ap (λ (x : Turns). gathered_from prev t c.args.index c.args.word c.args.gathered x c.in_ok-none-in-Ok.none s) c.in_ok-turns-in-Ok.ensures
+    ∙ ap (λ (made : List Answer). gathered_from prev t c.args.index c.args.word c.args.gathered turns made s) c.in_ok-none-in-Ok.ensures
     ∙ sym (c.in-Ok.ensures.told code.names units (span t) first))
     c.next_answer.ensures.meaning
 

@@ -32,7 +32,8 @@ returns-in-Ok-clause-meaning g c =
     (λ next meant. λ prev units thrifty.
     let first : Bool × walks.Group → State → Outcome = λ group x. collect_group over.Of prev t 0 group.1 x (λ all s2. finished (gathered.OfAll group.0) group.1.which (span t) all s2) in
     meant prev units thrifty
-    ∙ ap (λ (made : List Answer). gathered_from prev t 0 over.Of (gathered.OfAll who.several) turns made (state_of code.names c.agents_in.new.hands units)) c.empty-none.ensures
+    ∙ ap (λ (x : Turns). gathered_from prev t 0 over.Of (gathered.OfAll who.several) x c.in_ok-none-in-Ok.none (state_of code.names c.agents_in.new.hands units)) c.in_ok-turns-in-Ok.ensures
+    ∙ ap (λ (made : List Answer). gathered_from prev t 0 over.Of (gathered.OfAll who.several) turns made (state_of code.names c.agents_in.new.hands units)) c.in_ok-none-in-Ok.ensures
     ∙ sym (c.in-Ok.ensures.told code.names units (span t) first)
     ∙ sym (ap (λ (e : Exit). resumed code prev (frame.OfWho c.args.node) (ended e (state_of code.names c.args.hands.now units))) c.in-Gives.is))
     c.next_answer.ensures.meaning

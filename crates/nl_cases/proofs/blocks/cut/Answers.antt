@@ -1,7 +1,6 @@
 -- The first so many of the locals, by their names.
-use Rattle.std.proofs.Common.{List, ap, ◌∙◌, sym, subst, IsTrue, refl}
-use Rattle.std.specs.List.{list_all}
-use Rattle.nl_meaning.specs.State.{Held, State, with_locals}
+use Rattle.std.proofs.Common.{List, ap, ◌∙◌, sym, subst, refl}
+use Rattle.nl_meaning.specs.State.{Held, with_locals}
 use Rattle.nl_frames.specs.Ground.{fits}
 use Rattle.nl_frames.specs.Kept.{Kept, all_held}
 use Rattle.nl_frames.specs.Seen.{ground, state_of}

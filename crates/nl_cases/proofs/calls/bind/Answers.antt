@@ -1,13 +1,13 @@
 -- There is a name for each value, and each further value has its name.
-use Rattle.std.proofs.Common.{◌≡◌, ◌+◌, ◌<◌, ℕ, IsTrue, slice_get, List, [], ◌∷◌, ◌++◌, Some, length, map, take, get_or, refl, ap, ◌∙◌, sym, subst, arith, length-append}
-use Rattle.std.proofs.lemmas.List.{take_more, length-map, map-append}
+use Rattle.std.proofs.Common.{◌≡◌, ◌+◌, IsTrue, slice_get, List, [], ◌∷◌, ◌++◌, length, map, take, get_or, refl, ap, ◌∙◌, sym, subst, arith, length-append}
+use Rattle.std.proofs.lemmas.List.{take_more, map-append}
 use Rattle.nl_value.specs.Plain.{Plain}
 use Rattle.nl_value.specs.Views.{plain}
 use Rattle.nl_value.specs.declared.values.Value.{Value}
 use Rattle.nl_code.specs.Code.{inputs_at, name_of}
 use Rattle.nl_meaning.specs.Calls.{bound}
 use Rattle.nl_meaning.specs.State.{Held}
-use Rattle.nl_frames.specs.Ground.{Ground, all_fit, fits}
+use Rattle.nl_frames.specs.Ground.{all_fit, fits}
 use Rattle.nl_frames.specs.Kept.{Kept, all_held, held}
 use Rattle.nl_frames.specs.Standing.{LocalsFit}
 use Rattle.nl_frames.proofs.Newest.{held_push}

@@ -1,9 +1,9 @@
 -- The body of a procedure is a list of statements, which wants a unit.
-use Rattle.std.proofs.Common.{ℕ, ◌+◌, ap, ◌∙◌, sym, arith}
-use Rattle.nl_tree.specs.Tree.{label, parts}
+use Rattle.std.proofs.Common.{ap, ◌∙◌, sym, arith}
+use Rattle.nl_tree.specs.Tree.{parts}
 use Rattle.nl_tree.specs.declared.tree.Label.{Label}
 use Rattle.nl_code.specs.Code.{node_at}
-use Rattle.nl_frames.specs.Weight.{weight, weight_by, weights}
+use Rattle.nl_frames.specs.Weight.{weight_by, weights}
 use Rattle.nl_frames.proofs.Weights.{weight_out}
 use Rattle.nl_cases.proofs.calls.call.Goals as goal
 

@@ -1,8 +1,11 @@
 -- The caller goes on with what the body gave.
 use Rattle.std.proofs.Common.{Bool, ap, ◌∙◌, sym, subst}
 use Rattle.nl_fixed.specs.declared.span.Span.{Span}
+use Rattle.nl_tree.specs.Tree.{span}
+use Rattle.nl_code.specs.Code.{node_at}
 use Rattle.nl_meaning.specs.State.{State}
 use Rattle.nl_meaning.specs.Calls.{returned_by}
+use Rattle.nl_meaning.specs.declared.sites.Site.{Site}
 use Rattle.nl_frames.specs.Ground.{Ground}
 use Rattle.nl_frames.specs.Kept.{all_held}
 use Rattle.nl_frames.specs.Seen.{ended, ground, state_of}
@@ -16,9 +19,10 @@ returns-clause-meaning g c = λ prev units thrifty.
     let s = state_of code.names c.args.hands.now units in
     let saved = all_held code.names c.args.saved in
     ap (λ (x : State). ended c.returned.result x)
-    (c.back.ensures.state code units ∙ ap (λ (b : Bool). back_by b saved c.args.site s) c.ends_text.ensures)
+    (c.back.ensures.state code units ∙ ap (λ (b : Bool). back_by b saved c.get-site.result s) c.ends_text.ensures)
     ∙ c.returned.ensures.meaning saved s
-    ∙ ap (λ (p : Span). returned_by c.args.reporter p saved c.args.site (ended c.args.exit s)) c.span.ensures
+    ∙ ap (λ (p : Span). returned_by c.args.reporter p saved c.get-site.result (ended c.args.exit s)) c.span.ensures
+    ∙ ap (λ (x : Site). returned_by c.args.reporter (span (node_at code c.args.node)) saved x (ended c.args.exit s)) c.get-site.ensures
 
 pub returns-clause-fits : goal.returns-clause-fits
 returns-clause-fits g c =

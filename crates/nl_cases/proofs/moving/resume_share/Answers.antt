@@ -11,7 +11,7 @@ use Rattle.nl_acts.specs.declared.fail.ErrorKind.TheVariants.{WrongType}
 use Rattle.nl_acts.specs.Fails.{error_of_motion}
 use Rattle.nl_acts.specs.Stage.{bare, changed}
 use Rattle.nl_code.specs.Code.{node_at}
-use Rattle.nl_meaning.specs.State.{State, fails, found, goes_on, with_number, with_stage, with_world, rest_of}
+use Rattle.nl_meaning.specs.State.{fails, found, goes_on, with_number, with_stage, with_world, rest_of}
 use Rattle.nl_meaning.specs.Meaning.{unless}
 use Rattle.nl_frames.specs.Frames.{resumed}
 use Rattle.nl_frames.specs.Means.{unless_ended}

@@ -1,11 +1,6 @@
 -- A level on top is gone through first.
-use Rattle.std.proofs.Common.{suc, ◌-◌, ◌<◌, length, ap, ◌∙◌, arith, sym}
-use Rattle.nl_tree.specs.Tree.{span}
-use Rattle.nl_code.specs.Code.{node_at}
-use Rattle.nl_meaning.specs.Meaning.{evaluator, limited}
-use Rattle.nl_meaning.proofs.Thrift.{thrifty}
+use Rattle.std.proofs.Common.{◌<◌, length, ◌∙◌, arith, sym}
 use Rattle.nl_frames.specs.Seen.{state_of}
-use Rattle.nl_exec.specs.Rest.{through}
 use Rattle.nl_exec.specs.declared.focus.Focus.TheVariants.{Give}
 use Rattle.nl_exec.proofs.Stack.{rest_push}
 use Rattle.nl_exec.proofs.run.resume_level.Goals as goal
@@ -14,9 +9,6 @@ pub returns-clause-rest : goal.returns-clause-rest
 returns-clause-rest g c = λ n.
     let code = c.args.code.now in
     let ls = c.args.levels.now.items in
-    let below = c.args.limit - suc (length ls) in
     let lt : length ls < c.args.limit = omega (arith, c.args.levels.now.ok.0) in
     c.in_ok-focus.ensures.rest c.args.limit n lt
-    ∙ ap (λ o. through code c.args.limit ls (limited (span (node_at code c.args.level.node)) o))
-    (c.in_ok-next.ensures.meaning (evaluator code.program below) n (thrifty code.program below))
     ∙ sym (rest_push code c.args.limit ls c.args.level (Give c.args.exit) (state_of code.names c.args.hands.now n))

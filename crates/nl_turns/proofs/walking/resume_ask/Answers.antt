@@ -3,15 +3,18 @@ use Rattle.std.proofs.Common.{Bool, Err, ap, ◌∙◌, sym, subst}
 use Rattle.nl_fixed.specs.declared.span.Span.{Span}
 use Rattle.nl_value.specs.Views.{plain}
 use Rattle.nl_acts.specs.declared.fail.ActFail.{ActFail}
+use Rattle.nl_acts.specs.declared.fail.ErrorKind.{ErrorKind}
 use Rattle.nl_tree.specs.Tree.{span}
 use Rattle.nl_code.specs.Code.{node_at}
 use Rattle.nl_meaning.specs.State.{State, Outcome, fails}
 use Rattle.nl_meaning.specs.Walks as walks
 use Rattle.nl_meaning.specs.Walks.{walk_group}
-use Rattle.nl_frames.specs.Frames.{resumed}
+use Rattle.nl_frames.specs.Frames.{resumed, walked_on}
 use Rattle.nl_frames.specs.Seen.{ended, state_of}
 use Rattle.nl_frames.specs.declared.exits.Exit.{Exit}
+use Rattle.nl_frames.specs.declared.exits.Exit.TheVariants.{Error}
 use Rattle.nl_frames.specs.declared.frames.Frame.TheVariants as frame
+use Rattle.nl_frames.specs.declared.turns.Turns.{Turns}
 use Rattle.nl_turns.specs.Groups.{asked_of, asking}
 use Rattle.nl_turns.specs.Telling.{Tells}
 use Rattle.nl_turns.proofs.walking.resume_ask.Goals as goal
@@ -24,6 +27,7 @@ returns-clause-meaning g c = λ prev units thrifty.
     let s = state_of code.names hands units in
     let first : Bool × walks.Group → State → Outcome = λ who x. walk_group prev t 1 who.1 x in
     c.next_turn.ensures.meaning prev units thrifty
+    ∙ ap (λ (x : Turns). walked_on prev t 1 x (state_of code.names c.agents_in.new.hands units)) c.in_ok-turns.ensures
     ∙ sym (c.in-Ok.ensures.told code.names units (span t) first)
     ∙ sym (ap (λ (e : Exit). resumed code prev (frame.AskWho c.args.node) (ended e s)) c.in-Gives.is)
 
@@ -36,6 +40,7 @@ returns-in-Err-Error-clause-meaning g c = λ prev units thrifty.
     let first : Bool × walks.Group → State → Outcome = λ who x. walk_group prev t 1 who.1 x in
     let told = subst (λ (fail : ActFail). Tells asked_of (Err fail) c.agents_in.new.hands c.args.hands.now (asking (plain c.in-Gives.value))) c.in-Err-Error.field-0-is c.in-Err-Error.ensures.told in
     ap (λ (e : Exit). ended e after) c.fault.ensures
+    ∙ ap (λ (k : ErrorKind). ended (Error k c.span.result c.agents_in.new.hands.site.body) after) c.in-Err-Error.kind-is
     ∙ ap (λ (p : Span). fails c.in-Err-Error.kind p after) c.span.ensures
     ∙ sym (told code.names units (span t) first)
     ∙ sym (ap (λ (e : Exit). resumed code prev (frame.AskWho c.args.node) (ended e s)) c.in-Gives.is)

@@ -5,7 +5,7 @@ use Rattle.nl_value.specs.Plain.{Plain}
 use Rattle.nl_value.specs.Views.{plain}
 use Rattle.nl_agents.specs.World.{World}
 use Rattle.nl_acts.specs.declared.fail.ErrorKind.TheVariants.{WrongType}
-use Rattle.nl_meaning.specs.State.{State, found, goes_on, with_world}
+use Rattle.nl_meaning.specs.State.{found, goes_on, with_world}
 use Rattle.nl_frames.specs.Seen.{state_of}
 use Rattle.nl_frames.proofs.Grounds.{fits_is}
 use Rattle.nl_variables.proofs.Assigning.{global_may_hold, global_revalued}

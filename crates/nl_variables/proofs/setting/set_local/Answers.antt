@@ -3,7 +3,7 @@ use Rattle.std.proofs.Common.{ℕ, List, Option, slice_set, refl, ap, ◌∙◌,
 use Rattle.nl_value.specs.Views.{plain}
 use Rattle.nl_acts.specs.declared.fail.ErrorKind.TheVariants.{WrongType}
 use Rattle.nl_code.specs.Code.{name_of}
-use Rattle.nl_meaning.specs.State.{Held, State, Outcome, found, goes_on, with_locals}
+use Rattle.nl_meaning.specs.State.{Held, found, goes_on, with_locals}
 use Rattle.nl_frames.specs.Ground.{fits}
 use Rattle.nl_frames.specs.Kept.{Kept, all_held}
 use Rattle.nl_frames.specs.Seen.{ended, ground, state_of}

@@ -1,0 +1,20 @@
+-- What a step of the machine owes where it also puts on the stack what comes next.
+use Rattle.std.specs.Prelude.{◌≡◌, ℕ, suc, ◌-◌, ◌<◌, List, length}
+use Rattle.nl_tree.specs.Tree.{span}
+use Rattle.nl_agents.specs.declared.store.Store.{Ghosts}
+use Rattle.nl_code.specs.Code.{Code, node_at}
+use Rattle.nl_meaning.specs.State.{State, Outcome, Eval}
+use Rattle.nl_meaning.specs.Meaning.{evaluator, limited}
+use Rattle.nl_frames.specs.Seen.{state_of}
+use Rattle.nl_frames.specs.declared.hands.Hands.{Hands}
+use Rattle.nl_exec.specs.declared.levels.Level.{Level}
+use Rattle.nl_exec.specs.declared.focus.Focus.{Focus}
+use Rattle.nl_exec.specs.Rest.{rest, through}
+
+-- The rest is what this meaning of a node comes to through the levels below it, wherever there is room for the node.
+abbrev pub ComesTo : {S : Type 0} {G : Ghosts S} → Code → List Level → ℕ → (Eval → State → Outcome) → List Level → Focus → (after before : Hands S G) → Type 0
+ComesTo c below node meaning levels focus after before =
+    (room n : ℕ) → length below < room →
+    rest c room levels focus (state_of c.names after n)
+    ≡ through c room below (limited (span (node_at c node))
+    (meaning (evaluator c.program (room - suc (length below))) (state_of c.names before n)))
