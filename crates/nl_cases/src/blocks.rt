@@ -82,7 +82,7 @@ fn cut<S: Store>(hands: &mut Hands<S>, kept: usize)
 
 // The statements from an index on. A dead agent leaves before each.
 #[inline(always)]
-fn next_statement<S: Store>(
+pub fn next_statement<S: Store>(
     code: &Code,
     hands: &mut Hands<S>,
     node: u32,

@@ -5,6 +5,7 @@ ghost use Rattle.nl_agents.specs.Changes.{OwnerLives};
 ghost use Rattle.nl_agentset.specs.Queries.{word_breed_fits};
 ghost use Rattle.nl_query.specs.Inputs.{inputs_fit};
 ghost use Rattle.nl_acts.specs.Stage.{scene, stage_of};
+ghost use Rattle.nl_acts.specs.Acts.{value_told};
 ghost use Rattle.nl_acts.specs.Performing.{owner_fits, Performs};
 ghost use Rattle.nl_meaning.specs.Acting.{performed, query_told, who_asks};
 ghost use Rattle.nl_frames.specs.Sound.{ActStands};
@@ -16,6 +17,7 @@ use nl_acts::{Act, ActFail, Stage};
 use nl_agents::view::View;
 use nl_agents::{Owner, Steps, Store};
 use nl_agentset::answer;
+use nl_listops::ValueWord;
 use nl_meaning::Site;
 use nl_query::QueryWord;
 use nl_value::Value;
@@ -37,6 +39,7 @@ fn who_asks<S: Store>(agent: Owner, store: &S) -> Owner
 }
 
 // What a query answers, and draws of the stream.
+#[inline(never)]
 fn query<S: Store, L: Ledger>(
     alloc: Global,
     which: QueryWord,
@@ -70,8 +73,26 @@ fn query<S: Store, L: Ledger>(
     }
 }
 
-/// What an act answers, and changes of the stage. An error leaves the stage as it was.
-pub fn perform<S: Store, L: Ledger>(
+// What a word of values answers. It stands apart, so that an act sets no room aside for the others.
+#[inline(never)]
+fn of_values<S: Store, L: Ledger>(
+    alloc: Global,
+    which: ValueWord,
+    inputs: &[Value],
+    stage: &mut Stage<S>,
+    steps: &mut Steps<L>,
+) -> Result<Value, ActFail>
+    requires { IsTrue (inputs_fit (S.world stage.old.store).rest (map plain inputs.now)) }
+    ensures { let before = scene (S.world stage.old.store) stage.old.ticks stage.old.stream in
+        Performs result before (scene (S.world stage.new.store) stage.new.ticks stage.new.stream)
+        (value_told which (map plain inputs.now) (stage_of before)) }
+{
+    values(alloc, which, inputs, stage, steps)
+}
+
+// What any act answers, and changes of the stage, apart from those that come often.
+#[inline(never)]
+fn perform_any<S: Store, L: Ledger>(
     alloc: Global,
     act: Act,
     breed: Option<u32>,
@@ -102,5 +123,30 @@ pub fn perform<S: Store, L: Ledger>(
         Act::Bound(which) => told_bound(which, stage),
         Act::OfRun(which) => told_run(alloc, which, stage),
         Act::Idle => Ok(Value::Nobody),
+    }
+}
+
+/// What an act answers, and changes of the stage. An error leaves the stage as it was.
+pub fn perform<S: Store, L: Ledger>(
+    alloc: Global,
+    act: Act,
+    breed: Option<u32>,
+    site: Site,
+    inputs: &[Value],
+    stage: &mut Stage<S>,
+    steps: &mut Steps<L>,
+) -> Result<Value, ActFail>
+    requires breed { ActStands (S.world stage.old.store).rest.layout act breed }
+    requires inputs { IsTrue (inputs_fit (S.world stage.old.store).rest (map plain inputs.now)) }
+    requires agent { IsTrue (owner_fits (S.world stage.old.store).rest site.agent) }
+    requires asker { IsTrue (owner_fits (S.world stage.old.store).rest site.asker) }
+    ensures { let before = scene (S.world stage.old.store) stage.old.ticks stage.old.stream in
+        Performs result before (scene (S.world stage.new.store) stage.new.ticks stage.new.stream)
+        (performed act breed site.agent site.asker (map plain inputs.now) (stage_of before)) }
+{
+    match act {
+        Act::Value(which) => of_values(alloc, which, inputs, stage, steps),
+        Act::Query(which) => query(alloc, which, breed, site.agent, inputs, stage, steps),
+        act => perform_any(alloc, act, breed, site, inputs, stage, steps),
     }
 }

@@ -5,3 +5,4 @@ pub mod Stops
 pub mod Opening
 pub mod Entering
 pub mod Following
+pub mod Hurrying

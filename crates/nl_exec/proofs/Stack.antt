@@ -17,10 +17,9 @@ use Rattle.nl_frames.specs.declared.exits.Exit.TheVariants.{Error}
 use Rattle.nl_frames.specs.declared.frames.Frame.{Frame}
 use Rattle.nl_frames.specs.declared.frames.Frame.TheVariants as frame
 use Rattle.nl_exec.specs.declared.levels.Level.{Level}
-use Rattle.nl_exec.specs.declared.focus.Wish.{Wish}
 use Rattle.nl_exec.specs.declared.focus.Focus.{Focus}
-use Rattle.nl_exec.specs.declared.focus.Focus.TheVariants.{Start, Enter, Give, Want}
-use Rattle.nl_exec.specs.Rest.{through, wished, begun, rest}
+use Rattle.nl_exec.specs.declared.focus.Focus.TheVariants.{Start, Enter, Give}
+use Rattle.nl_exec.specs.Rest.{through, begun, rest}
 
 -- what comes of a level, once its child has come to an outcome
 abbrev pub level_out : Code → ℕ → Level → Outcome → Outcome
@@ -151,9 +150,3 @@ pub nested_is : (place there : Span) (site : Site) (s : State) → place ≡ the
     ended (Error TooNested place site.body) s ≡ fails TooNested there s
 nested_is place there site s e f =
     ap (λ (p : Span). ended (Error TooNested p site.body) s) e ∙ ap (λ (x : Site). ended (Error TooNested there x.body) s) (sym f)
-
--- where a unit is spent, what comes is what was wished
-pub rest_granted : (c : Code) (room : ℕ) (ls : List Level) (w : Wish) (next : Focus) (s : State) (units : ℕ) →
-    ((below : ℕ) (s1 : State) → begun c below next s1 ≡ wished c below w s1) →
-    rest c room ls next (record s { units = units }) ≡ rest c room ls (Want w) (record s { units = suc units })
-rest_granted c room ls w next s units same = ap (through c room ls) (same (room - length ls) (record s { units = units }))

@@ -5,6 +5,7 @@ mod begins;
 pub mod dispatch;
 pub mod endings;
 pub mod focus;
+mod hurry;
 pub mod levels;
 mod often;
 pub mod phase;

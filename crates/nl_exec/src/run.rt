@@ -21,6 +21,7 @@ ghost use Rattle.nl_exec.specs.declared.focus.Focus.TheVariants.{Start, Enter, G
 use crate::begins::begin;
 use crate::dispatch::enter_text;
 use crate::focus::{Focus, Stop, Wish};
+use crate::hurry::hurry;
 use crate::levels::Level;
 use crate::often::go_on;
 use nl_acts::ErrorKind;
@@ -270,7 +271,7 @@ fn settle<S: Store>(
 
 // What comes where the unit that was wanted is spent.
 #[inline(always)]
-fn granted(wish: Wish) -> Focus
+pub(crate) fn granted(wish: Wish) -> Focus
     ensures meaning { (c : Nodes) (room : ℕ) (s : State) → begun c room result s ≡ wished c room wish s }
     ensures fits { (g : Ground) → FocusFits g result }
 {
@@ -317,7 +318,7 @@ pub fn spend_units<S: Store>(
                     return Ok((Stop::Wanted(wish), 0));
                 }
                 left -= 1;
-                focus = granted(wish);
+                focus = hurry(code, hands, limit, levels, wish, &mut left)?;
             }
         }
     }

@@ -41,7 +41,7 @@ fn again(alloc: Global, value: &Value) -> Result<Value, NoMemory>
 
 // The value of the newest local whose name has this number.
 #[inline(always)]
-fn local<'a, S: Store>(code: &Code, hands: &'a Hands<S>, id: u32) -> Option<&'a Value>
+pub fn local<'a, S: Store>(code: &Code, hands: &'a Hands<S>, id: u32) -> Option<&'a Value>
     requires apart { IsOneToOne code.now.names }
     requires fit { HandsFit hands.now }
     ensures value { option_map plain (option_copied result)
@@ -81,7 +81,7 @@ pub fn read_local<S: Store>(
 // The value of a global variable. Behind those of the model the store keeps what tells of the run.
 #[inline(always)]
 #[tactic(auto, using(nl_frames::proofs::Grounds::fits_is))]
-pub(crate) fn global<S: Store>(hands: &Hands<S>, slot: u32) -> Option<&Value>
+pub fn global<S: Store>(hands: &Hands<S>, slot: u32) -> Option<&Value>
     ensures value { option_map plain (option_copied result)
         ≡ slice_get (S.world hands.now.stage.store).globals slot }
     ensures fits { IfSome result (λ value. IsTrue (fits (ground hands.now) (plain value.now))) }
@@ -119,7 +119,7 @@ pub fn read_global<S: Store>(
 
 /// Whose variable it is: a turtle has the variables of patches from the patch on which it stands.
 #[inline]
-pub(crate) fn owner_of<S: Store>(hands: &Hands<S>, slot: u32) -> Owner
+pub fn owner_of<S: Store>(hands: &Hands<S>, slot: u32) -> Owner
     requires lives { OwnerLives hands.now.site.agent (S.world hands.now.stage.store) }
     ensures owner { result ≡ owner_by (S.world hands.now.stage.store).rest slot hands.now.site.agent }
     ensures lives { OwnerLives result (S.world hands.now.stage.store) }

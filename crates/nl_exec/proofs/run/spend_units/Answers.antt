@@ -1,9 +1,8 @@
 -- With just these units, the rest is the end.
 use Rattle.std.proofs.Common.{◌≡◌, ℕ, suc, ◌+◌, ◌-◌, ap, ◌∙◌, sym, refl, arith}
-use Rattle.nl_frames.specs.Seen.{ground, state_of}
+use Rattle.nl_frames.specs.Seen.{state_of}
 use Rattle.nl_exec.specs.Rest.{rest, stopped}
 use Rattle.nl_exec.specs.declared.focus.Focus.TheVariants.{Want}
-use Rattle.nl_exec.proofs.Stack.{rest_granted}
 use Rattle.nl_exec.proofs.Stops.{wish_ends, text_ends}
 use Rattle.nl_exec.proofs.run.spend_units.Goals as goal
 
@@ -46,16 +45,17 @@ spending-preserved g c =
     let ls = c.settle.new.levels.items in
     let hands = c.settle.new.hands in
     let less = c.spending.left - 1 in
+    let hurried = c.in_ok-focus-in-Wanted.ensures in
     record {
       same = λ n.
           (let more : suc (less + n) ≡ c.spending.left + n = omega (arith, c.if-left-eq0.false) in
-          rest_granted code limit ls c.in-Wanted.wish c.granted-focus.result (state_of code.names hands 0) (less + n) (c.granted-focus.ensures.meaning code)
+          hurried.rest n
           ∙ ap (λ m. rest code limit ls (Want c.in-Wanted.wish) (state_of code.names hands m)) more
           ∙ sym (ap (λ x. rest code limit ls (stopped x) (state_of code.names hands (c.spending.left + n))) c.in-Wanted.is)
           ∙ c.in_ok-exit.ensures.rest (c.spending.left + n)
           ∙ c.spending.invariant.same n);
-      depth = c.settle.ensures.depth;
-      fewer = omega (arith, c.spending.invariant.fewer);
-      steady = c.in_ok-exit.ensures.steady;
-      fits = c.granted-focus.ensures.fits (ground hands);
+      depth = c.hurry.ensures.depth;
+      fewer = omega (arith, c.spending.invariant.fewer, c.hurry.ensures.left);
+      steady = hurried.steady;
+      fits = hurried.focus;
     }

@@ -1,0 +1,6 @@
+pub mod Words
+mod Owning
+mod Stepping
+mod Controls
+mod Going
+mod Taking

@@ -1,0 +1,12 @@
+-- A word of what its two parts give, which are nodes without parts.
+use Rattle.nl_code.specs.Code.{node_at}
+use Rattle.nl_frames.specs.Seen.{state_of}
+use Rattle.nl_at_once.proofs.Words.{both_had}
+use Rattle.nl_at_once.proofs.numbers.number_of_leaves.Goals as goal
+
+pub returns-in-Some : goal.returns-in-Some
+returns-in-Some g c =
+    let code = c.args.code.now in
+    let word = c.in-Some.word in
+    both_had code.program (node_at code c.args.node) (node_at code word.left) (node_at code word.right) (λ n. state_of code.names c.args.hands.now n) 0 word.which
+    c.leaf.result c.leaf-in-Some.result c.of_both.result c.in-Some.ensures c.leaf.ensures c.leaf-in-Some.ensures c.of_both.ensures.made c.of_both.ensures.both
