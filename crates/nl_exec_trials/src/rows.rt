@@ -67,5 +67,14 @@ pub(crate) const SLICES: &[Way] = &[Way::Whole, Way::Slices(1), Way::Slices(7)];
 /// The same, and by copies at each unit.
 pub(crate) const WAYS: &[Way] = &[Way::Whole, Way::Slices(1), Way::Slices(7), Way::Copies];
 
+/// At once, and in slices that end at other statements each time.
+pub(crate) const FINE: &[Way] = &[
+    Way::Whole,
+    Way::Slices(1),
+    Way::Slices(2),
+    Way::Slices(3),
+    Way::Slices(7),
+];
+
 /// At once alone.
 pub(crate) const AT_ONCE: &[Way] = &[Way::Whole];
