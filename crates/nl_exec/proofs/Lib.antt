@@ -1,8 +1,1 @@
-pub mod Stack
-pub mod Works
-pub mod Steadying
-pub mod Stops
 pub mod Opening
-pub mod Entering
-pub mod Following
-pub mod Hurrying

@@ -1,6 +1,4 @@
-pub mod Steady
-pub mod Work
-pub mod Rest
+pub mod Keeping
 pub mod Slices
 pub mod Endings
 pub mod Machines

@@ -3,7 +3,7 @@ use Rattle.std.specs.Prelude.{IsTrue}
 use Rattle.std.proofs.Common.{◌≡◌, true, false, refl, subst}
 use Rattle.nl_exec.specs.declared.phase.Phase.{Phase}
 use Rattle.nl_exec.specs.declared.phase.Phase.TheVariants as phase
-use Rattle.nl_exec.specs.Steady.{is_well}
+use Rattle.nl_exec.specs.Keeping.{is_well}
 
 well-apart : (p : Phase) → IsTrue (is_well p) → p ≡ phase.Failed → ⊥
 well-apart p well e = let both : false ≡ true = subst (λ q. IsTrue (is_well q)) e well in cc

@@ -23,9 +23,10 @@ use Rattle.nl_frames.specs.declared.frames.Frame.TheVariants as frame
 use Rattle.nl_frames.specs.declared.turns.Gathered.{Gathered}
 use Rattle.nl_frames.specs.declared.turns.Gathered.TheVariants as gathered
 use Rattle.nl_frames.specs.declared.turns.Turns.{Turns}
-use Rattle.nl_exec.specs.declared.levels.Level.{Level}
+use Rattle.nl_levels.specs.declared.levels.Level.{Level}
 use Rattle.nl_exec.specs.declared.phase.Phase.{Phase}
-use Rattle.nl_exec.specs.Steady.{HeldIn, LevelsFit}
+use Rattle.nl_levels.specs.Steady.{LevelsFit}
+use Rattle.nl_exec.specs.Keeping.{HeldIn}
 
 true_once : (b : Bool) → IsProp (IsTrue b)
 true_once b = Coded-set coded_bool b true

@@ -6,8 +6,8 @@ use Rattle.nl_tree.specs.declared.declared.Form.{Form}
 use Rattle.nl_tree.specs.declared.declared.Form.TheVariants as form
 use Rattle.nl_agents.specs.declared.store.Store.{Ghosts}
 use Rattle.nl_exec.specs.Machines.{form_of, program_of, spent_of}
-use Rattle.nl_exec.specs.declared.focus.Wish.{Wish}
-use Rattle.nl_exec.specs.declared.focus.Wish.TheVariants as wish
+use Rattle.nl_levels.specs.declared.focus.Wish.{Wish}
+use Rattle.nl_levels.specs.declared.focus.Wish.TheVariants as wish
 use Rattle.nl_exec.specs.declared.phase.Phase.{Phase}
 use Rattle.nl_exec.specs.declared.phase.Phase.TheVariants as machine
 use Rattle.nl_run.specs.Course.{Finish, course_within}

@@ -2,12 +2,12 @@
 use Rattle.std.proofs.Common.{◌≡◌, ℕ, ◌+◌, Some, ap, subst, ◌∙◌, sym, arith}
 use Rattle.nl_frames.specs.Seen.{ended, state_of}
 use Rattle.nl_frames.specs.Sound.{IsSound}
-use Rattle.nl_exec.specs.declared.focus.Focus.TheVariants as focus
-use Rattle.nl_exec.specs.Rest.{rest, stopped, stop_exit}
+use Rattle.nl_levels.specs.declared.focus.Focus.TheVariants as focus
+use Rattle.nl_levels.specs.Rest.{rest, stopped, stop_exit}
 use Rattle.nl_exec.specs.Slices.{focus_of, rest_by}
 use Rattle.nl_exec.specs.Machines.{with_more}
 use Rattle.nl_exec.proofs.Opening.{well_open}
-use Rattle.nl_exec.proofs.Stops.{more_by, text_ends}
+use Rattle.nl_levels.proofs.Stops.{more_by, text_ends}
 use Rattle.nl_exec.proofs.slices.Machine.advance.Goals as goal
 
 pub spend_units-requires-clause-steady : goal.spend_units-requires-clause-steady

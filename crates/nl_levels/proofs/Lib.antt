@@ -1,0 +1,7 @@
+pub mod Stack
+pub mod Works
+pub mod Steadying
+pub mod Stops
+pub mod Entering
+pub mod Following
+pub mod Hurrying

@@ -1,0 +1,4 @@
+pub mod Steady
+pub mod Work
+pub mod Rest
+pub mod inner
