@@ -1,4 +1,3 @@
-pub mod Words
 mod Owning
 mod Stepping
 mod Controls

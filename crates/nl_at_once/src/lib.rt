@@ -1,11 +1,12 @@
-//! What is done at once, without frames: numbers and truths of short expressions, plain statements, and turns of blocks of such statements.
+//! What is done at once, without frames: statements, those of a block that an `if` chooses among them, turns of blocks of such statements, and
+//! answers of members.
 //!
 //! Whatever is out of the ordinary isn't done here: then nothing is changed, and the machine goes its usual way.
 #![tactic(auto)]
 
-pub mod numbers;
+pub mod answers;
+pub mod moving;
 pub mod repeats;
-pub mod running;
 pub mod setting;
 pub mod statements;
 pub mod turns;

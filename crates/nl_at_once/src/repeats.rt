@@ -9,16 +9,18 @@ ghost use Rattle.nl_frames.specs.Means.{Stands};
 ghost use Rattle.nl_frames.specs.Seen.{state_of};
 ghost use Rattle.nl_frames.specs.Standing.{HandsFit};
 ghost use Rattle.nl_at_once.specs.AtOnce.{block_left, then_turns};
-ghost use Rattle.nl_at_once.specs.declared.numbers.TheConstants.{MOST_NESTED as most_nested};
+ghost use Rattle.nl_at_once.specs.declared.statements.TheConstants.{MOST_NESTED as most_nested};
 
 use crate::turns::{Midway, do_block};
 use nl_agents::Store;
 use nl_code::Code;
 use nl_frames::Hands;
+use std::alloc::Global;
 
 /// Turns are taken, of which the first one has its unit, so far as that is done at once. None where the last
 /// one that was taken is over.
 pub fn do_repeats<S: Store>(
+    alloc: Global,
     code: &Code,
     hands: &mut Hands<S>,
     word: u32,
@@ -38,7 +40,7 @@ pub fn do_repeats<S: Store>(
     ensures stands { Stands hands.new hands.old }
 {
     'turns: loop {
-        if let Some(midway) = do_block(code, hands, block, units) {
+        if let Some(midway) = do_block(alloc, code, hands, block, units) {
             return Some(midway);
         }
         if *left == 0 || *units == 0 {

@@ -13,12 +13,12 @@ ghost use Rattle.nl_frames.specs.Seen.{state_of};
 ghost use Rattle.nl_frames.specs.Standing.{HandsFit};
 ghost use Rattle.nl_at_once.specs.AtOnce.{IsAsBefore, is_agent};
 
-use crate::running::lives_and_may_run;
 use nl_agents::{Owner, Store};
 use nl_code::{Code, Op};
 use nl_fixed::Num;
 use nl_frames::{Hands, Local};
 use nl_layout::{Rule, rule_of};
+use nl_short::running::lives_and_may_run;
 use nl_value::Value;
 use nl_variables::variables::{global, owner_of};
 use nl_words::Kinds;

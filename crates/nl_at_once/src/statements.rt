@@ -1,30 +1,47 @@
 //! Statements that are done at once.
-ghost use Rattle.std.specs.Prelude.{◌≡◌, ◌+◌, ◌<◌, ◌≤◌, ℕ, true, false, drop};
-ghost use Rattle.nl_tree.specs.Tree.{parts};
+ghost use Rattle.std.specs.Prelude.{◌≡◌, ◌+◌, ◌<◌, ◌≤◌, ℕ, suc, Option, None, IfSome, true, false, drop};
+ghost use Rattle.nl_layout.specs.Nouns.{BreedNumber};
+ghost use Rattle.nl_tree.specs.Tree.{label, parts, span};
+ghost use Rattle.nl_code.specs.declared.words.Built.TheVariants as built;
+ghost use Rattle.nl_code.specs.Cases as case;
+ghost use Rattle.nl_code.specs.Cases.{case_of};
 ghost use Rattle.nl_code.specs.Code.{node_at};
-ghost use Rattle.nl_meaning.specs.Blocks.{if_case, statements};
-ghost use Rattle.nl_meaning.specs.Meaning.{evaluator, set_case};
+ghost use Rattle.nl_meaning.specs.Blocks.{part_of, statements};
+ghost use Rattle.nl_meaning.specs.Meaning.{evaluator, limited, set_case};
 ghost use Rattle.nl_meaning.specs.State.{goes_on};
 ghost use Rattle.nl_frames.specs.Means.{Stands};
 ghost use Rattle.nl_frames.specs.Seen.{state_of};
 ghost use Rattle.nl_frames.specs.Standing.{HandsFit};
-ghost use Rattle.nl_at_once.specs.AtOnce.{GoesOn, IsAsBefore};
-ghost use Rattle.nl_at_once.specs.declared.numbers.TheConstants.{MOST_NESTED as most_nested};
+ghost use Rattle.nl_at_once.specs.AtOnce.{GoesOn, GoesUpTo, IsAsBefore, choosing, left_of, far_left};
+ghost use Rattle.nl_at_once.specs.declared.statements.TheConstants.{PLAIN_NESTED as plain_nested, MOST_NESTED as most_nested};
 
-use crate::numbers::{number, truth};
-use crate::running::may_run;
+use crate::moving::do_move;
 use crate::setting::set_number;
 use crate::walking::walk;
+use nl_acts::Act;
 use nl_agents::Store;
 use nl_code::{Built, Code, Control, Op};
 use nl_frames::Hands;
 use nl_frames::ends::is_dead;
+use nl_short::draws::drawn;
+use nl_short::running::may_run;
+use nl_short::truths::truth_or_chance;
+use nl_words::Kinds;
+use std::alloc::Global;
+
+/// So many nodes at most stand in each other in a statement without a block that is done at once.
+pub const PLAIN_NESTED: usize = 7;
+
+/// So many nodes at most stand in each other in any statement that is done at once.
+pub const MOST_NESTED: usize = 10;
+
+// ---- statements without a block
 
 // A variable is set to a number.
 #[inline(always)]
-fn set<S: Store>(code: &Code, hands: &mut Hands<S>, node: u32) -> bool
+fn set<S: Store>(alloc: Global, code: &Code, hands: &mut Hands<S>, node: u32) -> bool
     requires fit { HandsFit hands.old }
-    ensures done { result ≡ true → (room n : ℕ) → 3 < room →
+    ensures done { result ≡ true → (room n : ℕ) → 6 < room →
         set_case code.now.program (evaluator code.now.program room) (node_at code.now node)
         (state_of code.now.names hands.old n) ≡ goes_on (state_of code.now.names hands.new n) }
     ensures not { result ≡ false → IsAsBefore hands.new hands.old }
@@ -36,76 +53,67 @@ fn set<S: Store>(code: &Code, hands: &mut Hands<S>, node: u32) -> bool
     let Some(part) = code.part(node, 1) else {
         return false;
     };
-    match number(code, hands, part) {
+    let mark = hands.stage.stream.save();
+    let done = match drawn(alloc, code, hands, part) {
         Some(number) => set_number(code, hands, variable, number),
         None => false,
-    }
-}
-
-// Whether the test of an `if` is false.
-#[inline(always)]
-fn is_passed_over<S: Store>(code: &Code, hands: &Hands<S>, node: u32) -> bool
-    requires fit { HandsFit hands.now }
-    ensures { result ≡ true → (room n : ℕ) → 4 < room →
-        let s = state_of code.now.names hands.now n in
-        if_case (evaluator code.now.program room) (node_at code.now node) s ≡ goes_on s }
-{
-    let Some(part) = code.part(node, 0) else {
-        return false;
     };
-    match truth(code, hands, part) {
-        Some(truth) => !truth,
-        None => false,
+    if !done {
+        hands.stage.stream.restore(mark);
     }
+    done
 }
 
-/// A statement is done, where that is done at once; else nothing is changed. The unit of the statement itself is spent before.
+// A statement is done that runs no block, where that is done at once; else nothing is changed. The unit of the statement itself is spent
+// before.
 #[inline(always)]
-pub fn do_statement<S: Store>(code: &Code, hands: &mut Hands<S>, node: u32, units: &mut u64) -> bool
+fn do_plain<S: Store>(
+    alloc: Global,
+    code: &Code,
+    hands: &mut Hands<S>,
+    node: u32,
+    units: &mut u64,
+) -> bool
     requires fit { HandsFit hands.old }
-    ensures done { result ≡ true → GoesOn code.now node most_nested hands.new units.new hands.old units.old }
+    ensures done { result ≡ true → GoesOn code.now node plain_nested hands.new units.new hands.old units.old }
     ensures not { result ≡ false → IsAsBefore hands.new hands.old × (units.new ≡ units.old) }
     ensures left { units.new ≤ units.old }
     ensures stands { Stands hands.new hands.old }
 {
-    let Op::Word {
-        runs,
-        word: Built::Control(word),
-        ..
-    } = code.op(node)
-    else {
+    let Op::Word { runs, word, .. } = code.op(node) else {
         return false;
     };
     if !may_run(hands, runs) {
         return false;
     }
     match word {
-        Control::Set => set(code, hands, node),
-        Control::If => is_passed_over(code, hands, node),
-        Control::Forward => walk(code, hands, node, runs, false, units),
-        Control::Back => walk(code, hands, node, runs, true, units),
+        Built::Control(Control::Set) => set(alloc, code, hands, node),
+        Built::Control(Control::Forward) => walk(alloc, code, hands, node, runs, false, units),
+        Built::Control(Control::Back) => walk(alloc, code, hands, node, runs, true, units),
+        Built::Act(Act::Move(which)) => do_move(alloc, code, hands, node, runs, which),
         _ => false,
     }
 }
 
-/// Statements of a block are done from one on, each for a unit, so far as that is done at once. It tells which one comes next.
-pub fn do_statements<S: Store>(
+// Statements of a block are done from its first one on, each for a unit, so far as they run no block and are done at once. It tells which
+// one comes next.
+fn do_plain_statements<S: Store>(
+    alloc: Global,
     code: &Code,
     hands: &mut Hands<S>,
     block: u32,
-    from: u32,
     units: &mut u64,
 ) -> u32
     requires fit { HandsFit hands.old }
-    ensures done { (room n kept : ℕ) → most_nested < room →
+    ensures done { (room n kept : ℕ) → plain_nested < room →
         let all = parts (node_at code.now block) in
         let prev = evaluator code.now.program room in
-        statements prev kept (drop from all) (state_of code.now.names hands.old (units.old + n))
+        statements prev kept all (state_of code.now.names hands.old (units.old + n))
         ≡ statements prev kept (drop result all) (state_of code.now.names hands.new (units.new + n)) }
     ensures left { units.new ≤ units.old }
     ensures stands { Stands hands.new hands.old }
 {
-    let mut at = from;
+    let mut at = 0;
     'statements: loop {
         let Some(statement) = code.part(block, at) else {
             return at;
@@ -114,10 +122,202 @@ pub fn do_statements<S: Store>(
             return at;
         }
         *units -= 1;
-        if !do_statement(code, hands, statement, units) {
+        if !do_plain(alloc, code, hands, statement, units) {
             *units += 1;
             return at;
         }
         at += 1;
+    }
+}
+
+// ---- statements with a block
+
+/// Where the block stands that a word has chosen: the word, its block, the block's next statement, and how many locals are known around it.
+#[derive(Clone, Copy)]
+pub struct Inside {
+    pub word: u32,
+    pub block: u32,
+    pub at: u32,
+    pub kept: usize,
+}
+
+/// How far a statement was done.
+#[derive(Clone, Copy)]
+pub enum Done {
+    /// It is over.
+    Whole,
+    /// The block that it has chosen is left from a statement on.
+    UpTo(Inside),
+}
+
+// The block that a word has chosen is done, so far as that is done at once.
+#[inline(always)]
+fn do_chosen<S: Store>(
+    alloc: Global,
+    code: &Code,
+    hands: &mut Hands<S>,
+    word: u32,
+    index: u32,
+    units: &mut u64,
+) -> Option<Done>
+    requires fit { HandsFit hands.old }
+    ensures done { IfSome result (λ done. (room n : ℕ) → suc plain_nested < room →
+        let t = node_at code.now word in
+        limited (span t) (part_of (evaluator code.now.program room) t index
+        (state_of code.now.names hands.old (units.old + n)))
+        ≡ left_of code.now (suc room) done (state_of code.now.names hands.new (units.new + n))) }
+    ensures not { result ≡ None → IsAsBefore hands.new hands.old × (units.new ≡ units.old) }
+    ensures left { units.new ≤ units.old }
+    ensures stands { Stands hands.new hands.old }
+{
+    let Some(block) = code.part(word, index) else {
+        return None;
+    };
+    let Op::Statements = code.op(block) else {
+        return None;
+    };
+    let kept = hands.locals.len();
+    let at = do_plain_statements(alloc, code, hands, block, units);
+    let Some(_) = code.part(block, at) else {
+        hands.locals.truncate(kept);
+        return Some(Done::Whole);
+    };
+    Some(Done::UpTo(Inside {
+        word,
+        block,
+        at,
+        kept,
+    }))
+}
+
+// `if` is done, or `ifelse` where there are two blocks; a test that draws is undone where the rest can't be done at once.
+#[inline(never)]
+fn choose<S: Store>(
+    alloc: Global,
+    code: &Code,
+    hands: &mut Hands<S>,
+    node: u32,
+    runs: Kinds,
+    either: bool,
+    units: &mut u64,
+) -> Option<Done>
+    requires fit { HandsFit hands.old }
+    requires is { (breed : Option BreedNumber) × (case_of code.now.program.declared (label (node_at code.now node))
+        ≡ case.Word runs breed (built.Control (choosing either))) }
+    ensures done { IfSome result (λ done.
+        GoesUpTo code.now node most_nested done hands.new units.new hands.old units.old) }
+    ensures not { result ≡ None → IsAsBefore hands.new hands.old × (units.new ≡ units.old) }
+    ensures left { units.new ≤ units.old }
+    ensures stands { Stands hands.new hands.old }
+{
+    if !may_run(hands, runs) {
+        return None;
+    }
+    let Some(part) = code.part(node, 0) else {
+        return None;
+    };
+    let mark = hands.stage.stream.save();
+    let done = match truth_or_chance(alloc, code, hands, part) {
+        Some(true) => do_chosen(alloc, code, hands, node, 1, units),
+        Some(false) => {
+            if either {
+                do_chosen(alloc, code, hands, node, 2, units)
+            } else {
+                Some(Done::Whole)
+            }
+        }
+        None => None,
+    };
+    if let None = done {
+        hands.stage.stream.restore(mark);
+    }
+    done
+}
+
+/// A statement is done, so far as that is done at once; else nothing is changed. The unit of the statement itself is spent before.
+#[inline(always)]
+pub fn do_statement<S: Store>(
+    alloc: Global,
+    code: &Code,
+    hands: &mut Hands<S>,
+    node: u32,
+    units: &mut u64,
+) -> Option<Done>
+    requires fit { HandsFit hands.old }
+    ensures done { IfSome result (λ done.
+        GoesUpTo code.now node most_nested done hands.new units.new hands.old units.old) }
+    ensures not { result ≡ None → IsAsBefore hands.new hands.old × (units.new ≡ units.old) }
+    ensures left { units.new ≤ units.old }
+    ensures stands { Stands hands.new hands.old }
+{
+    match code.op(node) {
+        Op::Word {
+            runs,
+            word: Built::Control(Control::If),
+            ..
+        } => choose(alloc, code, hands, node, runs, false, units),
+        Op::Word {
+            runs,
+            word: Built::Control(Control::IfElse),
+            ..
+        } => choose(alloc, code, hands, node, runs, true, units),
+        _ => {
+            if do_plain(alloc, code, hands, node, units) {
+                Some(Done::Whole)
+            } else {
+                None
+            }
+        }
+    }
+}
+
+// ---- statements of a block
+
+/// How far the statements of a block were done: which one comes next, and where the block of the one before it is left, if it is.
+#[derive(Clone, Copy)]
+pub struct Far {
+    pub at: u32,
+    pub inside: Option<Inside>,
+}
+
+/// Statements of a block are done from one on, each for a unit, so far as that is done at once.
+pub fn do_statements<S: Store>(
+    alloc: Global,
+    code: &Code,
+    hands: &mut Hands<S>,
+    block: u32,
+    from: u32,
+    units: &mut u64,
+) -> Far
+    requires fit { HandsFit hands.old }
+    ensures done { (room n kept : ℕ) → most_nested < room →
+        statements (evaluator code.now.program room) kept (drop from (parts (node_at code.now block)))
+        (state_of code.now.names hands.old (units.old + n))
+        ≡ far_left code.now room block kept result (state_of code.now.names hands.new (units.new + n)) }
+    ensures left { units.new ≤ units.old }
+    ensures stands { Stands hands.new hands.old }
+{
+    let mut at = from;
+    'statements: loop {
+        let Some(statement) = code.part(block, at) else {
+            return Far { at, inside: None };
+        };
+        if *units == 0 || is_dead(hands) {
+            return Far { at, inside: None };
+        }
+        *units -= 1;
+        match do_statement(alloc, code, hands, statement, units) {
+            None => {
+                *units += 1;
+                return Far { at, inside: None };
+            }
+            Some(Done::Whole) => at += 1,
+            Some(Done::UpTo(inside)) => {
+                return Far {
+                    at: at + 1,
+                    inside: Some(inside),
+                };
+            }
+        }
     }
 }

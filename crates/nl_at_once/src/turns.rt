@@ -12,19 +12,20 @@ ghost use Rattle.nl_frames.specs.Means.{Stands};
 ghost use Rattle.nl_frames.specs.Seen.{ground, state_of};
 ghost use Rattle.nl_frames.specs.Standing.{HandsFit, TurnsFit};
 ghost use Rattle.nl_at_once.specs.AtOnce.{block_left};
-ghost use Rattle.nl_at_once.specs.declared.numbers.TheConstants.{MOST_NESTED as most_nested};
+ghost use Rattle.nl_at_once.specs.declared.statements.TheConstants.{MOST_NESTED as most_nested};
 
-use crate::statements::do_statements;
+use crate::statements::{Far, do_statements};
 use nl_agents::Store;
 use nl_code::Code;
 use nl_frames::{BoxedTurns, Hands};
 use nl_meaning::Site;
 use nl_turns::living::{first_living, member_at, owner_of};
+use std::alloc::Global;
 
-/// Where the statements of a block stand: the next one, and how many locals are known around the block.
+/// A block that isn't over: how far its statements were done, and how many locals are known around it.
 #[derive(Clone, Copy)]
 pub struct Midway {
-    pub at: u32,
+    pub far: Far,
     pub kept: usize,
 }
 
@@ -32,6 +33,7 @@ pub struct Midway {
 /// is over.
 #[inline(always)]
 pub fn do_block<S: Store>(
+    alloc: Global,
     code: &Code,
     hands: &mut Hands<S>,
     block: u32,
@@ -47,12 +49,14 @@ pub fn do_block<S: Store>(
     ensures stands { Stands hands.new hands.old }
 {
     let kept = hands.locals.len();
-    let at = do_statements(code, hands, block, 0, units);
-    let Some(_) = code.part(block, at) else {
-        hands.locals.truncate(kept);
-        return None;
-    };
-    Some(Midway { at, kept })
+    let far = do_statements(alloc, code, hands, block, 0, units);
+    match (far.inside, code.part(block, far.at)) {
+        (None, None) => {
+            hands.locals.truncate(kept);
+            None
+        }
+        _ => Some(Midway { far, kept }),
+    }
 }
 
 // A turn is over. The next member runs, for a unit, if there are both; else all is as it was.
@@ -109,6 +113,7 @@ fn next_member<S: Store>(
 /// Turns are taken, of which the first one has its unit, so far as that is done at once. None where the last
 /// one that was taken is over.
 pub fn do_turns<S: Store>(
+    alloc: Global,
     code: &Code,
     hands: &mut Hands<S>,
     ask: u32,
@@ -133,7 +138,7 @@ pub fn do_turns<S: Store>(
     ensures stands { Stands hands.new hands.old }
 {
     'turns: loop {
-        if let Some(midway) = do_block(code, hands, block, units) {
+        if let Some(midway) = do_block(alloc, code, hands, block, units) {
             return Some(midway);
         }
         if !next_member(code, hands, ask, index, block, turns, units) {

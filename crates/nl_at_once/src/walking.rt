@@ -13,14 +13,15 @@ ghost use Rattle.nl_frames.specs.Seen.{state_of};
 ghost use Rattle.nl_frames.specs.Standing.{HandsFit};
 ghost use Rattle.nl_at_once.specs.AtOnce.{IsAsBefore};
 
-use crate::numbers::number;
-use crate::running::lives_and_may_run;
 use nl_agents::{Owner, Store};
 use nl_code::Code;
 use nl_fixed::Num;
 use nl_frames::Hands;
 use nl_motion::step;
+use nl_short::numbers::number;
+use nl_short::running::lives_and_may_run;
 use nl_words::Kinds;
+use std::alloc::Global;
 
 // A step is made for a unit, and nothing comes behind it. Where there is no unit, or the world's numbers don't hold the step, nothing is
 // changed.
@@ -68,6 +69,7 @@ fn is_within_one_step(by: Num) -> bool
 /// A turtle goes at most one step, where that is done at once; else nothing is changed.
 #[inline(never)]
 pub fn walk<S: Store>(
+    alloc: Global,
     code: &Code,
     hands: &mut Hands<S>,
     node: u32,
@@ -76,7 +78,7 @@ pub fn walk<S: Store>(
     units: &mut u64,
 ) -> bool
     requires fit { HandsFit hands.old }
-    ensures done { result ≡ true → (room n : ℕ) → 3 < room →
+    ensures done { result ≡ true → (room n : ℕ) → 5 < room →
         walk_case (way_of back) runs (evaluator code.now.program room) (node_at code.now node)
         (state_of code.now.names hands.old (units.old + n))
         ≡ goes_on (state_of code.now.names hands.new (units.new + n)) }
@@ -87,7 +89,7 @@ pub fn walk<S: Store>(
     let Some(part) = code.part(node, 0) else {
         return false;
     };
-    let Some(number) = number(code, hands, part) else {
+    let Some(number) = number(alloc, code, hands, part) else {
         return false;
     };
     let Owner::Turtle(turtle) = hands.site.agent else {

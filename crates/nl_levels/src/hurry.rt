@@ -1,12 +1,13 @@
 //! What a unit is spent for, done at once where that can be.
 ghost use Rattle.std.specs.Prelude.{◌≡◌, ℕ, suc, ◌+◌, ◌-◌, ◌<◌, ◌≤◌, ◌∷◌, ◌++◌, [], true, Some, drop, length, slice_get, vec_len, IfOk};
-ghost use Rattle.nl_tree.specs.Tree.{label, parts};
+ghost use Rattle.nl_tree.specs.Tree.{label, parts, span};
 ghost use Rattle.nl_code.specs.Cases.{case_of};
 ghost use Rattle.nl_code.specs.Cases as case;
 ghost use Rattle.nl_code.specs.Code.{node_at};
-ghost use Rattle.nl_meaning.specs.Blocks.{statements};
+ghost use Rattle.nl_meaning.specs.Meaning.{limited};
 ghost use Rattle.nl_frames.specs.Seen.{ground, state_of};
-ghost use Rattle.nl_at_once.specs.declared.numbers.TheConstants.{MOST_NESTED as most_nested};
+ghost use Rattle.nl_at_once.specs.AtOnce.{far_left, inside_left};
+ghost use Rattle.nl_at_once.specs.declared.statements.TheConstants.{MOST_NESTED as most_nested};
 ghost use Rattle.nl_levels.specs.Rest.{rest, through, wished};
 ghost use Rattle.nl_levels.specs.Steady.{IsSteady, FocusFits};
 ghost use Rattle.nl_levels.specs.declared.focus.Focus.TheVariants.{Enter};
@@ -17,37 +18,81 @@ use crate::focus::{Focus, Wish};
 use crate::levels::Level;
 use crate::run::{follow, granted};
 use nl_agents::Store;
-use nl_at_once::numbers::MOST_NESTED;
+use nl_at_once::answers::do_answers;
 use nl_at_once::repeats::do_repeats;
-use nl_at_once::statements::{do_statement, do_statements};
+use nl_at_once::statements::{Done, Far, Inside, MOST_NESTED, do_statement, do_statements};
 use nl_at_once::turns::{Midway, do_turns};
 use nl_cases::blocks::next_statement;
-use nl_code::{Code, Op};
+use nl_code::{Code, Op, Over};
 use nl_fixed::NoMemory;
-use nl_frames::{BoxedTurns, Exit, Frame, Hands};
+use nl_frames::{BoxedAnswers, BoxedTurns, Exit, Frame, Gathered, Hands};
 use nl_value::Value;
+use std::alloc::Global;
 
-// A block goes on from where its statements stand.
+// The block of a word that chose it goes on from where its statements stand.
 #[inline(always)]
-#[tactic(auto, using(crate::proofs::Steadying::steady_on, crate::proofs::Following::comes_to))]
-fn from_midway<S: Store>(
+fn from_inside<S: Store>(
+    code: &Code,
+    hands: &mut Hands<S>,
+    levels: &mut Vec<Level>,
+    inside: Inside,
+) -> Result<Focus, NoMemory>
+    requires steady { IsSteady code.now hands.old levels.old.items }
+    ensures rest { IfOk result (λ focus. (room n : ℕ) → suc (length levels.old.items) < room →
+        rest code.now room levels.new.items focus (state_of code.now.names hands.new n)
+        ≡ through code.now room levels.old.items (inside_left code.now (room - length levels.old.items) inside
+        (state_of code.now.names hands.old n))) }
+    ensures depth { vec_len levels.new ≤ 2 + vec_len levels.old }
+    ensures steady { IfOk result (λ focus. IsSteady code.now hands.new levels.new.items) }
+    ensures focus { IfOk result (FocusFits (ground hands.new)) }
+{
+    let frame = Frame::Inside { node: inside.word };
+    levels.push(Level {
+        node: inside.word,
+        frame,
+    })?;
+    let next = next_statement(code, hands, inside.block, inside.at, inside.kept);
+    let focus = follow(code, hands, levels, inside.block, next)?;
+    Ok(focus)
+}
+
+// The statements of a block go on from where they stand.
+#[inline(always)]
+fn from_far<S: Store>(
     code: &Code,
     hands: &mut Hands<S>,
     levels: &mut Vec<Level>,
     block: u32,
-    midway: Midway,
+    kept: usize,
+    far: Far,
 ) -> Result<Focus, NoMemory>
     requires steady { IsSteady code.now hands.old levels.old.items }
-    ensures rest { IfOk result (λ focus. ComesTo code.now levels.old.items block
-        (λ prev s. statements prev midway.kept (drop midway.at (parts (node_at code.now block))) s)
-        levels.new.items focus hands.new hands.old) }
-    ensures depth { vec_len levels.new ≤ suc (vec_len levels.old) }
+    ensures rest { IfOk result (λ focus. (room n : ℕ) → 2 + length levels.old.items < room →
+        rest code.now room levels.new.items focus (state_of code.now.names hands.new n)
+        ≡ through code.now room levels.old.items (limited (span (node_at code.now block))
+        (far_left code.now (room - suc (length levels.old.items)) block kept far
+        (state_of code.now.names hands.old n)))) }
+    ensures depth { vec_len levels.new ≤ 3 + vec_len levels.old }
     ensures steady { IfOk result (λ focus. IsSteady code.now hands.new levels.new.items) }
     ensures focus { IfOk result (FocusFits (ground hands.new)) }
 {
-    let next = next_statement(code, hands, block, midway.at, midway.kept);
-    let focus = follow(code, hands, levels, block, next)?;
-    Ok(focus)
+    match far.inside {
+        None => {
+            let next = next_statement(code, hands, block, far.at, kept);
+            let focus = follow(code, hands, levels, block, next)?;
+            Ok(focus)
+        }
+        Some(inside) => {
+            let frame = Frame::Statement {
+                node: block,
+                at: far.at,
+                kept,
+            };
+            levels.push(Level { node: block, frame })?;
+            let focus = from_inside(code, hands, levels, inside)?;
+            Ok(focus)
+        }
+    }
 }
 
 // It goes on, or it is over.
@@ -61,7 +106,7 @@ fn after_block<S: Store>(
     midway: Option<Midway>,
 ) -> Result<Focus, NoMemory>
     requires steady { IsSteady code.now hands.old levels.old.items }
-    requires room { vec_len levels.old < limit }
+    requires room { 3 + vec_len levels.old < limit }
     ensures rest { IfOk result (λ focus. BlockGoesOn code.now limit levels.new.items focus hands.new
         levels.old.items block midway hands.old) }
     ensures depth { vec_len levels.new ≤ limit }
@@ -69,7 +114,7 @@ fn after_block<S: Store>(
     ensures focus { IfOk result (FocusFits (ground hands.new)) }
 {
     match midway {
-        Some(midway) => from_midway(code, hands, levels, block, midway),
+        Some(midway) => from_far(code, hands, levels, block, midway.kept, midway.far),
         None => Ok(Focus::Give(Exit::Gives(Value::Nobody))),
     }
 }
@@ -102,6 +147,7 @@ fn put_back<S: Store>(
 // A statement of a block is done at once, and with it those behind it.
 #[inline(always)]
 fn hurry_statement<S: Store>(
+    alloc: Global,
     code: &Code,
     hands: &mut Hands<S>,
     limit: usize,
@@ -123,23 +169,48 @@ fn hurry_statement<S: Store>(
     ensures steady { IfOk result (λ focus. IsSteady code.now hands.new levels.new.items) }
     ensures focus { IfOk result (FocusFits (ground hands.new)) }
 {
-    if !do_statement(code, hands, node, units) {
-        let frame = Frame::Statement {
-            node: block,
-            at,
-            kept,
-        };
-        let focus = put_back(code, hands, limit, levels, Level { node: top, frame }, node)?;
-        return Ok(focus);
-    }
-    let at = do_statements(code, hands, block, at, units);
+    let mut at = at;
+    let inside = match do_statement(alloc, code, hands, node, units) {
+        None => {
+            let frame = Frame::Statement {
+                node: block,
+                at,
+                kept,
+            };
+            return put_back(code, hands, limit, levels, Level { node: top, frame }, node);
+        }
+        Some(Done::Whole) => {
+            let far = do_statements(alloc, code, hands, block, at, units);
+            at = far.at;
+            far.inside
+        }
+        Some(Done::UpTo(inside)) => Some(inside),
+    };
     let frame = Frame::Statement {
         node: block,
         at,
         kept,
     };
     levels.push(Level { node: top, frame })?;
-    Ok(Focus::Give(Exit::Gives(Value::Nobody)))
+    match inside {
+        None => Ok(Focus::Give(Exit::Gives(Value::Nobody))),
+        Some(inside) => {
+            let focus = from_inside(code, hands, levels, inside)?;
+            Ok(focus)
+        }
+    }
+}
+
+// Whether a node is the part of another one at an index.
+#[inline(always)]
+fn is_part_of(code: &Code, whose: u32, index: u32, node: u32) -> bool
+    ensures { result ≡ true →
+        slice_get (parts (node_at code.now whose)) index ≡ Some (node_at code.now node) }
+{
+    match code.part(whose, index) {
+        Some(part) => part == node,
+        None => false,
+    }
 }
 
 // Whether a node is the part of another one at an index, and a block.
@@ -162,6 +233,7 @@ fn is_block_of(code: &Code, whose: u32, index: u32, node: u32) -> bool
 // Turns of an ask are taken at once.
 #[inline(always)]
 fn hurry_asked<S: Store>(
+    alloc: Global,
     code: &Code,
     hands: &mut Hands<S>,
     limit: usize,
@@ -191,7 +263,7 @@ fn hurry_asked<S: Store>(
         return put_back(code, hands, limit, levels, Level { node: top, frame }, node);
     }
     let mut turns = turns;
-    let midway = do_turns(code, hands, ask, index, node, &mut turns, units);
+    let midway = do_turns(alloc, code, hands, ask, index, node, &mut turns, units);
     let frame = Frame::Asked {
         node: ask,
         index,
@@ -205,6 +277,7 @@ fn hurry_asked<S: Store>(
 // Turns of `repeat` are taken at once.
 #[inline(always)]
 fn hurry_repeat<S: Store>(
+    alloc: Global,
     code: &Code,
     hands: &mut Hands<S>,
     limit: usize,
@@ -229,16 +302,83 @@ fn hurry_repeat<S: Store>(
         return put_back(code, hands, limit, levels, Level { node: top, frame }, node);
     }
     let mut left = left;
-    let midway = do_repeats(code, hands, word, node, &mut left, units);
+    let midway = do_repeats(alloc, code, hands, word, node, &mut left, units);
     let frame = Frame::RepeatTurn { node: word, left };
     levels.push(Level { node: top, frame })?;
     let focus = after_block(code, hands, limit, levels, node, midway)?;
     Ok(focus)
 }
 
+// Members answer at once.
+#[inline(always)]
+fn hurry_answering<S: Store>(
+    alloc: Global,
+    code: &Code,
+    hands: &mut Hands<S>,
+    limit: usize,
+    levels: &mut Vec<Level>,
+    top: u32,
+    whose: u32,
+    index: u32,
+    word: Over,
+    member: u64,
+    turns: BoxedTurns,
+    made: BoxedAnswers,
+    gathered: Gathered,
+    node: u32,
+    units: &mut u64,
+) -> Result<Focus, NoMemory>
+    requires steady { IsSteady code.now hands.old
+        (above levels.old.items top (frame.Answering whose index word member turns made gathered)) }
+    requires room { suc (suc most_nested) + vec_len levels.old < limit }
+    ensures rest { IfOk result (λ focus. GoesTo code.now limit levels.new.items focus hands.new units.new
+        (above levels.old.items top (frame.Answering whose index word member turns made gathered))
+        (Enter node) hands.old units.old) }
+    ensures left { units.new ≤ units.old }
+    ensures depth { vec_len levels.new ≤ limit }
+    ensures steady { IfOk result (λ focus. IsSteady code.now hands.new levels.new.items) }
+    ensures focus { IfOk result (FocusFits (ground hands.new)) }
+{
+    let mut member = member;
+    let mut turns = turns;
+    let mut made = made;
+    let value = if is_part_of(code, whose, index, node) {
+        do_answers(
+            alloc,
+            code,
+            hands,
+            whose,
+            index,
+            node,
+            word,
+            &mut member,
+            &mut turns,
+            &mut made,
+            units,
+        )
+    } else {
+        None
+    };
+    let frame = Frame::Answering {
+        node: whose,
+        index,
+        word,
+        member,
+        turns,
+        made,
+        gathered,
+    };
+    levels.push(Level { node: top, frame })?;
+    match value {
+        Some(value) => Ok(Focus::Give(Exit::Gives(value))),
+        None => Ok(Focus::Enter(node)),
+    }
+}
+
 // A node under this level is done at once so far as that goes, or is evaluated.
 #[inline(always)]
 fn hurry_under<S: Store>(
+    alloc: Global,
     code: &Code,
     hands: &mut Hands<S>,
     limit: usize,
@@ -264,7 +404,7 @@ fn hurry_under<S: Store>(
             kept,
         } => {
             hurry_statement(
-                code, hands, limit, levels, top, block, at, kept, node, units,
+                alloc, code, hands, limit, levels, top, block, at, kept, node, units,
             )
         }
         Frame::Asked {
@@ -273,11 +413,25 @@ fn hurry_under<S: Store>(
             turns,
         } => {
             hurry_asked(
-                code, hands, limit, levels, top, ask, index, turns, node, units,
+                alloc, code, hands, limit, levels, top, ask, index, turns, node, units,
+            )
+        }
+        Frame::Answering {
+            node: whose,
+            index,
+            word,
+            member,
+            turns,
+            made,
+            gathered,
+        } => {
+            hurry_answering(
+                alloc, code, hands, limit, levels, top, whose, index, word, member, turns, made, gathered,
+                node, units,
             )
         }
         Frame::RepeatTurn { node: word, left } => {
-            hurry_repeat(code, hands, limit, levels, top, word, left, node, units)
+            hurry_repeat(alloc, code, hands, limit, levels, top, word, left, node, units)
         }
         frame => put_back(code, hands, limit, levels, Level { node: top, frame }, node),
     }
@@ -288,7 +442,10 @@ fn hurry_under<S: Store>(
 fn may_hurry(levels: &[Level]) -> bool {
     match levels.last() {
         Some(level) => match &level.frame {
-            Frame::Statement { .. } | Frame::Asked { .. } | Frame::RepeatTurn { .. } => true,
+            Frame::Statement { .. }
+            | Frame::Asked { .. }
+            | Frame::RepeatTurn { .. }
+            | Frame::Answering { .. } => true,
             _ => false,
         },
         None => false,
@@ -298,6 +455,7 @@ fn may_hurry(levels: &[Level]) -> bool {
 // A node is done at once so far as that goes, or is evaluated.
 #[inline(never)]
 fn hurry_node<S: Store>(
+    alloc: Global,
     code: &Code,
     hands: &mut Hands<S>,
     limit: usize,
@@ -318,7 +476,7 @@ fn hurry_node<S: Store>(
         return Ok(Focus::Enter(node));
     }
     match levels.pop() {
-        Some(level) => hurry_under(code, hands, limit, levels, level, node, units),
+        Some(level) => hurry_under(alloc, code, hands, limit, levels, level, node, units),
         None => Ok(Focus::Enter(node)),
     }
 }
@@ -326,6 +484,7 @@ fn hurry_node<S: Store>(
 /// What comes where the unit that was wanted is spent: what can be done at once is done, with further units.
 #[inline(always)]
 pub(crate) fn hurry<S: Store>(
+    alloc: Global,
     code: &Code,
     hands: &mut Hands<S>,
     limit: usize,
@@ -345,7 +504,7 @@ pub(crate) fn hurry<S: Store>(
     ensures focus { IfOk result (FocusFits (ground hands.new)) }
 {
     match wish {
-        Wish::Node(node) => hurry_node(code, hands, limit, levels, node, units),
+        Wish::Node(node) => hurry_node(alloc, code, hands, limit, levels, node, units),
         Wish::Tick => Ok(granted(wish)),
     }
 }

@@ -318,7 +318,7 @@ pub fn spend_units<S: Store>(
                     return Ok((Stop::Wanted(wish), 0));
                 }
                 left -= 1;
-                focus = hurry(code, hands, limit, levels, wish, &mut left)?;
+                focus = hurry(alloc, code, hands, limit, levels, wish, &mut left)?;
             }
         }
     }

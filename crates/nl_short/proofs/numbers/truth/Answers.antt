@@ -2,8 +2,8 @@
 use Rattle.nl_value.specs.Plain.{PlainNumber, PlainTruth}
 use Rattle.nl_code.specs.Code.{node_at}
 use Rattle.nl_frames.specs.Seen.{state_of}
-use Rattle.nl_at_once.proofs.Words.{nested}
-use Rattle.nl_at_once.proofs.numbers.truth.Goals as goal
+use Rattle.nl_short.proofs.Words.{nested}
+use Rattle.nl_short.proofs.numbers.truth.Goals as goal
 
 pub returns-in-Some-Some : goal.returns-in-Some-Some
 returns-in-Some-Some g c = λ room n some.

@@ -2,7 +2,7 @@
 use Rattle.std.proofs.Common.{ap}
 use Rattle.nl_acts.specs.Acts.{is_gone}
 use Rattle.nl_frames.proofs.Living.{owner_lives}
-use Rattle.nl_at_once.proofs.running.lives_and_may_run.Goals as goal
+use Rattle.nl_short.proofs.running.lives_and_may_run.Goals as goal
 
 pub returns-in-Patch-clause-lives : goal.returns-in-Patch-clause-lives
 returns-in-Patch-clause-lives g c runs =

@@ -4,8 +4,8 @@ use Rattle.nl_value.specs.Views.{plain}
 use Rattle.nl_acts.specs.declared.fail.ErrorKind.TheVariants.{WrongType}
 use Rattle.nl_meaning.specs.State.{found}
 use Rattle.nl_frames.specs.Seen.{state_of}
-use Rattle.nl_at_once.proofs.Words.{is_number, where_some}
-use Rattle.nl_at_once.proofs.numbers.number_apart.Goals as goal
+use Rattle.nl_short.proofs.Words.{is_number, where_some}
+use Rattle.nl_short.proofs.numbers.number_apart.Goals as goal
 
 pub returns-in-Gives : goal.returns-in-Gives
 returns-in-Gives g c = where_some _ c.number_of.result (λ number there n.

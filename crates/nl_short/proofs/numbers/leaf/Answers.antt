@@ -8,8 +8,8 @@ use Rattle.nl_code.specs.Cases as case
 use Rattle.nl_meaning.specs.Variables.{local_value, read_apart}
 use Rattle.nl_meaning.specs.Meaning.{limited}
 use Rattle.nl_frames.specs.Seen.{state_of}
-use Rattle.nl_at_once.proofs.Words.{given, number_found}
-use Rattle.nl_at_once.proofs.numbers.leaf.Goals as goal
+use Rattle.nl_short.proofs.Words.{given, number_found}
+use Rattle.nl_short.proofs.numbers.leaf.Goals as goal
 
 pub returns-in-Number : goal.returns-in-Number
 returns-in-Number g c room n =

@@ -4,8 +4,8 @@ use Rattle.std.proofs.lemmas.Option.{IfSome_then}
 use Rattle.nl_value.specs.Plain.{PlainNumber}
 use Rattle.nl_agents.specs.Changes.{value_of}
 use Rattle.nl_frames.specs.Seen.{state_of}
-use Rattle.nl_at_once.proofs.Words.{owned_read}
-use Rattle.nl_at_once.proofs.numbers.number_owned.Goals as goal
+use Rattle.nl_short.proofs.Words.{owned_read}
+use Rattle.nl_short.proofs.numbers.number_owned.Goals as goal
 
 pub returns : goal.returns
 returns g c = IfSome_then c.number_in.result c.number_in.ensures (λ number is code n place.

@@ -1,8 +1,8 @@
 -- A word of what its two parts give, which are nodes without parts.
 use Rattle.nl_code.specs.Code.{node_at}
 use Rattle.nl_frames.specs.Seen.{state_of}
-use Rattle.nl_at_once.proofs.Words.{both_had}
-use Rattle.nl_at_once.proofs.numbers.number_of_leaves.Goals as goal
+use Rattle.nl_short.proofs.Words.{both_had}
+use Rattle.nl_short.proofs.numbers.number_of_leaves.Goals as goal
 
 pub returns-in-Some : goal.returns-in-Some
 returns-in-Some g c =

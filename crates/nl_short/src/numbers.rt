@@ -1,21 +1,26 @@
-//! Numbers and truths that are had at once.
-ghost use Rattle.std.specs.Prelude.{◌≡◌, [], ◌∷◌, ℕ, ℤ, suc, Bool, Some, Ok, IfSome, IsSome, option_map};
+//! Numbers that are had at once.
+ghost use Rattle.std.specs.Prelude.{◌≡◌, [], ◌∷◌, ℕ, ℤ, suc, Some, Ok, IfSome, IsSome, option_map};
 ghost use Rattle.std.specs.Option.{option_copied};
 ghost use Rattle.nl_fixed.specs.declared.span.Span.{Span as Place};
-ghost use Rattle.nl_value.specs.Plain.{PlainNumber, PlainTruth};
-ghost use Rattle.nl_value.specs.Living.{Living};
+ghost use Rattle.nl_value.specs.Plain.{Plain, PlainNumber};
 ghost use Rattle.nl_value.specs.Views.{plain};
-ghost use Rattle.nl_tree.specs.Tree.{parts};
+ghost use Rattle.nl_tree.specs.Tree.{label, parts};
+ghost use Rattle.nl_query.specs.declared.words.OfSet.TheVariants as of_set;
+ghost use Rattle.nl_query.specs.declared.words.QueryWord.TheVariants as query;
+ghost use Rattle.nl_acts.specs.declared.words.Act.TheVariants as act;
+ghost use Rattle.nl_code.specs.declared.words.Built.TheVariants as built;
+ghost use Rattle.nl_code.specs.Cases as case;
+ghost use Rattle.nl_code.specs.Cases.{case_of};
 ghost use Rattle.nl_listops.specs.Arithmetic.{number_of_two};
-ghost use Rattle.nl_listops.specs.Truths.{comparison_of};
 ghost use Rattle.nl_code.specs.Code.{Code as Nodes, node_at};
 ghost use Rattle.nl_meaning.specs.Meaning.{evaluator};
-ghost use Rattle.nl_meaning.specs.State.{gives};
+ghost use Rattle.nl_meaning.specs.State.{State, gives};
 ghost use Rattle.nl_meaning.specs.Variables.{read_owned, read_apart};
 ghost use Rattle.nl_frames.specs.Seen.{state_of};
 ghost use Rattle.nl_frames.specs.Standing.{HandsFit};
-ghost use Rattle.nl_at_once.specs.AtOnce.{IsHad};
+ghost use Rattle.nl_short.specs.Had.{IsHad};
 
+use crate::members::count;
 use crate::running::{lives_and_may_run, may_run};
 use nl_acts::Act;
 use nl_agents::Store;
@@ -24,13 +29,12 @@ use nl_fixed::{Num, NumFault, Span};
 use nl_frames::ends::number_of;
 use nl_frames::{Exit, Hands};
 use nl_listops::ValueWord;
-use nl_listops::words::{Comparison, OfNumbers};
+use nl_listops::words::OfNumbers;
+use nl_query::words::{OfSet, QueryWord};
 use nl_value::Value;
 use nl_variables::variables::{global, local, owner_of, read_apart};
 use nl_words::Kinds;
-
-/// So many nodes at most stand in each other where something is done at once, beside the block in which it stands.
-pub const MOST_NESTED: usize = 5;
+use std::alloc::Global;
 
 // ---- variables
 
@@ -103,10 +107,38 @@ fn of_two(which: OfNumbers, a: Num, b: Num) -> Option<Num>
     }
 }
 
-// The number that a node gives which has no parts: one that is written, or that of a variable.
-fn leaf<S: Store>(code: &Code, hands: &Hands<S>, node: u32) -> Option<Num>
+// How many members a set has, as a number.
+#[inline(never)]
+fn number_of_members<S: Store>(
+    alloc: Global,
+    code: &Code,
+    hands: &Hands<S>,
+    node: u32,
+    runs: Kinds,
+    breed: Option<u32>,
+) -> Option<Num>
+    requires fit { HandsFit hands.now }
+    requires is { case_of code.now.program.declared (label (node_at code.now node))
+        ≡ case.Word runs breed (built.Act (act.Query (query.OfSet of_set.Count))) }
+    ensures { IfSome result (λ number. IsHad code.now hands.now node 2 (PlainNumber number)) }
+{
+    if !may_run(hands, runs) {
+        return None;
+    }
+    let Some(part) = one_part(code, node) else {
+        return None;
+    };
+    let Some(many) = count(alloc, code, hands, part) else {
+        return None;
+    };
+    Num::whole(many as i64)
+}
+
+// The number that a node gives which has no parts that give numbers: one that is written, that of a variable, or how many members a set
+// has.
+fn leaf<S: Store>(alloc: Global, code: &Code, hands: &Hands<S>, node: u32) -> Option<Num>
     requires { HandsFit hands.now }
-    ensures { IfSome result (λ number. IsHad code.now hands.now node 0 (PlainNumber number)) }
+    ensures { IfSome result (λ number. IsHad code.now hands.now node 2 (PlainNumber number)) }
 {
     match code.op(node) {
         Op::Number(number) => Some(number),
@@ -114,13 +146,29 @@ fn leaf<S: Store>(code: &Code, hands: &Hands<S>, node: u32) -> Option<Num>
         Op::Global(slot) => number_in(global(hands, slot)),
         Op::Owned { runs, slot } => number_owned(hands, runs, slot),
         Op::Aside { runs, which } => number_apart(code, hands, code.span(node), runs, which),
+        Op::Word {
+            runs,
+            breed,
+            word: Built::Act(Act::Query(QueryWord::OfSet(OfSet::Count))),
+        } => number_of_members(alloc, code, hands, node, runs, breed),
         _ => None,
     }
 }
 
+// The part of a node that has no others.
+#[inline(always)]
+pub(crate) fn one_part(code: &Code, node: u32) -> Option<u32>
+    ensures { IfSome result (λ part. parts (node_at code.now node) ≡ node_at code.now part ∷ []) }
+{
+    if code.count(node) != 1 {
+        return None;
+    }
+    code.part(node, 0)
+}
+
 // The two parts of a node that has no others.
 #[inline(always)]
-fn two_parts(code: &Code, node: u32) -> Option<(u32, u32)>
+pub(crate) fn two_parts(code: &Code, node: u32) -> Option<(u32, u32)>
     ensures { IfSome result (λ r.
         parts (node_at code.now node) ≡ node_at code.now r.0 ∷ node_at code.now r.1 ∷ []) }
 {
@@ -182,118 +230,80 @@ fn of_both(which: OfNumbers, a: Option<Num>, b: Option<Num>) -> Option<Num>
     }
 }
 
-// The same of a word of two such numbers.
-fn number_of_leaves<S: Store>(code: &Code, hands: &Hands<S>, node: u32) -> Option<Num>
-    requires { HandsFit hands.now }
-    ensures { IfSome result (λ number. IsHad code.now hands.now node 1 (PlainNumber number)) }
+// What stands in parentheses, or in a block of one expression.
+#[inline(always)]
+pub(crate) fn inside_of(code: &Code, node: u32) -> Option<u32>
+    ensures { IfSome result (λ part. (room : ℕ) (s t : State) (value : Plain) →
+        evaluator code.now.program room (node_at code.now part) s ≡ gives value t →
+        evaluator code.now.program (suc room) (node_at code.now node) s ≡ gives value t) }
 {
-    match word_of_two(code, hands, node) {
-        Some(word) => of_both(
-            word.which,
-            leaf(code, hands, word.left),
-            leaf(code, hands, word.right),
-        ),
-        None => leaf(code, hands, node),
+    match code.op(node) {
+        Op::Inside => code.part(node, 0),
+        _ => None,
     }
 }
 
-// The same of a word of two such again.
-fn number_of_words<S: Store>(code: &Code, hands: &Hands<S>, node: u32) -> Option<Num>
-    requires { HandsFit hands.now }
-    ensures { IfSome result (λ number. IsHad code.now hands.now node 2 (PlainNumber number)) }
-{
-    match word_of_two(code, hands, node) {
-        Some(word) => of_both(
-            word.which,
-            number_of_leaves(code, hands, word.left),
-            number_of_leaves(code, hands, word.right),
-        ),
-        None => leaf(code, hands, node),
-    }
-}
-
-/// The number that a node gives, where it is had at once: a number that is written, that of a variable, or what words make of two such, at
-/// most three in each other.
-pub fn number<S: Store>(code: &Code, hands: &Hands<S>, node: u32) -> Option<Num>
+// The number of a leaf, of a word of two leaves, or of a leaf in parentheses.
+fn number_of_leaves<S: Store>(
+    alloc: Global,
+    code: &Code,
+    hands: &Hands<S>,
+    node: u32,
+) -> Option<Num>
     requires { HandsFit hands.now }
     ensures { IfSome result (λ number. IsHad code.now hands.now node 3 (PlainNumber number)) }
 {
-    match word_of_two(code, hands, node) {
-        Some(word) => of_both(
+    if let Some(word) = word_of_two(code, hands, node) {
+        return of_both(
             word.which,
-            number_of_words(code, hands, word.left),
-            number_of_words(code, hands, word.right),
-        ),
-        None => leaf(code, hands, node),
+            leaf(alloc, code, hands, word.left),
+            leaf(alloc, code, hands, word.right),
+        );
+    }
+    match inside_of(code, node) {
+        Some(part) => leaf(alloc, code, hands, part),
+        None => leaf(alloc, code, hands, node),
     }
 }
 
-// ---- truths
-
-// How two numbers compare.
-#[inline(always)]
-fn comparison(which: Comparison, a: Num, b: Num) -> bool
-    ensures { (w : Living) → comparison_of w which (PlainNumber a) (PlainNumber b) ≡ Ok result }
-{
-    match which {
-        Comparison::Equal => a == b,
-        Comparison::NotEqual => a != b,
-        Comparison::Less => a < b,
-        Comparison::Greater => a > b,
-        Comparison::LessEqual => a <= b,
-        Comparison::GreaterEqual => a >= b,
-    }
-}
-
-/// A word that compares two values, and its parts.
-#[derive(Clone, Copy)]
-struct Compared {
-    which: Comparison,
-    left: u32,
-    right: u32,
-}
-
-// The word that compares which a node is, where the agent that runs may run it.
-#[inline(always)]
-fn word_that_compares<S: Store>(code: &Code, hands: &Hands<S>, node: u32) -> Option<Compared>
-    ensures { IfSome result (λ word. (room n : ℕ) (a b : ℤ) (truth : Bool) →
-        let s = state_of code.now.names hands.now n in
-        let prev = evaluator code.now.program room in
-        prev (node_at code.now word.left) s ≡ gives (PlainNumber a) s →
-        prev (node_at code.now word.right) s ≡ gives (PlainNumber b) s →
-        ((w : Living) → comparison_of w word.which (PlainNumber a) (PlainNumber b) ≡ Ok truth) →
-        evaluator code.now.program (suc room) (node_at code.now node) s ≡ gives (PlainTruth truth) s) }
-{
-    let Op::Word {
-        runs,
-        word: Built::Act(Act::Value(ValueWord::Compare(which))),
-        ..
-    } = code.op(node)
-    else {
-        return None;
-    };
-    if !may_run(hands, runs) {
-        return None;
-    }
-    match two_parts(code, node) {
-        Some((left, right)) => Some(Compared { which, left, right }),
-        None => None,
-    }
-}
-
-/// The truth that a node gives which compares two numbers, where these are had at once.
-pub fn truth<S: Store>(code: &Code, hands: &Hands<S>, node: u32) -> Option<bool>
+// The same of such numbers again.
+fn number_of_words<S: Store>(
+    alloc: Global,
+    code: &Code,
+    hands: &Hands<S>,
+    node: u32,
+) -> Option<Num>
     requires { HandsFit hands.now }
-    ensures { IfSome result (λ truth. IsHad code.now hands.now node 4 (PlainTruth truth)) }
+    ensures { IfSome result (λ number. IsHad code.now hands.now node 4 (PlainNumber number)) }
 {
-    let Some(word) = word_that_compares(code, hands, node) else {
-        return None;
-    };
-    match (
-        number(code, hands, word.left),
-        number(code, hands, word.right),
-    ) {
-        (Some(a), Some(b)) => Some(comparison(word.which, a, b)),
-        _ => None,
+    if let Some(word) = word_of_two(code, hands, node) {
+        return of_both(
+            word.which,
+            number_of_leaves(alloc, code, hands, word.left),
+            number_of_leaves(alloc, code, hands, word.right),
+        );
+    }
+    match inside_of(code, node) {
+        Some(part) => number_of_leaves(alloc, code, hands, part),
+        None => leaf(alloc, code, hands, node),
+    }
+}
+
+/// The number that a node gives, where it is had at once: a number that is written, that of a variable, how many members a set has, or
+/// what words make of two such, at most three in each other, where parentheses count as a word.
+pub fn number<S: Store>(alloc: Global, code: &Code, hands: &Hands<S>, node: u32) -> Option<Num>
+    requires { HandsFit hands.now }
+    ensures { IfSome result (λ number. IsHad code.now hands.now node 5 (PlainNumber number)) }
+{
+    if let Some(word) = word_of_two(code, hands, node) {
+        return of_both(
+            word.which,
+            number_of_words(alloc, code, hands, word.left),
+            number_of_words(alloc, code, hands, word.right),
+        );
+    }
+    match inside_of(code, node) {
+        Some(part) => number_of_words(alloc, code, hands, part),
+        None => leaf(alloc, code, hands, node),
     }
 }

@@ -1,0 +1,151 @@
+//! Answers of members that are had at once.
+ghost use Rattle.std.specs.Prelude.{◌≡◌, ◌+◌, ◌∷◌, ◌++◌, ◌<◌, ◌≤◌, ℕ, Some, IfSome, option_map, drop, slice_get};
+ghost use Rattle.nl_value.specs.Views.{plain};
+ghost use Rattle.nl_tree.specs.Tree.{parts};
+ghost use Rattle.nl_code.specs.Code.{node_at};
+ghost use Rattle.nl_meaning.specs.Meaning.{evaluator};
+ghost use Rattle.nl_meaning.specs.Walks.{members_kept};
+ghost use Rattle.nl_frames.specs.Means.{Stands};
+ghost use Rattle.nl_frames.specs.Seen.{ground, state_of};
+ghost use Rattle.nl_frames.specs.Standing.{AnsweringFits, HandsFit, MembersAscend};
+ghost use Rattle.nl_frames.specs.declared.turns.Gathered.{Gathered as How};
+ghost use Rattle.nl_short.specs.Had.{IsHad};
+ghost use Rattle.nl_at_once.specs.AtOnce.{answering, short_plain, value_or_block};
+ghost use Rattle.nl_at_once.specs.declared.statements.TheConstants.{MOST_NESTED as most_nested};
+
+use nl_agents::Store;
+use nl_answers::replies::{Reply, reply_to};
+use nl_code::{Code, Over};
+use nl_fixed::Num;
+use nl_frames::{Answered, BoxedAnswers, BoxedTurns, Hands};
+use nl_meaning::Site;
+use nl_short::numbers::number;
+use nl_short::truths::truth;
+use nl_turns::living::{first_living, member_at, owner_of};
+use nl_value::Value;
+use std::alloc::Global;
+
+/// A value that is had at once.
+#[derive(Clone, Copy)]
+enum Short {
+    Truth(bool),
+    Number(Num),
+}
+
+impl Short {
+    // The same as a value.
+    #[inline(always)]
+    fn value(self) -> Value
+        ensures { plain result ≡ short_plain self }
+    {
+        match self {
+            Short::Truth(truth) => Value::Truth(truth),
+            Short::Number(number) => Value::Number(number),
+        }
+    }
+}
+
+// The value that a block gives, where it is had at once.
+#[inline(always)]
+fn short_of<S: Store>(alloc: Global, code: &Code, hands: &Hands<S>, block: u32) -> Option<Short>
+    requires { HandsFit hands.now }
+    ensures { IfSome result (λ short. IsHad code.now hands.now block 9 (short_plain short)) }
+{
+    match truth(alloc, code, hands, block) {
+        Some(truth) => Some(Short::Truth(truth)),
+        None => match number(alloc, code, hands, block) {
+            Some(number) => Some(Short::Number(number)),
+            None => None,
+        },
+    }
+}
+
+// The answer is kept or passed over, and the next member runs, for a unit, if there are both; else all is as it was.
+#[inline(always)]
+fn next_answer<S: Store>(
+    hands: &mut Hands<S>,
+    word: Over,
+    short: Short,
+    member: &mut u64,
+    turns: &mut BoxedTurns,
+    made: &mut BoxedAnswers,
+    units: &mut u64,
+) -> bool {
+    if *units == 0 {
+        return false;
+    }
+    // What the numbers of patches rest on: the store stands for a world.
+    let _stands = hands.stage.store.shape();
+    let all = turns.get();
+    let members = all.members.as_slice();
+    let Some(at) = first_living(&hands.stage.store, all.which, members, all.at) else {
+        return false;
+    };
+    let Some(next) = member_at(members, at) else {
+        return false;
+    };
+    let site = Site {
+        agent: owner_of(all.which, next),
+        asker: all.site.agent,
+        body: all.site.body,
+    };
+    match reply_to(word, &short.value()) {
+        Reply::Pass => {}
+        Reply::Keep => {
+            let answer = Answered {
+                member: *member,
+                value: short.value(),
+            };
+            if let Err(_) = made.push(answer) {
+                return false;
+            }
+        }
+        Reply::Decide(_) | Reply::Refuse => return false,
+    }
+    turns.go_to(at + 1);
+    hands.site = site;
+    *member = next;
+    *units -= 1;
+    true
+}
+
+/// Members answer, of which the first one has its unit, so far as that is done at once: where a value is given, it is that of the member at
+/// which they stand, and else this one's block is still to be evaluated.
+pub fn do_answers<S: Store>(
+    alloc: Global,
+    code: &Code,
+    hands: &mut Hands<S>,
+    node: u32,
+    index: u32,
+    block: u32,
+    word: Over,
+    member: &mut u64,
+    turns: &mut BoxedTurns,
+    made: &mut BoxedAnswers,
+    units: &mut u64,
+) -> Option<Value>
+    requires fit { HandsFit hands.old }
+    requires answering { AnsweringFits (ground hands.old) member.old turns.old made.old }
+    requires block { slice_get (parts (node_at code.now node)) index ≡ Some (node_at code.now block) }
+    ensures done { (how : How) (room n : ℕ) → most_nested < room → let prev = evaluator code.now.program room in
+        answering code.now prev (node_at code.now node) index word how member.old turns.old made.old
+        (prev (node_at code.now block) (state_of code.now.names hands.old (units.old + n)))
+        ≡ answering code.now prev (node_at code.now node) index word how member.new turns.new made.new
+        (value_or_block code.now prev block (option_map plain result)
+        (state_of code.now.names hands.new (units.new + n))) }
+    ensures answering { AnsweringFits (ground hands.new) member.new turns.new made.new }
+    ensures ascend { (how : How) →
+        MembersAscend how (members_kept made.old ++ member.old ∷ drop turns.old.at turns.old.members) →
+        MembersAscend how (members_kept made.new ++ member.new ∷ drop turns.new.at turns.new.members) }
+    ensures left { units.new ≤ units.old }
+    ensures stands { Stands hands.new hands.old }
+{
+    'answers: loop {
+        let Some(short) = short_of(alloc, code, hands, block) else {
+            return None;
+        };
+        if !next_answer(hands, word, short, member, turns, made, units) {
+            return Some(short.value());
+        }
+    }
+}

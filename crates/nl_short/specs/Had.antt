@@ -1,0 +1,49 @@
+-- What is had at once: it is what the meaning of texts says of a node, wherever there is room for so many nodes in each other.
+use Rattle.std.specs.Prelude.{◌≡◌, ℕ, ◌<◌, Bool, true, false, List, length}
+use Rattle.nl_fixed.specs.Nouns.{Names}
+use Rattle.nl_value.specs.Plain.{Plain, PlainSet}
+use Rattle.nl_value.specs.Sets.{set_kind}
+use Rattle.nl_value.specs.declared.sets.AgentKind.{AgentKind}
+use Rattle.nl_value.specs.declared.sets.AgentSet.{AgentSet}
+use Rattle.nl_agents.specs.Members.{members_of}
+use Rattle.nl_agents.specs.declared.store.Store.{Ghosts}
+use Rattle.nl_code.specs.Code.{Code, node_at}
+use Rattle.nl_tree.specs.Tree.{Node}
+use Rattle.nl_meaning.specs.State.{State, Outcome, Eval, gives}
+use Rattle.nl_meaning.specs.Blocks.{and_case, or_case}
+use Rattle.nl_meaning.specs.Walks.{at_stream}
+use Rattle.nl_meaning.specs.Meaning.{evaluator}
+use Rattle.nl_frames.specs.Seen.{state_of}
+use Rattle.nl_frames.specs.declared.hands.Hands.{Hands}
+
+-- the node gives the value, and changes nothing
+abbrev pub IsHad : {S : Type 0} {G : Ghosts S} → Code → Hands S G → ℕ → ℕ → Plain → Type 0
+IsHad c h node nested value =
+    (room n : ℕ) → nested < room →
+    evaluator c.program room (node_at c node) (state_of c.names h n) ≡ gives value (state_of c.names h n)
+
+-- the node gives a set of agents of the kind, of which these are the living members, and changes nothing
+abbrev pub GivesMembers : {S : Type 0} {G : Ghosts S} → Code → Hands S G → ℕ → ℕ → AgentKind → List ℕ → Type 0
+GivesMembers {G = g} c h node nested kind members =
+    (set : AgentSet) × IsHad c h node nested (PlainSet set) × (set_kind set ≡ kind) × (members_of (g.world h.stage.store).rest set ≡ members)
+
+-- the node gives a set of so many living members, and changes nothing
+abbrev pub GivesSoMany : {S : Type 0} {G : Ghosts S} → Code → Hands S G → ℕ → ℕ → ℕ → Type 0
+GivesSoMany {G = g} c h node nested many =
+    (set : AgentSet) × IsHad c h node nested (PlainSet set) × (length (members_of (g.world h.stage.store).rest set) ≡ many)
+
+-- the node gives the value, and draws what it draws
+abbrev pub IsDrawn : {S : Type 0} {G : Ghosts S} → Code → (after before : Hands S G) → ℕ → ℕ → Plain → Type 0
+IsDrawn c after before node nested value =
+    (room n : ℕ) → nested < room →
+    evaluator c.program room (node_at c node) (state_of c.names before n) ≡ gives value (state_of c.names after n)
+
+-- nothing is changed but the stream, as far as a text could see
+abbrev pub OnlyDraws : {S : Type 0} {G : Ghosts S} → (after before : Hands S G) → Type 0
+OnlyDraws after before =
+    (names : Names) (n : ℕ) → state_of names after n ≡ at_stream after.stage.stream (state_of names before n)
+
+-- what two truths give of which the right one isn't looked at where the left one decides: that of `and` where false decides, and of `or` where true
+abbrev pub two_truths_case : Bool → Eval → Node → State → Outcome
+two_truths_case true prev t s = or_case prev t s
+two_truths_case false prev t s = and_case prev t s
