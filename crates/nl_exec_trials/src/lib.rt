@@ -20,6 +20,8 @@ mod playing;
 #[cfg(test)]
 mod rows;
 #[cfg(test)]
+mod short;
+#[cfg(test)]
 mod statements;
 #[cfg(test)]
 mod walks;
