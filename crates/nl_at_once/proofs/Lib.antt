@@ -3,3 +3,4 @@ mod Stepping
 mod Controls
 mod Going
 mod Taking
+mod Answering

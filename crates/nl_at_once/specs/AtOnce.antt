@@ -1,5 +1,5 @@
 -- What is done at once: it comes to what the meaning of texts says of it, wherever there is room for so many nodes in each other.
-use Rattle.std.specs.Prelude.{◌≡◌, Bool, true, false, ℕ, ◌+◌, ◌-◌, ◌<◌, List, Option, Some, None, drop}
+use Rattle.std.specs.Prelude.{◌≡◌, Bool, true, false, ℕ, ◌+◌, ◌-◌, ◌<◌, List, [], ◌∷◌, ◌++◌, Option, Some, None, drop}
 use Rattle.nl_fixed.specs.Nouns.{Names}
 use Rattle.nl_value.specs.Plain.{Plain, PlainNumber, PlainTruth}
 use Rattle.nl_tree.specs.Tree.{Node, parts, span}
@@ -9,7 +9,7 @@ use Rattle.nl_agents.specs.declared.store.Store.{Ghosts}
 use Rattle.nl_code.specs.Code.{Code, node_at}
 use Rattle.nl_meaning.specs.State.{State, Outcome, Eval, gives, goes_on, ◌>>=◌}
 use Rattle.nl_meaning.specs.Blocks.{leaving, statements, turns}
-use Rattle.nl_meaning.specs.Walks.{Answer, replied, reply_to, valued}
+use Rattle.nl_meaning.specs.Walks.{Answer, Reply, Keep, Pass, Decide, Refuse, replied, reply_to, valued}
 use Rattle.nl_meaning.specs.Meaning.{evaluator, limited}
 use Rattle.nl_frames.specs.Seen.{state_of}
 use Rattle.nl_frames.specs.declared.hands.Hands.{Hands}
@@ -94,6 +94,13 @@ abbrev pub answering : Code → Eval → Node → ℕ → Over → Gathered → 
 answering c prev t index word what member turns made o =
     valued turns.site (span t) o (λ value s. replied (reply_to word value) (span t) member value made s (λ more s1.
     gathered_from prev t index word what turns more s1))
+
+-- the answers with this one, where it is kept, or without it, where it is passed over; none where all ends
+abbrev pub told_by : Reply → ℕ → Plain → List Answer → Option (List Answer)
+told_by Keep member value made = Some (made ++ record { member = member; value = value } ∷ [])
+told_by Pass member value made = Some made
+told_by (Decide answer) member value made = None
+told_by Refuse member value made = None
 
 -- the value that is there, or the block that is still to be evaluated
 abbrev pub value_or_block : Code → Eval → ℕ → Option Plain → State → Outcome

@@ -1,16 +1,17 @@
 //! Answers of members that are had at once.
-ghost use Rattle.std.specs.Prelude.{◌≡◌, ◌+◌, ◌∷◌, ◌++◌, ◌<◌, ◌≤◌, ℕ, Some, IfSome, option_map, drop, slice_get};
+ghost use Rattle.std.specs.Prelude.{◌≡◌, ◌+◌, ◌∷◌, ◌++◌, ◌<◌, ◌≤◌, ℕ, Some, IfSome, option_map, drop, slice_get, true, false};
 ghost use Rattle.nl_value.specs.Views.{plain};
 ghost use Rattle.nl_tree.specs.Tree.{parts};
 ghost use Rattle.nl_code.specs.Code.{node_at};
 ghost use Rattle.nl_meaning.specs.Meaning.{evaluator};
-ghost use Rattle.nl_meaning.specs.Walks.{members_kept};
+ghost use Rattle.nl_meaning.specs.State.{Eval, gives};
+ghost use Rattle.nl_meaning.specs.Walks.{members_kept, reply_to};
 ghost use Rattle.nl_frames.specs.Means.{Stands};
 ghost use Rattle.nl_frames.specs.Seen.{ground, state_of};
 ghost use Rattle.nl_frames.specs.Standing.{AnsweringFits, HandsFit, MembersAscend};
 ghost use Rattle.nl_frames.specs.declared.turns.Gathered.{Gathered as How};
 ghost use Rattle.nl_short.specs.Had.{IsHad};
-ghost use Rattle.nl_at_once.specs.AtOnce.{answering, short_plain, value_or_block};
+ghost use Rattle.nl_at_once.specs.AtOnce.{answering, short_plain, told_by, value_or_block};
 ghost use Rattle.nl_at_once.specs.declared.statements.TheConstants.{MOST_NESTED as most_nested};
 
 use nl_agents::Store;
@@ -35,12 +36,12 @@ enum Short {
 impl Short {
     // The same as a value.
     #[inline(always)]
-    fn value(self) -> Value
-        ensures { plain result ≡ short_plain self }
+    fn value(&self) -> Value
+        ensures { plain result ≡ short_plain self.now }
     {
         match self {
-            Short::Truth(truth) => Value::Truth(truth),
-            Short::Number(number) => Value::Number(number),
+            Short::Truth(truth) => Value::Truth(*truth),
+            Short::Number(number) => Value::Number(*number),
         }
     }
 }
@@ -60,17 +61,57 @@ fn short_of<S: Store>(alloc: Global, code: &Code, hands: &Hands<S>, block: u32) 
     }
 }
 
+// An answer is kept or passed over. False where it decides all, or is of the wrong kind, or memory is lacking: then nothing is changed.
+#[inline(always)]
+fn told(made: &mut BoxedAnswers, word: Over, member: u64, short: &Short) -> bool
+    ensures told { result ≡ true → let v = short_plain short.now in
+        Some made.new ≡ told_by (reply_to word v) member v made.old }
+    ensures not { result ≡ false → made.new ≡ made.old }
+{
+    let value = short.value();
+    match reply_to(word, &value) {
+        Reply::Keep => match made.push(Answered { member, value }) {
+            Ok(()) => true,
+            Err(_) => false,
+        },
+        Reply::Pass => true,
+        Reply::Decide(_) | Reply::Refuse => false,
+    }
+}
+
 // The answer is kept or passed over, and the next member runs, for a unit, if there are both; else all is as it was.
 #[inline(always)]
 fn next_answer<S: Store>(
+    code: &Code,
     hands: &mut Hands<S>,
+    node: u32,
+    index: u32,
+    block: u32,
     word: Over,
-    short: Short,
+    short: &Short,
     member: &mut u64,
     turns: &mut BoxedTurns,
     made: &mut BoxedAnswers,
     units: &mut u64,
-) -> bool {
+) -> bool
+    requires fit { HandsFit hands.old }
+    requires answering { AnsweringFits (ground hands.old) member.old turns.old made.old }
+    requires block { slice_get (parts (node_at code.now node)) index ≡ Some (node_at code.now block) }
+    ensures next { result ≡ true → (how : How) (prev : Eval) (n : ℕ) →
+        answering code.now prev (node_at code.now node) index word how member.old turns.old made.old
+        (gives (short_plain short.now) (state_of code.now.names hands.old (units.old + n)))
+        ≡ answering code.now prev (node_at code.now node) index word how member.new turns.new made.new
+        (prev (node_at code.now block) (state_of code.now.names hands.new (units.new + n))) }
+    ensures not { result ≡ false → (hands.new ≡ hands.old) × (units.new ≡ units.old)
+        × (member.new ≡ member.old) × (turns.new ≡ turns.old) × (made.new ≡ made.old) }
+    ensures answering { AnsweringFits (ground hands.new) member.new turns.new made.new }
+    ensures ascend { (how : How) →
+        MembersAscend how (members_kept made.old ++ member.old ∷ drop turns.old.at turns.old.members) →
+        MembersAscend how (members_kept made.new ++ member.new ∷ drop turns.new.at turns.new.members) }
+    ensures left { units.new ≤ units.old }
+    ensures fewer { result ≡ true → units.new < units.old }
+    ensures stands { Stands hands.new hands.old }
+{
     if *units == 0 {
         return false;
     }
@@ -89,18 +130,8 @@ fn next_answer<S: Store>(
         asker: all.site.agent,
         body: all.site.body,
     };
-    match reply_to(word, &short.value()) {
-        Reply::Pass => {}
-        Reply::Keep => {
-            let answer = Answered {
-                member: *member,
-                value: short.value(),
-            };
-            if let Err(_) = made.push(answer) {
-                return false;
-            }
-        }
-        Reply::Decide(_) | Reply::Refuse => return false,
+    if !told(made, word, *member, short) {
+        return false;
     }
     turns.go_to(at + 1);
     hands.site = site;
@@ -144,7 +175,9 @@ pub fn do_answers<S: Store>(
         let Some(short) = short_of(alloc, code, hands, block) else {
             return None;
         };
-        if !next_answer(hands, word, short, member, turns, made, units) {
+        if !next_answer(
+            code, hands, node, index, block, word, &short, member, turns, made, units,
+        ) {
             return Some(short.value());
         }
     }
