@@ -1,16 +1,17 @@
 -- An answer is told, and the next member's turn begins.
-use Rattle.std.proofs.Common.{◌≡◌, ◌+◌, ◌<◌, ◌&&◌, ℕ, suc, IsTrue, List, [], ◌∷◌, ◌++◌, Option, Some, None, drop, slice_get, refl, ap, ◌∙◌, sym, subst}
+use Rattle.std.proofs.Common.{◌≡◌, ◌+◌, ℕ, IsTrue, List, [], ◌∷◌, ◌++◌, Option, Some, drop, slice_get, refl, ap, ◌∙◌, sym, subst}
 use Rattle.std.specs.List.{list_all}
 use Rattle.std.specs.Option.{option_map}
+use Rattle.nl_fixed.specs.declared.span.Span.{Span}
 use Rattle.nl_value.specs.Plain.{Plain}
 use Rattle.nl_value.specs.declared.sets.AgentKind.{AgentKind}
 use Rattle.nl_tree.specs.Tree.{Node, parts, span}
+use Rattle.nl_agents.specs.World.{Rest}
 use Rattle.nl_acts.specs.declared.fail.ErrorKind.TheVariants.{WrongType}
 use Rattle.nl_code.specs.Code.{Code}
 use Rattle.nl_code.specs.declared.words.Over.{Over}
 use Rattle.nl_meaning.specs.State.{State, Eval, Outcome, at_site, found, gives, rest_of, spend}
 use Rattle.nl_meaning.specs.Walks.{Answer, Reply, Keep, Pass, Decide, Refuse, asked, members_kept, replied, reply_to}
-use Rattle.nl_meaning.specs.declared.sites.Site.{Site}
 use Rattle.nl_frames.specs.Frames.{finished, gathered_from}
 use Rattle.nl_frames.specs.Ground.{Ground, fits}
 use Rattle.nl_frames.specs.Standing.{AnsweringFits, MembersAscend, MembersFit}
@@ -30,7 +31,7 @@ module _ (member : ℕ) (value : Plain) (made new : List Answer) where
   abbrev answer : Answer
   answer = record { member = member; value = value }
 
-  pub replied_on : (r : Reply) (place : _) (s : State) (next : List Answer → State → Outcome) → Some new ≡ told_by r member value made
+  pub replied_on : (r : Reply) (place : Span) (s : State) (next : List Answer → State → Outcome) → Some new ≡ told_by r member value made
       → replied r place member value made s next ≡ next new s
   replied_on Keep place s next is =
       let same : new ≡ made ++ answer ∷ [] = cc in
@@ -80,6 +81,18 @@ short_fits g (short.Number number) = refl
 
 -- ---- the next turn
 
+-- turns and their members as they were read
+module _ (all turns : Turns) (ms : List ℕ) (same : all ≡ turns) (those : ms ≡ all.members) where
+  pub first_among : (r : Rest) (o : Option ℕ) → o ≡ option_map (λ i. all.at + i) (first_of r all.which (drop all.at ms))
+      → o ≡ option_map (λ i. turns.at + i) (first_of r turns.which (drop turns.at turns.members))
+  first_among r o is =
+      is ∙ ap (λ (l : List ℕ). option_map (λ i. all.at + i) (first_of r all.which (drop all.at l))) those
+      ∙ ap (λ (x : Turns). option_map (λ i. x.at + i) (first_of r x.which (drop x.at x.members))) same
+
+  pub member_there : (i m : ℕ) (o : Option ℕ) → o ≡ slice_get ms i → o ≡ Some m → slice_get turns.members i ≡ Some m
+  member_there i m o read is =
+      ap (λ (l : List ℕ). slice_get l i) (sym (those ∙ ap (λ (x : Turns). x.members) same)) ∙ sym read ∙ is
+
 -- the member at the place is the first that lives: its turn begins behind the answer that was told
 pub turn_begins : (c : Code) (prev : Eval) (t : Node) (index : ℕ) (word : Over) (how : Gathered) (turns : Turns) (member : ℕ) (value : Plain) (made new : List Answer) (s : State)
     (o : Option ℕ) (place m : ℕ) (block : Node) → Some new ≡ told_by (reply_to word value) member value made → o ≡ Some place
@@ -110,5 +123,5 @@ next_fits g turns member value made new r place m told stands fit = record {
   turns = record { members = fit.turns.members; site = fit.turns.site };
   values = values_on member (short_plain value) made new g r told (short_fits g value) fit.values;
   members = members_push g turns.which (members_kept new) turns.members place m
-  (members_on member (short_plain value) made new g turns.which r told fit.members) fit.turns.members stands;
+      (members_on member (short_plain value) made new g turns.which r told fit.members) fit.turns.members stands;
 }

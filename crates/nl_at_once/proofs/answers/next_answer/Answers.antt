@@ -1,12 +1,10 @@
 -- The first member that lives is the next one, behind the answer that is kept or passed over.
 use Rattle.std.proofs.Common.{◌≡◌, ◌+◌, ◌-◌, ◌<◌, ◌∷◌, ◌++◌, ℕ, suc, List, Some, drop, length, slice_get, refl, ap, ◌∙◌, sym, subst, arith, rules}
-use Rattle.std.specs.Option.{option_map}
 use Rattle.std.proofs.lemmas.Option.{slice_get_within}
 use Rattle.nl_agents.specs.declared.agents.Owner.{Owner}
 use Rattle.nl_code.specs.Code.{node_at}
 use Rattle.nl_meaning.specs.State.{State, Outcome, at_site, spend}
 use Rattle.nl_meaning.specs.Walks.{asked, members_kept, owner_of, reply_to}
-use Rattle.nl_meaning.specs.declared.sites.Site.{Site}
 use Rattle.nl_frames.specs.Ground.{SiteFits, ground_of}
 use Rattle.nl_frames.specs.Seen.{ground, state_of}
 use Rattle.nl_frames.specs.Standing.{AnsweringFits, MembersAscend, MembersFit, TurnsFit}
@@ -15,7 +13,7 @@ use Rattle.nl_frames.proofs.Standing.{stands_on}
 use Rattle.nl_turns.specs.Turning.{first_of}
 use Rattle.nl_turns.proofs.Members.{member_small, member_agent_fits}
 use Rattle.nl_at_once.specs.AtOnce.{answering, short_plain}
-use Rattle.nl_at_once.proofs.Answering.{next_ascends, next_fits, turn_begins}
+use Rattle.nl_at_once.proofs.Answering.{first_among, member_there, next_ascends, next_fits, turn_begins}
 use Rattle.nl_at_once.proofs.answers.next_answer.Goals as goal
 
 pub owner_of-requires : goal.owner_of-requires
@@ -40,17 +38,15 @@ returns-clause-next g c = λ _ how prev n.
     let units = c.args.units.now in
     let turns = c.args.turns.now in
     let all = c.get-all.result.now in
+    let ms = c.as_slice-members.result.now in
     let r = (g.S.Store.world c.args.hands.now.stage.store).rest in
     let t = node_at code c.args.node in
     let b = node_at code c.args.block in
     let s : ℕ → State = λ left. state_of code.names c.args.hands.now left in
     let m = c.in-Some-member_at.next in
     let i = c.in-Some.at in
-    let first : c.first_living.result ≡ option_map (λ k. turns.at + k) (first_of r turns.which (drop turns.at turns.members)) =
-    c.first_living.ensures ∙ ap (λ (l : List ℕ). option_map (λ k. all.at + k) (first_of r all.which (drop all.at l))) c.as_slice-members.ensures
-    ∙ ap (λ (x : Turns). option_map (λ k. x.at + k) (first_of r x.which (drop x.at x.members))) c.get-all.ensures in
-    let there : slice_get turns.members i ≡ Some m =
-    ap (λ (l : List ℕ). slice_get l i) (sym (c.as_slice-members.ensures ∙ ap (λ (x : Turns). x.members) c.get-all.ensures)) ∙ sym c.member_at.ensures ∙ c.in-Some-member_at.is in
+    let first = first_among all turns ms c.get-all.ensures c.as_slice-members.ensures r c.first_living.result c.first_living.ensures in
+    let there = member_there all turns ms c.get-all.ensures c.as_slice-members.ensures i m c.member_at.result c.member_at.ensures c.in-Some-member_at.is in
     let more : units + n ≡ suc (units - 1 + n) = omega (arith, c.if-units-eq0.false) in
     let after : Turns → State → Outcome = λ x s1. answering code prev t c.args.index c.args.word how m x c.told.new.made (prev b s1) in
     let moved : Turns = record turns { at = i + 1 } in
@@ -67,8 +63,7 @@ returns-clause-answering g c =
     let now = ground c.args.hands.now in
     let turns = c.args.turns.now in
     let value = c.args.short.now in
-    let there : slice_get turns.members c.in-Some.at ≡ Some c.in-Some-member_at.next =
-    ap (λ (l : List ℕ). slice_get l c.in-Some.at) (sym (c.as_slice-members.ensures ∙ ap (λ (x : Turns). x.members) c.get-all.ensures)) ∙ sym c.member_at.ensures ∙ c.in-Some-member_at.is in
+    let there = member_there c.get-all.result.now turns c.as_slice-members.result.now c.get-all.ensures c.as_slice-members.ensures c.in-Some.at c.in-Some-member_at.next c.member_at.result c.member_at.ensures c.in-Some-member_at.is in
     subst (λ (x : Turns). AnsweringFits now c.in-Some-member_at.next x c.told.new.made) (sym c.go_to.ensures)
     (next_fits now turns c.args.member.now value c.args.made.now c.told.new.made (reply_to c.args.word (short_plain value)) c.in-Some.at c.in-Some-member_at.next
     (c.told.ensures.told c.if-not-told.false) there c.requires.answering)
@@ -77,15 +72,13 @@ pub returns-clause-ascend : goal.returns-clause-ascend
 returns-clause-ascend g c = λ how up.
     let turns = c.args.turns.now in
     let all = c.get-all.result.now in
+    let ms = c.as_slice-members.result.now in
     let r = (g.S.Store.world c.args.hands.now.stage.store).rest in
     let value = short_plain c.args.short.now in
     let m = c.in-Some-member_at.next in
     let i = c.in-Some.at in
-    let first : c.first_living.result ≡ option_map (λ k. turns.at + k) (first_of r turns.which (drop turns.at turns.members)) =
-    c.first_living.ensures ∙ ap (λ (l : List ℕ). option_map (λ k. all.at + k) (first_of r all.which (drop all.at l))) c.as_slice-members.ensures
-    ∙ ap (λ (x : Turns). option_map (λ k. x.at + k) (first_of r x.which (drop x.at x.members))) c.get-all.ensures in
-    let there : slice_get turns.members i ≡ Some m =
-    ap (λ (l : List ℕ). slice_get l i) (sym (c.as_slice-members.ensures ∙ ap (λ (x : Turns). x.members) c.get-all.ensures)) ∙ sym c.member_at.ensures ∙ c.in-Some-member_at.is in
+    let first = first_among all turns ms c.get-all.ensures c.as_slice-members.ensures r c.first_living.result c.first_living.ensures in
+    let there = member_there all turns ms c.get-all.ensures c.as_slice-members.ensures i m c.member_at.result c.member_at.ensures c.in-Some-member_at.is in
     subst (λ (x : Turns). MembersAscend how (members_kept c.told.new.made ++ m ∷ drop x.at x.members)) (sym c.go_to.ensures)
     (next_ascends how turns c.args.member.now value c.args.made.now c.told.new.made (reply_to c.args.word value) (first_of r turns.which (drop turns.at turns.members)) i m
     (c.told.ensures.told c.if-not-told.false) (sym c.in-Some.is ∙ first) there up)
