@@ -1,11 +1,12 @@
 //! Answers of members that are had at once.
-ghost use Rattle.std.specs.Prelude.{◌≡◌, ◌+◌, ◌∷◌, ◌++◌, ◌<◌, ◌≤◌, ℕ, Some, IfSome, option_map, drop, slice_get, true, false};
+ghost use Rattle.std.specs.Prelude.{◌≡◌, ◌+◌, ◌∷◌, ◌++◌, ◌<◌, ◌≤◌, ℕ, IsTrue, Some, IfSome, option_map, drop, slice_get, true, false};
 ghost use Rattle.nl_value.specs.Views.{plain};
 ghost use Rattle.nl_tree.specs.Tree.{parts};
 ghost use Rattle.nl_code.specs.Code.{node_at};
 ghost use Rattle.nl_meaning.specs.Meaning.{evaluator};
 ghost use Rattle.nl_meaning.specs.State.{Eval, gives};
 ghost use Rattle.nl_meaning.specs.Walks.{members_kept, reply_to};
+ghost use Rattle.nl_frames.specs.Ground.{fits};
 ghost use Rattle.nl_frames.specs.Means.{Stands};
 ghost use Rattle.nl_frames.specs.Seen.{ground, state_of};
 ghost use Rattle.nl_frames.specs.Standing.{AnsweringFits, HandsFit, MembersAscend};
@@ -158,12 +159,14 @@ pub fn do_answers<S: Store>(
     requires fit { HandsFit hands.old }
     requires answering { AnsweringFits (ground hands.old) member.old turns.old made.old }
     requires block { slice_get (parts (node_at code.now node)) index ≡ Some (node_at code.now block) }
-    ensures done { (how : How) (room n : ℕ) → most_nested < room → let prev = evaluator code.now.program room in
+    ensures done { (how : How) (room n : ℕ) → most_nested < room →
+        let prev = evaluator code.now.program room in
         answering code.now prev (node_at code.now node) index word how member.old turns.old made.old
         (prev (node_at code.now block) (state_of code.now.names hands.old (units.old + n)))
         ≡ answering code.now prev (node_at code.now node) index word how member.new turns.new made.new
         (value_or_block code.now prev block (option_map plain result)
         (state_of code.now.names hands.new (units.new + n))) }
+    ensures value { IfSome result (λ value. IsTrue (fits (ground hands.new) (plain value))) }
     ensures answering { AnsweringFits (ground hands.new) member.new turns.new made.new }
     ensures ascend { (how : How) →
         MembersAscend how (members_kept made.old ++ member.old ∷ drop turns.old.at turns.old.members) →
