@@ -116,7 +116,7 @@ acted act breed runs prev t x y a b value s are first second stays does-it =
     ∙ ap (λ o. come_to o (span t) s (λ answer. gives answer.0 (with_stage answer.1 s))) does-it
 
 -- what the node's case comes to
-case_is : (p : Checked) (room : ℕ) (t : Node) (s : State) (of_node : Case) → of_node ≡ case_of p.declared (label t) →
+pub case_is : (p : Checked) (room : ℕ) (t : Node) (s : State) (of_node : Case) → of_node ≡ case_of p.declared (label t) →
     evaluator p (suc room) t s ≡ limited (span t) (by_case of_node p (evaluator p room) t s)
 unfolding evaluator cases
 case_is p room t s of_node is = ap (λ it. limited (span t) (by_case it p (evaluator p room) t s)) (sym is)

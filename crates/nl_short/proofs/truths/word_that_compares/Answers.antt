@@ -8,7 +8,7 @@ use Rattle.nl_code.specs.Code.{node_at}
 use Rattle.nl_tree.specs.Tree.{span}
 use Rattle.nl_frames.specs.Seen.{state_of}
 use Rattle.nl_short.proofs.Words.{truth_had}
-use Rattle.nl_short.proofs.numbers.word_that_compares.Goals as goal
+use Rattle.nl_short.proofs.truths.word_that_compares.Goals as goal
 
 pub returns-in-Some : goal.returns-in-Some
 returns-in-Some g c room n a b truth first second tells =

@@ -3,7 +3,7 @@ use Rattle.nl_value.specs.Plain.{PlainNumber, PlainTruth}
 use Rattle.nl_code.specs.Code.{node_at}
 use Rattle.nl_frames.specs.Seen.{state_of}
 use Rattle.nl_short.proofs.Words.{nested}
-use Rattle.nl_short.proofs.numbers.truth.Goals as goal
+use Rattle.nl_short.proofs.truths.compared_at_once.Goals as goal
 
 pub returns-in-Some-Some : goal.returns-in-Some-Some
 returns-in-Some-Some g c = λ room n some.
