@@ -267,12 +267,7 @@ fn number_of_leaves<S: Store>(
 }
 
 // The same of such numbers again.
-fn number_of_words<S: Store>(
-    alloc: Global,
-    code: &Code,
-    hands: &Hands<S>,
-    node: u32,
-) -> Option<Num>
+fn number_of_words<S: Store>(alloc: Global, code: &Code, hands: &Hands<S>, node: u32) -> Option<Num>
     requires { HandsFit hands.now }
     ensures { IfSome result (λ number. IsHad code.now hands.now node 4 (PlainNumber number)) }
 {

@@ -1,5 +1,5 @@
 //! Truths that are had at once.
-ghost use Rattle.std.specs.Prelude.{◌≡◌, ℕ, ℤ, suc, Bool, Ok, IfSome};
+ghost use Rattle.std.specs.Prelude.{◌≡◌, ◌<◌, ℕ, ℤ, suc, Bool, Ok, IfSome};
 ghost use Rattle.nl_value.specs.Plain.{PlainNumber, PlainTruth};
 ghost use Rattle.nl_value.specs.Living.{Living};
 ghost use Rattle.nl_tree.specs.Tree.{label};
@@ -89,7 +89,12 @@ fn word_that_compares<S: Store>(code: &Code, hands: &Hands<S>, node: u32) -> Opt
 }
 
 // Whether two numbers that are had at once compare so.
-fn compared_at_once<S: Store>(alloc: Global, code: &Code, hands: &Hands<S>, node: u32) -> Option<bool>
+fn compared_at_once<S: Store>(
+    alloc: Global,
+    code: &Code,
+    hands: &Hands<S>,
+    node: u32,
+) -> Option<bool>
     requires { HandsFit hands.now }
     ensures { IfSome result (λ truth. IsHad code.now hands.now node 6 (PlainTruth truth)) }
 {
@@ -218,12 +223,7 @@ fn negated<S: Store>(
 }
 
 // A simple truth, or what a word makes of such.
-fn truth_of_words<S: Store>(
-    alloc: Global,
-    code: &Code,
-    hands: &Hands<S>,
-    node: u32,
-) -> Option<bool>
+fn truth_of_words<S: Store>(alloc: Global, code: &Code, hands: &Hands<S>, node: u32) -> Option<bool>
     requires fit { HandsFit hands.now }
     ensures { IfSome result (λ truth. IsHad code.now hands.now node 8 (PlainTruth truth)) }
 {

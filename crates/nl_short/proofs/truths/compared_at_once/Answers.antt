@@ -11,7 +11,7 @@ returns-in-Some-Some g c = λ room n some.
     let word = c.in-Some.word in
     let both = c.in-Some-Some in
     let truth = c.comparison.result in
-    nested code.program (node_at code c.args.node) (node_at code word.left) (node_at code word.right) (state_of code.names c.args.hands.now n) 3
+    nested code.program (node_at code c.args.node) (node_at code word.left) (node_at code word.right) (state_of code.names c.args.hands.now n) 5
     (PlainNumber both.a) (PlainNumber both.b) (PlainTruth truth)
     (λ less left right. c.in-Some.ensures less n both.a both.b truth left right c.comparison.ensures)
     (λ less h. both.ensures less n h) (λ less h. both.ensures' less n h) room some
