@@ -1,3 +1,4 @@
 pub mod Deciding
 pub mod Inside
+pub mod Drawing
 pub mod Words
