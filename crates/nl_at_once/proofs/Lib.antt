@@ -4,3 +4,5 @@ mod Controls
 mod Going
 mod Taking
 mod Answering
+mod Drawing
+mod Choosing

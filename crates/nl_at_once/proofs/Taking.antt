@@ -1,15 +1,14 @@
 -- A block that is begun is its statements, and a turn that is taken is its block.
-use Rattle.std.proofs.Common.{◌≡◌, ◌-◌, ◌<◌, ℕ, zero, suc, List, [], drop, length, slice_get, Option, Some, None, ap, ◌∙◌, arith}
+use Rattle.std.proofs.Common.{◌≡◌, ◌-◌, ◌<◌, ℕ, zero, suc, length, slice_get, Option, Some, ap, ◌∙◌, arith}
 use Rattle.nl_tree.specs.Tree.{Node, label, span, parts}
 use Rattle.nl_code.specs.Cases.{Case, case_of}
 use Rattle.nl_code.specs.Cases as case
 use Rattle.nl_code.specs.Code.{Code, node_at}
 use Rattle.nl_acts.specs.declared.fail.ErrorKind.TheVariants.{WrongType}
 use Rattle.nl_meaning.specs.State.{State, Outcome, Eval, found, goes_on, spend, spend_by, ◌>>=◌}
-use Rattle.nl_meaning.specs.Blocks.{cut_to, statements, turns}
+use Rattle.nl_meaning.specs.Blocks.{part_of, statements, turns}
 use Rattle.nl_meaning.specs.Meaning.{by_case, cases, evaluator, limited}
-use Rattle.nl_at_once.specs.AtOnce.{block_left, then_turns}
-use Rattle.nl_at_once.specs.declared.numbers.TheConstants.{MOST_NESTED as most_nested}
+use Rattle.nl_at_once.specs.AtOnce.{then_turns}
 
 -- ---- blocks
 
@@ -20,34 +19,33 @@ unfolding evaluator cases
 begun c block room s is =
     ap (λ (k : Case). limited (span (node_at c block)) (by_case k c.program (evaluator c.program room) (node_at c block) s)) is
 
-module _ (c : Code) (block at kept : ℕ) (before after : State)
-    (is : case_of c.program.declared (label (node_at c block)) ≡ case.Statements) (known : length before.locals ≡ kept)
-    (done : (room : ℕ) → most_nested < room →
-    statements (evaluator c.program room) kept (parts (node_at c block)) before
-    ≡ statements (evaluator c.program room) kept (drop at (parts (node_at c block))) after) where
-  left-by : (room : ℕ) → most_nested < room → evaluator c.program (suc room) (node_at c block) before
-      ≡ limited (span (node_at c block)) (statements (evaluator c.program room) kept (drop at (parts (node_at c block))) after)
-  left-by room enough =
-      begun c block room before is
-      ∙ ap (λ (n : ℕ). limited (span (node_at c block)) (statements (evaluator c.program room) n (parts (node_at c block)) before)) known
-      ∙ ap (λ (o : Outcome). limited (span (node_at c block)) o) (done room enough)
+-- a block comes to what its statements come to, with less room
+pub block_comes_to : (c : Code) (block kept nested : ℕ) (before : State) (rest : ℕ → Outcome) →
+    case_of c.program.declared (label (node_at c block)) ≡ case.Statements → length before.locals ≡ kept →
+    ((room : ℕ) → nested < room → statements (evaluator c.program room) kept (parts (node_at c block)) before ≡ rest room) →
+    (room : ℕ) → suc nested < room → evaluator c.program room (node_at c block) before ≡ limited (span (node_at c block)) (rest (room - 1))
+block_comes_to c block kept nested before rest is known done zero enough = absurd (omega (arith, enough))
+block_comes_to c block kept nested before rest is known done (suc room) enough =
+    let same : room ≡ suc room - 1 = omega arith in
+    begun c block room before is
+    ∙ ap (λ (n : ℕ). limited (span (node_at c block)) (statements (evaluator c.program room) n (parts (node_at c block)) before)) known
+    ∙ ap (λ (o : Outcome). limited (span (node_at c block)) o) (done room (omega (arith, enough)))
+    ∙ ap (λ (n : ℕ). limited (span (node_at c block)) (rest n)) same
 
-  -- a statement of the block is left
-  pub block_midway : (room : ℕ) → suc most_nested < room →
-      evaluator c.program room (node_at c block) before ≡ block_left c room block (Some (record { at = at; kept = kept })) after
-  block_midway zero enough = absurd (omega (arith, enough))
-  block_midway (suc room) enough =
-      let same : room ≡ suc room - 1 = omega arith in
-      left-by room (omega (arith, enough))
-      ∙ ap (λ (n : ℕ). limited (span (node_at c block)) (statements (evaluator c.program n) kept (drop at (parts (node_at c block))) after)) same
-
-  -- no statement of the block is left
-  pub block_over : drop at (parts (node_at c block)) ≡ [] → (room : ℕ) → suc most_nested < room →
-      evaluator c.program room (node_at c block) before ≡ block_left c room block None (cut_to kept after)
-  block_over none zero enough = absurd (omega (arith, enough))
-  block_over none (suc room) enough =
-      left-by room (omega (arith, enough))
-      ∙ ap (λ (ts : List Node). limited (span (node_at c block)) (statements (evaluator c.program room) kept ts after)) none
+-- the same of a block that is a part
+pub part_comes_to : (c : Code) (word index block kept nested : ℕ) (before : State) (rest : ℕ → Outcome) →
+    slice_get (parts (node_at c word)) index ≡ Some (node_at c block) →
+    case_of c.program.declared (label (node_at c block)) ≡ case.Statements → length before.locals ≡ kept →
+    ((room : ℕ) → nested < room → statements (evaluator c.program room) kept (parts (node_at c block)) before ≡ rest room) →
+    (room : ℕ) → suc nested < room →
+    limited (span (node_at c word)) (part_of (evaluator c.program room) (node_at c word) index before)
+    ≡ limited (span (node_at c word)) (limited (span (node_at c block)) (rest (suc room - 2)))
+part_comes_to c word index block kept nested before rest part is known done room enough =
+    let t = node_at c word in
+    let same : room - 1 ≡ suc room - 2 = omega arith in
+    ap (λ (b : Option Node). limited (span t) (found b WrongType (span t) before (λ x. evaluator c.program room x before))) part
+    ∙ ap (limited (span t)) (block_comes_to c block kept nested before rest is known done room enough)
+    ∙ ap (λ (n : ℕ). limited (span t) (limited (span (node_at c block)) (rest n))) same
 
 -- ---- turns of `repeat`
 

@@ -5,7 +5,7 @@ use Rattle.nl_meaning.specs.Meaning.{evaluator}
 use Rattle.nl_frames.specs.Means.{Stands}
 use Rattle.nl_frames.specs.Seen.{state_of}
 use Rattle.nl_at_once.specs.AtOnce.{then_turns}
-use Rattle.nl_at_once.specs.declared.numbers.TheConstants.{MOST_NESTED as most_nested}
+use Rattle.nl_at_once.specs.declared.statements.TheConstants.{MOST_NESTED as most_nested}
 use Rattle.nl_at_once.proofs.repeats.do_repeats.Given as goal
 
 abbrev pub invariant-turns : goal.invariant-turns

@@ -6,7 +6,7 @@ use Rattle.nl_meaning.specs.Blocks.{statements}
 use Rattle.nl_meaning.specs.Meaning.{evaluator}
 use Rattle.nl_frames.specs.Means.{Stands}
 use Rattle.nl_frames.specs.Seen.{state_of}
-use Rattle.nl_at_once.specs.declared.numbers.TheConstants.{MOST_NESTED}
+use Rattle.nl_at_once.specs.declared.statements.TheConstants.{MOST_NESTED}
 use Rattle.nl_at_once.proofs.statements.do_statements.Given as goal
 
 abbrev pub invariant-statements : goal.invariant-statements

@@ -7,7 +7,7 @@ use Rattle.nl_frames.specs.Frames.{walked_on}
 use Rattle.nl_frames.specs.Means.{Stands}
 use Rattle.nl_frames.specs.Seen.{ground, state_of}
 use Rattle.nl_frames.specs.Standing.{TurnsFit}
-use Rattle.nl_at_once.specs.declared.numbers.TheConstants.{MOST_NESTED as most_nested}
+use Rattle.nl_at_once.specs.declared.statements.TheConstants.{MOST_NESTED as most_nested}
 use Rattle.nl_at_once.proofs.turns.do_turns.Given as goal
 
 abbrev pub invariant-turns : goal.invariant-turns
