@@ -87,10 +87,16 @@ fn do_plain<S: Store>(
         return false;
     }
     match word {
-        Built::Control(Control::Set) => set(alloc, code, hands, node),
-        Built::Control(Control::Forward) => walk(alloc, code, hands, node, runs, false, units),
-        Built::Control(Control::Back) => walk(alloc, code, hands, node, runs, true, units),
-        Built::Act(Act::Move(which)) => do_move(alloc, code, hands, node, runs, which),
+        Built::Control(control) => match control {
+            Control::Set => set(alloc, code, hands, node),
+            Control::Forward => walk(alloc, code, hands, node, runs, false, units),
+            Control::Back => walk(alloc, code, hands, node, runs, true, units),
+            _ => false,
+        },
+        Built::Act(act) => match act {
+            Act::Move(which) => do_move(alloc, code, hands, node, runs, which),
+            _ => false,
+        },
         _ => false,
     }
 }
@@ -234,6 +240,21 @@ fn choose<S: Store>(
     done
 }
 
+// Whether there is a block for false too, where the word is `if` or `ifelse`.
+#[inline(always)]
+fn is_either(word: Built) -> Option<bool>
+    ensures { IfSome result (λ either. word ≡ built.Control (choosing either)) }
+{
+    let Built::Control(control) = word else {
+        return None;
+    };
+    match control {
+        Control::If => Some(false),
+        Control::IfElse => Some(true),
+        _ => None,
+    }
+}
+
 /// A statement is done, so far as that is done at once; else nothing is changed. The unit of the statement itself is spent before.
 #[inline(always)]
 pub fn do_statement<S: Store>(
@@ -250,24 +271,16 @@ pub fn do_statement<S: Store>(
     ensures left { units.new ≤ units.old }
     ensures stands { Stands hands.new hands.old }
 {
-    match code.op(node) {
-        Op::Word {
-            runs,
-            word: Built::Control(Control::If),
-            ..
-        } => choose(alloc, code, hands, node, runs, false, units),
-        Op::Word {
-            runs,
-            word: Built::Control(Control::IfElse),
-            ..
-        } => choose(alloc, code, hands, node, runs, true, units),
-        _ => {
-            if do_plain(alloc, code, hands, node, units) {
-                Some(Done::Whole)
-            } else {
-                None
-            }
-        }
+    let Op::Word { runs, word, .. } = code.op(node) else {
+        return None;
+    };
+    if let Some(either) = is_either(word) {
+        return choose(alloc, code, hands, node, runs, either, units);
+    }
+    if do_plain(alloc, code, hands, node, units) {
+        Some(Done::Whole)
+    } else {
+        None
     }
 }
 
