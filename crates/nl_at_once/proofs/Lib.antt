@@ -6,3 +6,4 @@ mod Taking
 mod Answering
 mod Drawing
 mod Choosing
+mod Cutting
