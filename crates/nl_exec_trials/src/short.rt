@@ -80,7 +80,7 @@ const CHOICES: &[Row] = &[
     // `stop` in the block.
     Row {
         text: "cro 3 ask turtles [ if who < 2 [ set a a + 1 stop ] set b b + 1 ] leave 3 leave 1 set c a",
-        ends: Ends::Done,
+        ends: Ends::Stopped,
         spent: 21,
         looks: &[("(list a b c)", Ends::Says("[3 2 3]"))],
     },
