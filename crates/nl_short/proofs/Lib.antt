@@ -2,3 +2,6 @@ pub mod Deciding
 pub mod Inside
 pub mod Drawing
 pub mod Words
+pub mod Single
+pub mod Listing
+pub mod Sets

@@ -119,6 +119,8 @@ fn members_of_word<S: Store>(
     ensures { IfSome result (λ members.
         GivesMembers code.now hands.now node 0 members.kind members.numbers) }
 {
+    // What the order of the members rests on: the store stands for a world.
+    let _stands = hands.stage.store.shape();
     let Op::Word {
         runs,
         breed: None,
