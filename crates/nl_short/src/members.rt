@@ -3,6 +3,7 @@ ghost use Rattle.std.specs.Prelude.{◌≡◌, ◌==◌, ◌∷◌, [], None, le
 ghost use Rattle.nl_value.specs.declared.sets.AgentKind.TheVariants as kind;
 ghost use Rattle.nl_tree.specs.Tree.{label};
 ghost use Rattle.nl_agents.specs.Changes.{OwnerLives, TurtleLives};
+ghost use Rattle.nl_agents.specs.Standing.{IsWorld};
 ghost use Rattle.nl_query.specs.Agents.{own_patch};
 ghost use Rattle.nl_query.specs.declared.words.OfSet.TheVariants as of_set;
 ghost use Rattle.nl_query.specs.declared.words.QueryWord.TheVariants as query;
@@ -116,10 +117,11 @@ fn members_of_word<S: Store>(
     node: u32,
 ) -> Option<Members>
     requires { HandsFit hands.now }
-    ensures { IfSome result (λ members.
+    ensures given { IfSome result (λ members.
         GivesMembers code.now hands.now node 0 members.kind members.numbers) }
+    ensures stands { IsWorld (S.world hands.now.stage.store) }
 {
-    // What the order of the members rests on: the store stands for a world.
+    // What the order of the members rests on.
     let _stands = hands.stage.store.shape();
     let Op::Word {
         runs,
@@ -132,9 +134,12 @@ fn members_of_word<S: Store>(
     if code.count(node) != 0 || !lives_and_may_run(hands, runs) {
         return None;
     }
-    match (which, hands.site.agent) {
-        (QueryWord::Standing(Standing::Here), agent) => {
-            match turtles_here(alloc, agent, &hands.stage.store) {
+    match which {
+        QueryWord::Standing(place) => {
+            let Standing::Here = place else {
+                return None;
+            };
+            match turtles_here(alloc, hands.site.agent, &hands.stage.store) {
                 Some(numbers) => Some(Members {
                     kind: AgentKind::Turtle,
                     numbers,
@@ -142,7 +147,13 @@ fn members_of_word<S: Store>(
                 None => None,
             }
         }
-        (QueryWord::MyLinks(Side::Any), Owner::Turtle(turtle)) => {
+        QueryWord::MyLinks(side) => {
+            let Side::Any = side else {
+                return None;
+            };
+            let Owner::Turtle(turtle) = hands.site.agent else {
+                return None;
+            };
             match links_of_own(alloc, turtle, &hands.stage.store) {
                 Some(numbers) => Some(Members {
                     kind: AgentKind::Link,

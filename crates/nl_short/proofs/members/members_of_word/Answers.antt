@@ -25,8 +25,8 @@ use Rattle.nl_short.proofs.Listing.{turtles_on_again, links_at_again, small, ask
 use Rattle.nl_short.proofs.Sets.{set_had, set_answered}
 use Rattle.nl_short.proofs.members.members_of_word.Goals as goal
 
-pub returns-in-Some : goal.returns-in-Some
-returns-in-Some g c =
+pub returns-in-Some-clause-given : goal.returns-in-Some-clause-given
+returns-in-Some-clause-given g c =
     let code = c.args.code.now in
     let h = c.args.hands.now in
     let w = g.S.Store.world h.stage.store in
@@ -41,7 +41,7 @@ returns-in-Some g c =
         ∙ turtles_on_again w (own_patch w.rest agent ∷ []) world ∙ sym here in
     let few : length numbers ≤ 400_000 = omega (arith, members_are_few w (SomeTurtles numbers) world, ap (λ (l : List ℕ). length l) again) in
     let is = sym (ap (λ b. Word word.runs b word.word) word.breed-is
-        ∙ ap (Word word.runs None) (word.word-is ∙ ap built.Act (word.word-0-is ∙ ap act.Query word.which-is))) ∙ word.ensures.op in
+        ∙ ap (Word word.runs None) (word.word-is ∙ ap built.Act (word.word-0-is ∙ ap act.Query (c.in-Standing.is ∙ ap query.Standing c.in-Here.is)))) ∙ word.ensures.op in
     (SomeTurtles numbers,
     (λ room n some.
     let s = state_of code.names h n in
@@ -54,14 +54,14 @@ returns-in-Some g c =
     room some),
     refl, again)
 
-pub returns-in-Some-links_of_own : goal.returns-in-Some-links_of_own
-returns-in-Some-links_of_own g c =
+pub returns-in-Some-links_of_own-clause-given : goal.returns-in-Some-links_of_own-clause-given
+returns-in-Some-links_of_own-clause-given g c =
     let code = c.args.code.now in
     let h = c.args.hands.now in
     let w = g.S.Store.world h.stage.store in
     let t = node_at code c.args.node in
     let agent = h.site.agent in
-    let turtle = c.in-MyLinks-Any-Turtle.turtle in
+    let turtle = c.in-Turtle.turtle in
     let numbers : List ℕ = c.in-Some-links_of_own.numbers in
     let word = c.in-Word-default-None-Act-Query in
     let world = c.shape-stands.ensures.stands in
@@ -70,7 +70,7 @@ returns-in-Some-links_of_own g c =
         ap (λ l. members_of w.rest (SomeLinks l)) own ∙ links_at_again w turtle world ∙ sym own in
     let few : length numbers ≤ 400_000 = omega (arith, members_are_few w (SomeLinks numbers) world, ap (λ (l : List ℕ). length l) again) in
     let is = sym (ap (λ b. Word word.runs b word.word) word.breed-is
-        ∙ ap (Word word.runs None) (word.word-is ∙ ap built.Act (word.word-0-is ∙ ap act.Query word.which-is))) ∙ word.ensures.op in
+        ∙ ap (Word word.runs None) (word.word-is ∙ ap built.Act (word.word-0-is ∙ ap act.Query (c.in-MyLinks.is ∙ ap query.MyLinks c.in-Any.is)))) ∙ word.ensures.op in
     (SomeLinks numbers,
     (λ room n some.
     let s = state_of code.names h n in
@@ -79,7 +79,7 @@ returns-in-Some-links_of_own g c =
     (nil_from_length (parts t) (sym c.count.ensures ∙ c.if-count-ne0.false))
     (c.if-not-lives_and_may_run.ensures.allowed refl code n (span t)) (c.if-not-lives_and_may_run.ensures.stays refl code n)
     (asks w agent (c.if-not-lives_and_may_run.ensures.lives refl))
-    (ap (λ who. query_answer w.rest None who (query.MyLinks side.Any) [] s.stage.stream) c.in-MyLinks-Any-Turtle.is-1
+    (ap (λ who. query_answer w.rest None who (query.MyLinks side.Any) [] s.stage.stream) c.in-Turtle.is
     ∙ set_answered kind.Link numbers _ s.stage.stream (sym own)) (small kind.Link numbers few))
     room some),
     refl, again)
