@@ -1,6 +1,7 @@
 //! Numbers that are had at once.
-ghost use Rattle.std.specs.Prelude.{◌≡◌, [], ◌∷◌, ℕ, ℤ, suc, Some, Ok, IfSome, IsSome, option_map};
+ghost use Rattle.std.specs.Prelude.{◌≡◌, ◌≤◌, ◌*ℤ◌, pos, [], ◌∷◌, ℕ, ℤ, suc, Some, Ok, IfSome, IsSome, option_map};
 ghost use Rattle.std.specs.Option.{option_copied};
+ghost use Rattle.nl_fixed.specs.Numbers.{one};
 ghost use Rattle.nl_fixed.specs.declared.span.Span.{Span as Place};
 ghost use Rattle.nl_value.specs.Plain.{Plain, PlainNumber};
 ghost use Rattle.nl_value.specs.Views.{plain};
@@ -107,6 +108,15 @@ fn of_two(which: OfNumbers, a: Num, b: Num) -> Option<Num>
     }
 }
 
+// A count as a number.
+#[inline(always)]
+fn whole(many: usize) -> Num
+    requires { many ≤ 400_000 }
+    ensures { result ≡ (pos many *ℤ pos one) }
+{
+    Num::whole(many as i64).unwrap()
+}
+
 // How many members a set has, as a number.
 #[inline(never)]
 fn number_of_members<S: Store>(
@@ -122,16 +132,33 @@ fn number_of_members<S: Store>(
         ≡ case.Word runs breed (built.Act (act.Query (query.OfSet of_set.Count))) }
     ensures { IfSome result (λ number. IsHad code.now hands.now node 2 (PlainNumber number)) }
 {
+    // What the number's range rests on: the store stands for a world.
+    let _stands = hands.stage.store.shape();
     if !may_run(hands, runs) {
         return None;
     }
     let Some(part) = one_part(code, node) else {
         return None;
     };
-    let Some(many) = count(alloc, code, hands, part) else {
-        return None;
-    };
-    Num::whole(many as i64)
+    match count(alloc, code, hands, part) {
+        Some(many) => Some(whole(many)),
+        None => None,
+    }
+}
+
+// The number that the node of a word gives which counts members.
+fn count_of_word<S: Store>(alloc: Global, code: &Code, hands: &Hands<S>, node: u32) -> Option<Num>
+    requires { HandsFit hands.now }
+    ensures { IfSome result (λ number. IsHad code.now hands.now node 2 (PlainNumber number)) }
+{
+    match code.op(node) {
+        Op::Word {
+            runs,
+            breed,
+            word: Built::Act(Act::Query(QueryWord::OfSet(OfSet::Count))),
+        } => number_of_members(alloc, code, hands, node, runs, breed),
+        _ => None,
+    }
 }
 
 // The number that a node gives which has no parts that give numbers: one that is written, that of a variable, or how many members a set
@@ -146,12 +173,7 @@ fn leaf<S: Store>(alloc: Global, code: &Code, hands: &Hands<S>, node: u32) -> Op
         Op::Global(slot) => number_in(global(hands, slot)),
         Op::Owned { runs, slot } => number_owned(hands, runs, slot),
         Op::Aside { runs, which } => number_apart(code, hands, code.span(node), runs, which),
-        Op::Word {
-            runs,
-            breed,
-            word: Built::Act(Act::Query(QueryWord::OfSet(OfSet::Count))),
-        } => number_of_members(alloc, code, hands, node, runs, breed),
-        _ => None,
+        _ => count_of_word(alloc, code, hands, node),
     }
 }
 
