@@ -1,9 +1,9 @@
 -- What a node draws: a word of one value or two, whose parts may draw, from what its parts give.
-use Rattle.std.proofs.Common.{◌≡◌, ℕ, ℤ, zero, suc, ◌<◌, Bool, true, false, List, length, [], ◌∷◌, Option, Some, None, IfSome, Ok, refl, ap, ◌∙◌, sym, subst, arith}
+use Rattle.std.proofs.Common.{◌≡◌, ℕ, ℤ, zero, suc, ◌<◌, Bool, true, false, List, length, [], ◌∷◌, Option, IfSome, Ok, refl, ap, ◌∙◌, sym, subst, arith}
 use Rattle.nl_fixed.specs.Nouns.{Names}
 use Rattle.nl_fixed.specs.declared.span.Span.{Span}
 use Rattle.nl_words.specs.declared.entry.Kinds.{Kinds}
-use Rattle.nl_value.specs.Plain.{Plain, PlainNumber, PlainTruth, PlainWords, PlainItems, PlainTurtle, PlainPatch, PlainLink, PlainNobody, PlainSet}
+use Rattle.nl_value.specs.Plain.{Plain, PlainNumber, PlainNobody}
 use Rattle.nl_tree.specs.Tree.{Node, label, span, parts}
 use Rattle.nl_tree.specs.Checked.{Checked}
 use Rattle.nl_layout.specs.Nouns.{BreedNumber}
@@ -12,7 +12,7 @@ use Rattle.nl_acts.specs.declared.words.Act.{Act}
 use Rattle.nl_acts.specs.Stage.{Stage, scene, stage_of}
 use Rattle.nl_acts.specs.declared.fail.ErrorKind.TheVariants.{WrongType}
 use Rattle.nl_code.specs.declared.words.Built.TheVariants as built
-use Rattle.nl_code.specs.Cases.{Case, case_of, Word}
+use Rattle.nl_code.specs.Cases.{case_of, Word}
 use Rattle.nl_code.specs.Code.{Code, node_at}
 use Rattle.nl_meaning.specs.State.{State, Outcome, Eval, Gives, Left, ends, gives, goes_on, choose, found, with_stage, with_number, come_to, ◌>>=◌}
 use Rattle.nl_meaning.specs.Running.{allowed, staying, leaves_at}

@@ -51,13 +51,7 @@ fn draw_counted<S: Store, L: Ledger>(
 {
     let mut steps = Steps::<L>::new(blank);
     let inputs = [Value::Number(below)];
-    match values(
-        alloc,
-        ValueWord::Draws(which),
-        &inputs,
-        stage,
-        &mut steps,
-    ) {
+    match values(alloc, ValueWord::Draws(which), &inputs, stage, &mut steps) {
         Ok(value) => number_of(value),
         Err(_) => None,
     }

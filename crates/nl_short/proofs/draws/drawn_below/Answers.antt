@@ -1,5 +1,5 @@
 -- The word draws below the number that its part gives.
-use Rattle.std.proofs.Common.{◌≡◌, ℕ, [], ◌∷◌, refl, ap, arith}
+use Rattle.std.proofs.Common.{◌≡◌, [], ◌∷◌, refl, ap, arith}
 use Rattle.std.proofs.lemmas.Option.{IfSome_then}
 use Rattle.nl_value.specs.Plain.{PlainNumber}
 use Rattle.nl_tree.specs.Tree.{parts}

@@ -1,5 +1,5 @@
 -- The word draws, without parts.
-use Rattle.std.proofs.Common.{◌≡◌, ℕ, [], Ok, refl, ap, ◌∙◌, sym, arith}
+use Rattle.std.proofs.Common.{◌≡◌, [], Ok, refl, ap, ◌∙◌, sym, arith}
 use Rattle.std.proofs.lemmas.Option.{IfSome_then}
 use Rattle.nl_value.specs.Plain.{PlainNumber}
 use Rattle.nl_value.specs.Views.{plain}
