@@ -319,13 +319,13 @@ pub fn do_statements<S: Store>(
             return Far { at, inside: None };
         }
         *units -= 1;
-        match do_statement(alloc, code, hands, statement, units) {
-            None => {
-                *units += 1;
-                return Far { at, inside: None };
-            }
-            Some(Done::Whole) => at += 1,
-            Some(Done::UpTo(inside)) => {
+        let Some(done) = do_statement(alloc, code, hands, statement, units) else {
+            *units += 1;
+            return Far { at, inside: None };
+        };
+        match done {
+            Done::Whole => at += 1,
+            Done::UpTo(inside) => {
                 return Far {
                     at: at + 1,
                     inside: Some(inside),
