@@ -1,6 +1,7 @@
 -- A block that is begun is its statements, and a turn that is taken is its block.
-use Rattle.std.proofs.Common.{◌≡◌, ◌-◌, ◌<◌, ℕ, zero, suc, length, slice_get, Option, Some, ap, ◌∙◌, arith}
+use Rattle.std.proofs.Common.{◌≡◌, ◌+◌, ◌-◌, ◌<◌, ℕ, zero, suc, length, slice_get, Option, Some, ap, ◌∙◌, sym, arith}
 use Rattle.nl_tree.specs.Tree.{Node, label, span, parts}
+use Rattle.nl_agents.specs.declared.store.Store.{Ghosts}
 use Rattle.nl_code.specs.Cases.{Case, case_of}
 use Rattle.nl_code.specs.Cases as case
 use Rattle.nl_code.specs.Code.{Code, node_at}
@@ -8,7 +9,12 @@ use Rattle.nl_acts.specs.declared.fail.ErrorKind.TheVariants.{WrongType}
 use Rattle.nl_meaning.specs.State.{State, Outcome, Eval, found, goes_on, spend, spend_by, ◌>>=◌}
 use Rattle.nl_meaning.specs.Blocks.{part_of, statements, turns}
 use Rattle.nl_meaning.specs.Meaning.{by_case, cases, evaluator, limited}
-use Rattle.nl_at_once.specs.AtOnce.{then_turns}
+use Rattle.nl_frames.specs.Seen.{state_of}
+use Rattle.nl_frames.specs.declared.hands.Hands.{Hands}
+use Rattle.nl_frames.proofs.Newest.{held_length}
+use Rattle.nl_at_once.specs.AtOnce.{far_left, then_turns}
+use Rattle.nl_at_once.specs.declared.statements.Far.{Far}
+use Rattle.nl_at_once.specs.declared.statements.TheConstants.{MOST_NESTED as most_nested}
 
 -- ---- blocks
 
@@ -31,6 +37,19 @@ block_comes_to c block kept nested before rest is known done (suc room) enough =
     ∙ ap (λ (n : ℕ). limited (span (node_at c block)) (statements (evaluator c.program room) n (parts (node_at c block)) before)) known
     ∙ ap (λ (o : Outcome). limited (span (node_at c block)) o) (done room (omega (arith, enough)))
     ∙ ap (λ (n : ℕ). limited (span (node_at c block)) (rest n)) same
+
+-- how far it was done, from the hands with so many units to those with what is left of them
+pub block_done_so_far : {S : Type 0} {G : Ghosts S} (c : Code) (block kept : ℕ) (far : Far) (after : Hands S G) (left : ℕ) (before : Hands S G) (units : ℕ) →
+    case_of c.program.declared (label (node_at c block)) ≡ case.Statements → kept ≡ length before.locals →
+    ((room n kept : ℕ) → most_nested < room →
+    statements (evaluator c.program room) kept (parts (node_at c block)) (state_of c.names before (units + n))
+    ≡ far_left c room block kept far (state_of c.names after (left + n))) →
+    (room n : ℕ) → suc most_nested < room →
+    evaluator c.program room (node_at c block) (state_of c.names before (units + n))
+    ≡ limited (span (node_at c block)) (far_left c (room - 1) block kept far (state_of c.names after (left + n)))
+block_done_so_far c block kept far after left before units is known done room n enough =
+    block_comes_to c block kept most_nested (state_of c.names before (units + n)) (λ r. far_left c r block kept far (state_of c.names after (left + n))) is
+    (held_length c.names before.locals ∙ sym known) (λ r deep. done r n kept deep) room enough
 
 -- the same of a block that is a part
 pub part_comes_to : (c : Code) (word index block kept nested : ℕ) (before : State) (rest : ℕ → Outcome) →

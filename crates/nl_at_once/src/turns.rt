@@ -50,13 +50,14 @@ pub fn do_block<S: Store>(
 {
     let kept = hands.locals.len();
     let far = do_statements(alloc, code, hands, block, 0, units);
-    match (far.inside, code.part(block, far.at)) {
-        (None, None) => {
-            hands.locals.truncate(kept);
-            None
-        }
-        _ => Some(Midway { far, kept }),
+    if let Some(_) = far.inside {
+        return Some(Midway { far, kept });
     }
+    let Some(_) = code.part(block, far.at) else {
+        hands.locals.truncate(kept);
+        return None;
+    };
+    Some(Midway { far, kept })
 }
 
 // A turn is over. The next member runs, for a unit, if there are both; else all is as it was.
