@@ -48,7 +48,7 @@ pub word_of_none_had : (p : Checked) (room : ℕ) (t : Node) (s : State) (runs :
     evaluator p (suc room) t s ≡ gives value (with_stage after s)
 word_of_none_had p room t s runs breed act value after is are may stays does-it small =
     let acts : act_case act breed runs (evaluator p room) t s ≡ gives value (with_stage after s) =
-        no_values (evaluator p room) (parts t) s _ are ∙ act_ends act breed runs t [] value after s stays does-it in
+    no_values (evaluator p room) (parts t) s _ are ∙ act_ends act breed runs t [] value after s stays does-it in
     case_is p room t s (Word runs breed (built.Act act)) is ∙ ap (limited (span t)) (may _ ∙ acts) ∙ small
 
 -- an act of one value
@@ -61,7 +61,7 @@ pub word_of_one_had : (p : Checked) (room : ℕ) (t x : Node) (s : State) (runs 
     evaluator p (suc room) t s ≡ gives value (with_stage after s)
 word_of_one_had p room t x s runs breed act a value after is are may stays first does-it small =
     let acts : act_case act breed runs (evaluator p room) t s ≡ gives value (with_stage after s) =
-        one_value (evaluator p room) (parts t) x a s _ are first ∙ act_ends act breed runs t (a ∷ []) value after s stays does-it in
+    one_value (evaluator p room) (parts t) x a s _ are first ∙ act_ends act breed runs t (a ∷ []) value after s stays does-it in
     case_is p room t s (Word runs breed (built.Act act)) is ∙ ap (limited (span t)) (may _ ∙ acts) ∙ small
 
 -- what needs room for one more than its part

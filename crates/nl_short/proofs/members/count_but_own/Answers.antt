@@ -33,13 +33,14 @@ returns-in-Some-members_of_word g c =
     let rest = listed (set_kind set) but in
     let again : members_of w.rest rest ≡ but = some_members w set (λ n. not (is_caller agent (set_kind set) n)) world in
     let few : length but ≤ 400_000 = omega (arith, members_are_few w rest world, ap (λ (l : List ℕ). length l) again) in
-    let counted = ap (λ kind. many kind (members_of w.rest set)) kind_is ∙ ap (many it.members.kind) (members_are ∙ sym c.as_slice.ensures.value) ∙ sym c.count_others.ensures in
-    (rest,
-    (λ room n some.
-    let s = state_of code.names h n in
-    roomy (λ it. evaluator code.program it t s ≡ gives (PlainSet rest) s) 0
-    (λ less enough. others_had code.program less t x s c.args.runs c.args.breed set (sym c.requires.is) c.in-Some.ensures
-    (c.if-not-lives_and_may_run.ensures.allowed refl code n (span t)) (c.if-not-lives_and_may_run.ensures.stays refl code n)
-    (asks w agent (c.if-not-lives_and_may_run.ensures.lives refl)) (had less n enough) (small (set_kind set) but few))
-    room some),
-    ap (λ (l : List ℕ). length l) again ∙ counted)
+    let counted = ap (λ kind. many kind (members_of w.rest set)) kind_is ∙ ap (many it.members.kind) (members_are ∙ sym c.as_slice.ensures.value) ∙ sym c.count_others.ensures in (
+      rest,
+      (λ room n some.
+          let s = state_of code.names h n in
+          roomy (λ it. evaluator code.program it t s ≡ gives (PlainSet rest) s) 0
+          (λ less enough. others_had code.program less t x s c.args.runs c.args.breed set (sym c.requires.is) c.in-Some.ensures
+          (c.if-not-lives_and_may_run.ensures.allowed refl code n (span t)) (c.if-not-lives_and_may_run.ensures.stays refl code n)
+          (asks w agent (c.if-not-lives_and_may_run.ensures.lives refl)) (had less n enough) (small (set_kind set) but few))
+          room some),
+      ap (λ (l : List ℕ). length l) again ∙ counted,
+    )

@@ -37,22 +37,24 @@ returns-in-Some-clause-given g c =
     let world = c.shape-stands.ensures.stands in
     let here = c.in-Some.ensures in
     let again : members_of w.rest (SomeTurtles numbers) ≡ numbers =
-        ap (λ l. members_of w.rest (SomeTurtles l)) here
-        ∙ turtles_on_again w (own_patch w.rest agent ∷ []) world ∙ sym here in
+    ap (λ l. members_of w.rest (SomeTurtles l)) here
+    ∙ turtles_on_again w (own_patch w.rest agent ∷ []) world ∙ sym here in
     let few : length numbers ≤ 400_000 = omega (arith, members_are_few w (SomeTurtles numbers) world, ap (λ (l : List ℕ). length l) again) in
     let is = sym (ap (λ b. Word word.runs b word.word) word.breed-is
-        ∙ ap (Word word.runs None) (word.word-is ∙ ap built.Act (word.word-0-is ∙ ap act.Query (c.in-Standing.is ∙ ap query.Standing c.in-Here.is)))) ∙ word.ensures.op in
-    (SomeTurtles numbers,
-    (λ room n some.
-    let s = state_of code.names h n in
-    some_room (λ it. evaluator code.program it t s ≡ gives (PlainSet (SomeTurtles numbers)) s)
-    (λ less. set_had code.program less t s word.runs None (query.Standing standing.Here) (SomeTurtles numbers) is
-    (nil_from_length (parts t) (sym c.count.ensures ∙ c.if-count-ne0.false))
-    (c.if-not-lives_and_may_run.ensures.allowed refl code n (span t)) (c.if-not-lives_and_may_run.ensures.stays refl code n)
-    (asks w agent (c.if-not-lives_and_may_run.ensures.lives refl))
-    (set_answered kind.Turtle numbers _ s.stage.stream (sym here)) (small kind.Turtle numbers few))
-    room some),
-    refl, again)
+    ∙ ap (Word word.runs None) (word.word-is ∙ ap built.Act (word.word-0-is ∙ ap act.Query (c.in-Standing.is ∙ ap query.Standing c.in-Here.is)))) ∙ word.ensures.op in (
+      SomeTurtles numbers,
+      (λ room n some.
+          let s = state_of code.names h n in
+          some_room (λ it. evaluator code.program it t s ≡ gives (PlainSet (SomeTurtles numbers)) s)
+          (λ less. set_had code.program less t s word.runs None (query.Standing standing.Here) (SomeTurtles numbers) is
+          (nil_from_length (parts t) (sym c.count.ensures ∙ c.if-count-ne0.false))
+          (c.if-not-lives_and_may_run.ensures.allowed refl code n (span t)) (c.if-not-lives_and_may_run.ensures.stays refl code n)
+          (asks w agent (c.if-not-lives_and_may_run.ensures.lives refl))
+          (set_answered kind.Turtle numbers _ s.stage.stream (sym here)) (small kind.Turtle numbers few))
+          room some),
+      refl,
+      again,
+    )
 
 pub returns-in-Some-links_of_own-clause-given : goal.returns-in-Some-links_of_own-clause-given
 returns-in-Some-links_of_own-clause-given g c =
@@ -67,19 +69,21 @@ returns-in-Some-links_of_own-clause-given g c =
     let world = c.shape-stands.ensures.stands in
     let own = c.in-Some-links_of_own.ensures in
     let again : members_of w.rest (SomeLinks numbers) ≡ numbers =
-        ap (λ l. members_of w.rest (SomeLinks l)) own ∙ links_at_again w turtle world ∙ sym own in
+    ap (λ l. members_of w.rest (SomeLinks l)) own ∙ links_at_again w turtle world ∙ sym own in
     let few : length numbers ≤ 400_000 = omega (arith, members_are_few w (SomeLinks numbers) world, ap (λ (l : List ℕ). length l) again) in
     let is = sym (ap (λ b. Word word.runs b word.word) word.breed-is
-        ∙ ap (Word word.runs None) (word.word-is ∙ ap built.Act (word.word-0-is ∙ ap act.Query (c.in-MyLinks.is ∙ ap query.MyLinks c.in-Any.is)))) ∙ word.ensures.op in
-    (SomeLinks numbers,
-    (λ room n some.
-    let s = state_of code.names h n in
-    some_room (λ it. evaluator code.program it t s ≡ gives (PlainSet (SomeLinks numbers)) s)
-    (λ less. set_had code.program less t s word.runs None (query.MyLinks side.Any) (SomeLinks numbers) is
-    (nil_from_length (parts t) (sym c.count.ensures ∙ c.if-count-ne0.false))
-    (c.if-not-lives_and_may_run.ensures.allowed refl code n (span t)) (c.if-not-lives_and_may_run.ensures.stays refl code n)
-    (asks w agent (c.if-not-lives_and_may_run.ensures.lives refl))
-    (ap (λ who. query_answer w.rest None who (query.MyLinks side.Any) [] s.stage.stream) c.in-Turtle.is
-    ∙ set_answered kind.Link numbers _ s.stage.stream (sym own)) (small kind.Link numbers few))
-    room some),
-    refl, again)
+    ∙ ap (Word word.runs None) (word.word-is ∙ ap built.Act (word.word-0-is ∙ ap act.Query (c.in-MyLinks.is ∙ ap query.MyLinks c.in-Any.is)))) ∙ word.ensures.op in (
+      SomeLinks numbers,
+      (λ room n some.
+          let s = state_of code.names h n in
+          some_room (λ it. evaluator code.program it t s ≡ gives (PlainSet (SomeLinks numbers)) s)
+          (λ less. set_had code.program less t s word.runs None (query.MyLinks side.Any) (SomeLinks numbers) is
+          (nil_from_length (parts t) (sym c.count.ensures ∙ c.if-count-ne0.false))
+          (c.if-not-lives_and_may_run.ensures.allowed refl code n (span t)) (c.if-not-lives_and_may_run.ensures.stays refl code n)
+          (asks w agent (c.if-not-lives_and_may_run.ensures.lives refl))
+          (ap (λ who. query_answer w.rest None who (query.MyLinks side.Any) [] s.stage.stream) c.in-Turtle.is
+          ∙ set_answered kind.Link numbers _ s.stage.stream (sym own)) (small kind.Link numbers few))
+          room some),
+      refl,
+      again,
+    )
