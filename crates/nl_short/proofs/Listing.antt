@@ -124,6 +124,11 @@ pub links_at_again : (w : World) (turtle : ℕ) → IsWorld w
     → members_of w.rest (SomeLinks (links_at w.rest side.Any None turtle)) ≡ links_at w.rest side.Any None turtle
 links_at_again w turtle world = links_again w (is_link_at side.Any None turtle) world
 
+pub kind_of_listed : (which : AgentKind) (numbers : List ℕ) → set_kind (listed which numbers) ≡ which
+kind_of_listed kind.Turtle numbers = refl
+kind_of_listed kind.Patch numbers = refl
+kind_of_listed kind.Link numbers = refl
+
 -- ---- the size of such a set
 
 within : (n : ℕ) → n ≤ 400_000 → (nat_le (1 + n) 1_000_000 && true) ≡ true

@@ -1,15 +1,18 @@
 //! How many members a set has that a node gives, without the set being made.
-ghost use Rattle.std.specs.Prelude.{◌≡◌, ◌==◌, ◌∷◌, [], None, length, filter, not, IfSome};
+ghost use Rattle.std.specs.Prelude.{◌≡◌, ℕ, ◌==◌, ◌∷◌, [], None, Ok, length, filter, not, IfSome};
+ghost use Rattle.nl_value.specs.Plain.{PlainSet};
 ghost use Rattle.nl_value.specs.declared.sets.AgentKind.TheVariants as kind;
 ghost use Rattle.nl_tree.specs.Tree.{label};
 ghost use Rattle.nl_agents.specs.Changes.{OwnerLives, TurtleLives};
+ghost use Rattle.nl_agents.specs.Members.{members_of};
 ghost use Rattle.nl_agents.specs.Standing.{IsWorld};
-ghost use Rattle.nl_query.specs.Agents.{own_patch};
+ghost use Rattle.nl_query.specs.Agents.{listed, own_patch};
 ghost use Rattle.nl_query.specs.declared.words.OfSet.TheVariants as of_set;
 ghost use Rattle.nl_query.specs.declared.words.QueryWord.TheVariants as query;
 ghost use Rattle.nl_query.specs.declared.words.Side.TheVariants as side;
 ghost use Rattle.nl_agentset.specs.Links.{links_at};
 ghost use Rattle.nl_agentset.specs.Places.{turtles_on};
+ghost use Rattle.nl_agentset.specs.Queries.{query_answer};
 ghost use Rattle.nl_agentset.specs.Sets.{is_caller};
 ghost use Rattle.nl_acts.specs.declared.words.Act.TheVariants as act;
 ghost use Rattle.nl_code.specs.declared.words.Built.TheVariants as built;
@@ -109,6 +112,45 @@ struct Members {
     numbers: Serials,
 }
 
+// The members of the set that a query of no breed gives without inputs.
+fn members_told<S: Store>(alloc: Global, hands: &Hands<S>, which: QueryWord) -> Option<Members>
+    requires { OwnerLives hands.now.site.agent (S.world hands.now.stage.store) }
+    ensures told { let r = (S.world hands.now.stage.store).rest in
+        IfSome result (λ members. let set = listed members.kind members.numbers in
+        ((state : ℕ) → query_answer r None hands.now.site.agent which [] state ≡ Ok (PlainSet set, state))
+        × (members_of r set ≡ members.numbers)) }
+    ensures stands { IsWorld (S.world hands.now.stage.store) }
+{
+    // What the order of the members rests on.
+    let _stands = hands.stage.store.shape();
+    match which {
+        QueryWord::Standing(place) => {
+            let Standing::Here = place else {
+                return None;
+            };
+            let numbers = turtles_here(alloc, hands.site.agent, &hands.stage.store)?;
+            Some(Members {
+                kind: AgentKind::Turtle,
+                numbers,
+            })
+        }
+        QueryWord::MyLinks(side) => {
+            let Side::Any = side else {
+                return None;
+            };
+            let Owner::Turtle(turtle) = hands.site.agent else {
+                return None;
+            };
+            let numbers = links_of_own(alloc, turtle, &hands.stage.store)?;
+            Some(Members {
+                kind: AgentKind::Link,
+                numbers,
+            })
+        }
+        _ => None,
+    }
+}
+
 // The members of the set that a word of no breed gives without inputs.
 fn members_of_word<S: Store>(
     alloc: Global,
@@ -119,10 +161,8 @@ fn members_of_word<S: Store>(
     requires { HandsFit hands.now }
     ensures given { IfSome result (λ members.
         GivesMembers code.now hands.now node 0 members.kind members.numbers) }
-    ensures stands { IsWorld (S.world hands.now.stage.store) }
+    ensures stands { IfSome result (λ members. IsWorld (S.world hands.now.stage.store)) }
 {
-    // What the order of the members rests on.
-    let _stands = hands.stage.store.shape();
     let Op::Word {
         runs,
         breed: None,
@@ -134,36 +174,7 @@ fn members_of_word<S: Store>(
     if code.count(node) != 0 || !lives_and_may_run(hands, runs) {
         return None;
     }
-    match which {
-        QueryWord::Standing(place) => {
-            let Standing::Here = place else {
-                return None;
-            };
-            match turtles_here(alloc, hands.site.agent, &hands.stage.store) {
-                Some(numbers) => Some(Members {
-                    kind: AgentKind::Turtle,
-                    numbers,
-                }),
-                None => None,
-            }
-        }
-        QueryWord::MyLinks(side) => {
-            let Side::Any = side else {
-                return None;
-            };
-            let Owner::Turtle(turtle) = hands.site.agent else {
-                return None;
-            };
-            match links_of_own(alloc, turtle, &hands.stage.store) {
-                Some(numbers) => Some(Members {
-                    kind: AgentKind::Link,
-                    numbers,
-                }),
-                None => None,
-            }
-        }
-        _ => None,
-    }
+    members_told(alloc, hands, which)
 }
 
 // ---- `other`
