@@ -147,6 +147,7 @@ fn number_of_members<S: Store>(
 }
 
 // The number that the node of a word gives which counts members.
+#[inline(always)]
 fn count_of_word<S: Store>(alloc: Global, code: &Code, hands: &Hands<S>, node: u32) -> Option<Num>
     requires { HandsFit hands.now }
     ensures { IfSome result (λ number. IsHad code.now hands.now node 2 (PlainNumber number)) }
