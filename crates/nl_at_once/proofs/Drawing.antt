@@ -1,6 +1,5 @@
 -- What was drawn is undone where the stream is put back.
 use Rattle.std.proofs.Common.{◌≡◌, ℕ, ap, ◌∙◌, sym}
-use Rattle.nl_fixed.specs.Nouns.{Names}
 use Rattle.nl_agents.specs.declared.store.Store.{Ghosts}
 use Rattle.nl_meaning.specs.State.{State}
 use Rattle.nl_meaning.specs.Walks.{at_stream}
@@ -8,7 +7,6 @@ use Rattle.nl_frames.specs.Seen.{state_of}
 use Rattle.nl_frames.specs.declared.hands.Hands.{Hands}
 use Rattle.nl_short.specs.Had.{OnlyDraws}
 use Rattle.nl_at_once.specs.AtOnce.{IsAsBefore}
-
 
 pub put_back : {S : Type 0} {G : Ghosts S} (after before : Hands S G) (stream : ℕ) → OnlyDraws after before → stream ≡ before.stage.stream →
     IsAsBefore (record after { stage = record after.stage { stream = stream } }) before

@@ -11,8 +11,8 @@ returns-then-not-done-clause-not g c = λ _.
     let before = c.args.hands.now in
     let drawn = c.drawn.new.hands in
     let draws : OnlyDraws c.match-drawn.hands before = elim c.match-drawn.branch [
-        in-Some-drawn w ↦ subst (λ (h : Hands g.row.S.Denot g.S.Store). OnlyDraws h before) (sym w.hands-is)
-            (draws_through w.set_number-done.new.hands drawn before (w.set_number-done.ensures.not (sym w.done-is ∙ c.if-not-done.true)) c.drawn.ensures.draws)
-        | in-None w ↦ subst (λ (h : Hands g.row.S.Denot g.S.Store). OnlyDraws h before) (sym w.hands-is) c.drawn.ensures.draws
+      | in-Some-drawn w ↦ subst (λ (h : Hands g.row.S.Denot g.S.Store). OnlyDraws h before) (sym w.hands-is)
+          (draws_through w.set_number-done.new.hands drawn before (w.set_number-done.ensures.not (sym w.done-is ∙ c.if-not-done.true)) c.drawn.ensures.draws)
+      | in-None w ↦ subst (λ (h : Hands g.row.S.Denot g.S.Store). OnlyDraws h before) (sym w.hands-is) c.drawn.ensures.draws
     ] in
     put_back c.match-drawn.hands before c.restore.new.self draws (c.restore.ensures ∙ c.save-mark.ensures)

@@ -1,6 +1,6 @@
 -- What is left of the block, once its statements are done so far.
-use Rattle.std.proofs.Common.{◌≡◌, ◌+◌, ◌-◌, List, Option, None, drop, ap, ◌∙◌}
-use Rattle.nl_tree.specs.Tree.{Node, parts, span}
+use Rattle.std.proofs.Common.{◌+◌, ◌-◌, List, Option, ap, ◌∙◌}
+use Rattle.nl_tree.specs.Tree.{Node, span}
 use Rattle.nl_code.specs.Code.{node_at}
 use Rattle.nl_meaning.specs.Blocks.{statements}
 use Rattle.nl_meaning.specs.Meaning.{evaluator, limited}
