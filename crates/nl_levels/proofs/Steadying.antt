@@ -1,5 +1,5 @@
 -- What a machine holds goes on to fit the world.
-use Rattle.std.proofs.Common.{List, [], ◌∷◌, ◌++◌, ap, ◌∙◌, sym, subst}
+use Rattle.std.proofs.Common.{◌≡◌, List, [], ◌∷◌, ◌++◌, ap, ◌∙◌, sym, subst}
 use Rattle.nl_agents.specs.declared.store.Store.{Ghosts}
 use Rattle.nl_code.specs.Code.{Code}
 use Rattle.nl_frames.specs.Ground.{Ground}
@@ -49,3 +49,10 @@ steady_on c after before ls steady stands =
       fit = stands.fit;
       held = subst (λ g. LevelsFit g ls) (sym stands.same) steady.held;
     }
+
+-- after a step, with another level on top
+pub steady_again : {S : Type 0} {G : Ghosts S} (c : Code) (after before : Hands S G) (ls all : List Level) (was now : Level) →
+    IsSteady c before (ls ++ was ∷ []) → Stands after before → FrameFits (ground after) now.frame → all ≡ ls ++ now ∷ [] → IsSteady c after all
+steady_again c after before ls all was now steady stands fit e =
+    subst (λ (xs : List Level). IsSteady c after xs) (sym e)
+    (steady_push c after ls now (steady_on c after before ls (steady_below c before ls was steady) stands) fit)

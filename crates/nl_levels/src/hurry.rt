@@ -1,18 +1,21 @@
 //! What a unit is spent for, done at once where that can be.
-ghost use Rattle.std.specs.Prelude.{◌≡◌, ℕ, suc, ◌+◌, ◌-◌, ◌<◌, ◌≤◌, ◌∷◌, ◌++◌, [], true, Some, drop, length, slice_get, vec_len, IfOk};
-ghost use Rattle.nl_tree.specs.Tree.{label, parts, span};
+ghost use Rattle.std.specs.Prelude.{◌≡◌, ℕ, suc, ◌+◌, ◌-◌, ◌<◌, ◌≤◌, ◌∷◌, ◌++◌, [], true, Some, None, drop, length, slice_get, vec_len, IfOk, IfSome};
+ghost use Rattle.nl_tree.specs.Tree.{label, parts};
 ghost use Rattle.nl_code.specs.Cases.{case_of};
 ghost use Rattle.nl_code.specs.Cases as case;
 ghost use Rattle.nl_code.specs.Code.{node_at};
-ghost use Rattle.nl_meaning.specs.Meaning.{limited};
+ghost use Rattle.nl_meaning.specs.Blocks.{leaving, statements};
+ghost use Rattle.nl_meaning.specs.Meaning.{evaluator};
+ghost use Rattle.nl_frames.specs.Means.{Stands};
 ghost use Rattle.nl_frames.specs.Seen.{ground, state_of};
-ghost use Rattle.nl_at_once.specs.AtOnce.{far_left, inside_left};
+ghost use Rattle.nl_frames.specs.Standing.{HandsFit};
+ghost use Rattle.nl_at_once.specs.AtOnce.{IsAsBefore, far_left};
 ghost use Rattle.nl_at_once.specs.declared.statements.TheConstants.{MOST_NESTED as most_nested};
 ghost use Rattle.nl_levels.specs.Rest.{rest, through, wished};
 ghost use Rattle.nl_levels.specs.Steady.{IsSteady, FocusFits};
 ghost use Rattle.nl_levels.specs.declared.focus.Focus.TheVariants.{Enter};
 ghost use Rattle.nl_frames.specs.declared.frames.Frame.TheVariants as frame;
-ghost use Rattle.nl_levels.specs.inner.Steps.{BlockGoesOn, ComesTo, GoesTo, above};
+ghost use Rattle.nl_levels.specs.inner.Steps.{BlockGoesOn, ComesTo, FarGoesOn, GoesTo, InsideGoesOn, above};
 
 use crate::focus::{Focus, Wish};
 use crate::levels::Level;
@@ -29,8 +32,33 @@ use nl_frames::{BoxedAnswers, BoxedTurns, Exit, Frame, Gathered, Hands};
 use nl_value::Value;
 use std::alloc::Global;
 
+// A block goes on from where its statements stand.
+#[inline(always)]
+#[tactic(auto, using(crate::proofs::Steadying::steady_on, crate::proofs::Following::comes_to))]
+fn from_statement<S: Store>(
+    code: &Code,
+    hands: &mut Hands<S>,
+    levels: &mut Vec<Level>,
+    block: u32,
+    at: u32,
+    kept: usize,
+) -> Result<Focus, NoMemory>
+    requires steady { IsSteady code.now hands.old levels.old.items }
+    ensures rest { IfOk result (λ focus. ComesTo code.now levels.old.items block
+        (λ prev s. statements prev kept (drop at (parts (node_at code.now block))) s)
+        levels.new.items focus hands.new hands.old) }
+    ensures depth { vec_len levels.new ≤ suc (vec_len levels.old) }
+    ensures steady { IfOk result (λ focus. IsSteady code.now hands.new levels.new.items) }
+    ensures focus { IfOk result (FocusFits (ground hands.new)) }
+{
+    let next = next_statement(code, hands, block, at, kept);
+    let focus = follow(code, hands, levels, block, next)?;
+    Ok(focus)
+}
+
 // The block of a word that chose it goes on from where its statements stand.
 #[inline(always)]
+#[tactic(auto, using(crate::proofs::Steadying::steady_push))]
 fn from_inside<S: Store>(
     code: &Code,
     hands: &mut Hands<S>,
@@ -38,10 +66,8 @@ fn from_inside<S: Store>(
     inside: Inside,
 ) -> Result<Focus, NoMemory>
     requires steady { IsSteady code.now hands.old levels.old.items }
-    ensures rest { IfOk result (λ focus. (room n : ℕ) → suc (length levels.old.items) < room →
-        rest code.now room levels.new.items focus (state_of code.now.names hands.new n)
-        ≡ through code.now room levels.old.items (inside_left code.now (room - length levels.old.items) inside
-        (state_of code.now.names hands.old n))) }
+    ensures rest { IfOk result (λ focus. InsideGoesOn code.now levels.new.items focus hands.new
+        levels.old.items inside hands.old) }
     ensures depth { vec_len levels.new ≤ 2 + vec_len levels.old }
     ensures steady { IfOk result (λ focus. IsSteady code.now hands.new levels.new.items) }
     ensures focus { IfOk result (FocusFits (ground hands.new)) }
@@ -51,51 +77,40 @@ fn from_inside<S: Store>(
         node: inside.word,
         frame,
     })?;
-    let next = next_statement(code, hands, inside.block, inside.at, inside.kept);
-    let focus = follow(code, hands, levels, inside.block, next)?;
+    let focus = from_statement(code, hands, levels, inside.block, inside.at, inside.kept)?;
     Ok(focus)
 }
 
-// The statements of a block go on from where they stand.
+// A block goes on from where the block of the statement before stands.
 #[inline(always)]
-fn from_far<S: Store>(
+#[tactic(auto, using(crate::proofs::Steadying::steady_push))]
+fn from_inner<S: Store>(
     code: &Code,
     hands: &mut Hands<S>,
     levels: &mut Vec<Level>,
     block: u32,
+    at: u32,
     kept: usize,
-    far: Far,
+    inside: Inside,
 ) -> Result<Focus, NoMemory>
     requires steady { IsSteady code.now hands.old levels.old.items }
-    ensures rest { IfOk result (λ focus. (room n : ℕ) → 2 + length levels.old.items < room →
-        rest code.now room levels.new.items focus (state_of code.now.names hands.new n)
-        ≡ through code.now room levels.old.items (limited (span (node_at code.now block))
-        (far_left code.now (room - suc (length levels.old.items)) block kept far
-        (state_of code.now.names hands.old n)))) }
+    ensures rest { IfOk result (λ focus. FarGoesOn code.now levels.new.items focus hands.new
+        levels.old.items block kept at (Some inside) hands.old) }
     ensures depth { vec_len levels.new ≤ 3 + vec_len levels.old }
     ensures steady { IfOk result (λ focus. IsSteady code.now hands.new levels.new.items) }
     ensures focus { IfOk result (FocusFits (ground hands.new)) }
 {
-    match far.inside {
-        None => {
-            let next = next_statement(code, hands, block, far.at, kept);
-            let focus = follow(code, hands, levels, block, next)?;
-            Ok(focus)
-        }
-        Some(inside) => {
-            let frame = Frame::Statement {
-                node: block,
-                at: far.at,
-                kept,
-            };
-            levels.push(Level { node: block, frame })?;
-            let focus = from_inside(code, hands, levels, inside)?;
-            Ok(focus)
-        }
-    }
+    let frame = Frame::Statement {
+        node: block,
+        at,
+        kept,
+    };
+    levels.push(Level { node: block, frame })?;
+    let focus = from_inside(code, hands, levels, inside)?;
+    Ok(focus)
 }
 
-// It goes on, or it is over.
+// A block goes on from where it is midway, or it is over.
 #[inline(always)]
 fn after_block<S: Store>(
     code: &Code,
@@ -113,9 +128,13 @@ fn after_block<S: Store>(
     ensures steady { IfOk result (λ focus. IsSteady code.now hands.new levels.new.items) }
     ensures focus { IfOk result (FocusFits (ground hands.new)) }
 {
-    match midway {
-        Some(midway) => from_far(code, hands, levels, block, midway.kept, midway.far),
-        None => Ok(Focus::Give(Exit::Gives(Value::Nobody))),
+    let Some(midway) = midway else {
+        return Ok(Focus::Give(Exit::Gives(Value::Nobody)));
+    };
+    let at = midway.far.at;
+    match midway.far.inside {
+        None => from_statement(code, hands, levels, block, at, midway.kept),
+        Some(inside) => from_inner(code, hands, levels, block, at, midway.kept, inside),
     }
 }
 
@@ -144,6 +163,37 @@ fn put_back<S: Store>(
     Ok(Focus::Enter(node))
 }
 
+// A statement is done, and those of its block from another one on, so far as that is done at once; else nothing is changed.
+#[inline(always)]
+fn do_from<S: Store>(
+    alloc: Global,
+    code: &Code,
+    hands: &mut Hands<S>,
+    block: u32,
+    at: u32,
+    node: u32,
+    units: &mut u64,
+) -> Option<Far>
+    requires fit { HandsFit hands.old }
+    ensures done { IfSome result (λ far. (room n kept : ℕ) → most_nested < room →
+        let prev = evaluator code.now.program room in
+        leaving kept (prev (node_at code.now node) (state_of code.now.names hands.old (units.old + n)))
+        (λ value s. statements prev kept (drop at (parts (node_at code.now block))) s)
+        ≡ far_left code.now room block kept far (state_of code.now.names hands.new (units.new + n))) }
+    ensures not { result ≡ None → IsAsBefore hands.new hands.old × (units.new ≡ units.old) }
+    ensures left { units.new ≤ units.old }
+    ensures stands { Stands hands.new hands.old }
+{
+    match do_statement(alloc, code, hands, node, units) {
+        None => None,
+        Some(Done::Whole) => Some(do_statements(alloc, code, hands, block, at, units)),
+        Some(Done::UpTo(inside)) => Some(Far {
+            at,
+            inside: Some(inside),
+        }),
+    }
+}
+
 // A statement of a block is done at once, and with it those behind it.
 #[inline(always)]
 fn hurry_statement<S: Store>(
@@ -169,30 +219,22 @@ fn hurry_statement<S: Store>(
     ensures steady { IfOk result (λ focus. IsSteady code.now hands.new levels.new.items) }
     ensures focus { IfOk result (FocusFits (ground hands.new)) }
 {
-    let mut at = at;
-    let inside = match do_statement(alloc, code, hands, node, units) {
-        None => {
-            let frame = Frame::Statement {
-                node: block,
-                at,
-                kept,
-            };
-            return put_back(code, hands, limit, levels, Level { node: top, frame }, node);
-        }
-        Some(Done::Whole) => {
-            let far = do_statements(alloc, code, hands, block, at, units);
-            at = far.at;
-            far.inside
-        }
-        Some(Done::UpTo(inside)) => Some(inside),
+    let Some(far) = do_from(alloc, code, hands, block, at, node, units) else {
+        let frame = Frame::Statement {
+            node: block,
+            at,
+            kept,
+        };
+        let focus = put_back(code, hands, limit, levels, Level { node: top, frame }, node)?;
+        return Ok(focus);
     };
     let frame = Frame::Statement {
         node: block,
-        at,
+        at: far.at,
         kept,
     };
     levels.push(Level { node: top, frame })?;
-    match inside {
+    match far.inside {
         None => Ok(Focus::Give(Exit::Gives(Value::Nobody))),
         Some(inside) => {
             let focus = from_inside(code, hands, levels, inside)?;
@@ -339,26 +381,34 @@ fn hurry_answering<S: Store>(
     ensures steady { IfOk result (λ focus. IsSteady code.now hands.new levels.new.items) }
     ensures focus { IfOk result (FocusFits (ground hands.new)) }
 {
+    if !is_part_of(code, whose, index, node) {
+        let frame = Frame::Answering {
+            node: whose,
+            index,
+            word,
+            member,
+            turns,
+            made,
+            gathered,
+        };
+        return put_back(code, hands, limit, levels, Level { node: top, frame }, node);
+    }
     let mut member = member;
     let mut turns = turns;
     let mut made = made;
-    let value = if is_part_of(code, whose, index, node) {
-        do_answers(
-            alloc,
-            code,
-            hands,
-            whose,
-            index,
-            node,
-            word,
-            &mut member,
-            &mut turns,
-            &mut made,
-            units,
-        )
-    } else {
-        None
-    };
+    let value = do_answers(
+        alloc,
+        code,
+        hands,
+        whose,
+        index,
+        node,
+        word,
+        &mut member,
+        &mut turns,
+        &mut made,
+        units,
+    );
     let frame = Frame::Answering {
         node: whose,
         index,
@@ -426,12 +476,14 @@ fn hurry_under<S: Store>(
             gathered,
         } => {
             hurry_answering(
-                alloc, code, hands, limit, levels, top, whose, index, word, member, turns, made, gathered,
-                node, units,
+                alloc, code, hands, limit, levels, top, whose, index, word, member, turns, made,
+                gathered, node, units,
             )
         }
         Frame::RepeatTurn { node: word, left } => {
-            hurry_repeat(alloc, code, hands, limit, levels, top, word, left, node, units)
+            hurry_repeat(
+                alloc, code, hands, limit, levels, top, word, left, node, units,
+            )
         }
         frame => put_back(code, hands, limit, levels, Level { node: top, frame }, node),
     }

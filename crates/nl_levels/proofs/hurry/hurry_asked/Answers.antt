@@ -1,15 +1,14 @@
 -- Turns were taken.
-use Rattle.std.proofs.Common.{◌<◌, ◌+◌, ◌-◌, suc, List, length, ap, ◌∙◌, sym, subst, arith}
+use Rattle.std.proofs.Common.{◌<◌, ◌+◌, ◌-◌, suc, List, length, ap, ◌∙◌, arith}
 use Rattle.nl_frames.specs.Seen.{state_of}
 use Rattle.nl_frames.specs.declared.turns.Turns.{Turns}
 use Rattle.nl_frames.specs.declared.frames.Frame.TheVariants as frame
-use Rattle.nl_at_once.specs.declared.numbers.TheConstants.{MOST_NESTED}
+use Rattle.nl_at_once.specs.declared.statements.TheConstants.{MOST_NESTED}
 use Rattle.nl_levels.specs.declared.levels.Level.{Level}
 use Rattle.nl_at_once.specs.AtOnce.{block_left}
 use Rattle.nl_levels.specs.Rest.{through}
-use Rattle.nl_levels.specs.Steady.{IsSteady}
 use Rattle.nl_levels.proofs.Hurrying.{asked_hurried}
-use Rattle.nl_levels.proofs.Steadying.{steady_below, steady_on, steady_push, steady_top}
+use Rattle.nl_levels.proofs.Steadying.{steady_again, steady_top}
 use Rattle.nl_levels.proofs.hurry.hurry_asked.Goals as goal
 
 pub do_turns-midway-requires-clause-turns : goal.do_turns-midway-requires-clause-turns
@@ -19,13 +18,10 @@ do_turns-midway-requires-clause-turns g c =
 
 pub after_block-requires-clause-steady : goal.after_block-requires-clause-steady
 after_block-requires-clause-steady g c =
-    let code = c.args.code.now in
-    let ls = c.args.levels.now.items in
     let level : (Turns → Level) = λ turns. record { node = c.args.top; frame = frame.Asked c.args.ask c.args.index turns } in
-    subst (λ (all : List Level). IsSteady code c.do_turns-midway.new.hands all) (sym c.in_ok-push.ensures.items)
-    (steady_push code c.do_turns-midway.new.hands ls (level c.do_turns-midway.new.turns)
-    (steady_on code c.do_turns-midway.new.hands c.args.hands.now ls (steady_below code c.args.hands.now ls (level c.args.turns) c.requires.steady) c.do_turns-midway.ensures.stands)
-    c.do_turns-midway.ensures.turns)
+    steady_again c.args.code.now c.do_turns-midway.new.hands c.args.hands.now c.args.levels.now.items c.push.new.self.items
+    (level c.args.turns) (level c.do_turns-midway.new.turns) c.requires.steady c.do_turns-midway.ensures.stands c.do_turns-midway.ensures.turns
+    c.in_ok-push.ensures.items
 
 pub returns-clause-rest : goal.returns-clause-rest
 returns-clause-rest g c = λ n.

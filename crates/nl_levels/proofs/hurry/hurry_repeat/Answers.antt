@@ -1,25 +1,20 @@
 -- Turns were taken.
-use Rattle.std.proofs.Common.{◌<◌, ◌+◌, ◌-◌, ℕ, suc, List, length, ap, ◌∙◌, sym, subst, arith}
+use Rattle.std.proofs.Common.{◌<◌, ◌+◌, ◌-◌, ℕ, suc, List, length, ap, ◌∙◌, arith}
 use Rattle.nl_frames.specs.Seen.{state_of}
 use Rattle.nl_frames.specs.declared.frames.Frame.TheVariants as frame
-use Rattle.nl_at_once.specs.declared.numbers.TheConstants.{MOST_NESTED}
+use Rattle.nl_at_once.specs.declared.statements.TheConstants.{MOST_NESTED}
 use Rattle.nl_levels.specs.declared.levels.Level.{Level}
 use Rattle.nl_at_once.specs.AtOnce.{block_left}
 use Rattle.nl_levels.specs.Rest.{through}
-use Rattle.nl_levels.specs.Steady.{IsSteady}
 use Rattle.nl_levels.proofs.Hurrying.{repeat_hurried}
-use Rattle.nl_levels.proofs.Steadying.{steady_below, steady_on, steady_push}
+use Rattle.nl_levels.proofs.Steadying.{steady_again}
 use Rattle.nl_levels.proofs.hurry.hurry_repeat.Goals as goal
 
 pub after_block-requires-clause-steady : goal.after_block-requires-clause-steady
 after_block-requires-clause-steady g c =
-    let code = c.args.code.now in
-    let ls = c.args.levels.now.items in
     let level : (ℕ → Level) = λ left. record { node = c.args.top; frame = frame.RepeatTurn c.args.word left } in
-    subst (λ (all : List Level). IsSteady code c.do_repeats-midway.new.hands all) (sym c.in_ok-push.ensures.items)
-    (steady_push code c.do_repeats-midway.new.hands ls (level c.do_repeats-midway.new.left)
-    (steady_on code c.do_repeats-midway.new.hands c.args.hands.now ls (steady_below code c.args.hands.now ls (level c.args.left) c.requires.steady) c.do_repeats-midway.ensures.stands)
-    tt)
+    steady_again c.args.code.now c.do_repeats-midway.new.hands c.args.hands.now c.args.levels.now.items c.push.new.self.items
+    (level c.args.left) (level c.do_repeats-midway.new.left) c.requires.steady c.do_repeats-midway.ensures.stands tt c.in_ok-push.ensures.items
 
 pub returns-clause-rest : goal.returns-clause-rest
 returns-clause-rest g c = λ n.
