@@ -315,7 +315,7 @@ pub fn do_statements<S: Store>(
         let Some(statement) = code.part(block, at) else {
             return Far { at, inside: None };
         };
-        if *units == 0 || is_dead(hands) {
+        if is_dead(hands) || *units == 0 {
             return Far { at, inside: None };
         }
         *units -= 1;

@@ -2,6 +2,5 @@ pub mod Stack
 pub mod Works
 pub mod Steadying
 pub mod Stops
-pub mod Entering
 pub mod Following
 pub mod Hurrying

@@ -13,13 +13,13 @@ ghost use Rattle.nl_levels.specs.Steady.{IsSteady, FocusFits};
 ghost use Rattle.nl_levels.specs.Work.{levels_work, total_work};
 ghost use Rattle.nl_levels.specs.inner.Steps.{ComesTo};
 
-use crate::dispatch::{enter, enter_word};
 use crate::focus::Focus;
 use crate::levels::Level;
 use crate::run::follow;
 use nl_agents::Store;
 use nl_cases::blocks::enter_statements;
 use nl_code::{Built, Code, Control, Op};
+use nl_dispatch::dispatch::{enter, enter_word};
 use nl_fixed::{NoMemory, Num};
 use nl_frames::{Exit, Hands, Next};
 use nl_value::Value;

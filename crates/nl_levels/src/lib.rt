@@ -2,7 +2,6 @@
 #![tactic(auto)]
 
 mod begins;
-pub mod dispatch;
 pub mod focus;
 mod hurry;
 pub mod levels;

@@ -11,7 +11,6 @@ ghost use Rattle.nl_levels.specs.Steady.{IsSteady, FocusFits};
 ghost use Rattle.nl_levels.specs.Work.{levels_work, total_work};
 ghost use Rattle.nl_levels.specs.inner.Steps.{ComesTo};
 
-use crate::dispatch::resume;
 use crate::focus::Focus;
 use crate::levels::Level;
 use crate::run::follow;
@@ -21,6 +20,7 @@ use nl_cases::choices::resume_if;
 use nl_cases::loops::resume_turn;
 use nl_cases::parts::resume_part;
 use nl_code::Code;
+use nl_dispatch::dispatch::resume;
 use nl_fixed::NoMemory;
 use nl_frames::{BoxedTurns, Exit, Frame, Hands};
 use nl_turns::walking;

@@ -19,7 +19,6 @@ ghost use Rattle.nl_levels.specs.Work.{levels_work, total_work};
 ghost use Rattle.nl_levels.specs.declared.focus.Focus.TheVariants.{Start, Enter, Give};
 
 use crate::begins::begin;
-use crate::dispatch::enter_text;
 use crate::focus::{Focus, Stop, Wish};
 use crate::hurry::hurry;
 use crate::levels::Level;
@@ -27,6 +26,7 @@ use crate::often::go_on;
 use nl_acts::ErrorKind;
 use nl_agents::Store;
 use nl_code::Code;
+use nl_dispatch::dispatch::enter_text;
 use nl_fixed::NoMemory;
 use nl_frames::{Exit, Hands, Next};
 use nl_meaning::Site;

@@ -7,7 +7,7 @@ use Rattle.nl_meaning.specs.Meaning.{cases}
 use Rattle.nl_frames.specs.Seen.{state_of}
 use Rattle.nl_frames.proofs.Weights.{weight_positive}
 use Rattle.nl_frames.specs.declared.frames.Next.TheVariants.{Answer}
-use Rattle.nl_levels.proofs.Entering.{cases_out}
+use Rattle.nl_dispatch.proofs.Entering.{cases_out}
 use Rattle.nl_levels.proofs.Following.{comes_to}
 use Rattle.nl_levels.proofs.begins.begin_global.Goals as goal
 

@@ -2,11 +2,11 @@
 use Rattle.std.proofs.Common.{◌∙◌, arith}
 use Rattle.nl_code.specs.Cases as case
 use Rattle.nl_frames.specs.Work.{next_work}
-use Rattle.nl_levels.proofs.Entering.{falls_below}
+use Rattle.nl_dispatch.proofs.Entering.{falls_below}
 use Rattle.nl_code.specs.Code.{node_at}
 use Rattle.nl_meaning.specs.Meaning.{cases}
 use Rattle.nl_frames.specs.Seen.{state_of}
-use Rattle.nl_levels.proofs.Entering.{cases_out}
+use Rattle.nl_dispatch.proofs.Entering.{cases_out}
 use Rattle.nl_levels.proofs.Following.{comes_to}
 use Rattle.nl_levels.proofs.begins.begin_word.Goals as goal
 

@@ -178,9 +178,9 @@ fn enter_built<S: Store>(
     }
 }
 
-// Begins a word: a dead agent leaves, and an agent of another kind may not run it.
+/// Begins a word: a dead agent leaves, and an agent of another kind may not run it.
 #[inline(always)]
-pub(crate) fn enter_word<S: Store>(
+pub fn enter_word<S: Store>(
     alloc: Global,
     code: &Code,
     hands: &mut Hands<S>,

@@ -3,7 +3,7 @@ use Rattle.std.proofs.Common.{ap, ◌∙◌, sym}
 use Rattle.nl_code.specs.Code.{node_at}
 use Rattle.nl_meaning.specs.Meaning.{control_case}
 use Rattle.nl_frames.specs.Seen.{state_of}
-use Rattle.nl_levels.proofs.dispatch.enter_control.Goals as goal
+use Rattle.nl_dispatch.proofs.dispatch.enter_control.Goals as goal
 
 pub returns-in-Die-clause-meaning : goal.returns-in-Die-clause-meaning
 returns-in-Die-clause-meaning g c = λ prev units thrifty.

@@ -3,8 +3,8 @@ use Rattle.std.specs.Prelude.{[]}
 use Rattle.nl_code.specs.Code.{node_at}
 use Rattle.nl_meaning.specs.Meaning.{built_case}
 use Rattle.nl_frames.specs.Frames.{parts_from}
-use Rattle.nl_levels.proofs.Entering.{act_out, means_too}
-use Rattle.nl_levels.proofs.dispatch.enter_built.Goals as goal
+use Rattle.nl_dispatch.proofs.Entering.{act_out, means_too}
+use Rattle.nl_dispatch.proofs.dispatch.enter_built.Goals as goal
 
 pub returns-in-Act-clause-meaning : goal.returns-in-Act-clause-meaning
 returns-in-Act-clause-meaning g c =

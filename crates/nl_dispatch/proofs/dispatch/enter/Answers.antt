@@ -13,8 +13,8 @@ use Rattle.nl_meaning.specs.Meaning.{built_case, cases}
 use Rattle.nl_frames.specs.Frames.{parts_from}
 use Rattle.nl_frames.specs.Seen.{ended, state_of}
 use Rattle.nl_frames.specs.Work.{next_work}
-use Rattle.nl_levels.proofs.Entering.{call_out, cases_out, falls_below, items_out, means_too, next_falls, none_falls}
-use Rattle.nl_levels.proofs.dispatch.enter.Goals as goal
+use Rattle.nl_dispatch.proofs.Entering.{call_out, cases_out, falls_below, items_out, means_too, next_falls, none_falls}
+use Rattle.nl_dispatch.proofs.dispatch.enter.Goals as goal
 
 pub returns-in-Number-clause-meaning : goal.returns-in-Number-clause-meaning
 returns-in-Number-clause-meaning g c = λ prev units thrifty.
