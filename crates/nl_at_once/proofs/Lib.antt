@@ -1,3 +1,4 @@
+mod Moves
 mod Owning
 mod Stepping
 mod Controls

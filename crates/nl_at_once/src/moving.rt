@@ -1,13 +1,22 @@
 //! Where a turtle goes and looks, by numbers.
-ghost use Rattle.std.specs.Prelude.{◌≡◌, ◌<◌, ℕ, Option, true, false};
+ghost use Rattle.std.specs.Prelude.{◌≡◌, ◌<◌, ℕ, List, [], Option, length, map, IsTrue, true, false};
+ghost use Rattle.nl_fixed.specs.Nouns.{Names};
+ghost use Rattle.nl_words.specs.declared.entry.Kinds.{Kinds as WhoRuns};
+ghost use Rattle.nl_value.specs.Plain.{Plain};
+ghost use Rattle.nl_value.specs.Views.{plain};
+ghost use Rattle.nl_tree.specs.Tree.{Node, parts};
 ghost use Rattle.nl_layout.specs.Nouns.{BreedNumber};
 ghost use Rattle.nl_acts.specs.declared.words.Act.TheVariants as act;
 ghost use Rattle.nl_code.specs.Code.{node_at};
+ghost use Rattle.nl_meaning.specs.Blocks.{values};
 ghost use Rattle.nl_meaning.specs.Meaning.{act_case, evaluator};
-ghost use Rattle.nl_meaning.specs.State.{goes_on};
+ghost use Rattle.nl_meaning.specs.Running.{staying};
+ghost use Rattle.nl_meaning.specs.State.{State, Outcome, Eval, goes_on};
+ghost use Rattle.nl_frames.specs.Ground.{all_fit};
 ghost use Rattle.nl_frames.specs.Means.{Stands};
-ghost use Rattle.nl_frames.specs.Seen.{state_of};
+ghost use Rattle.nl_frames.specs.Seen.{ground, state_of};
 ghost use Rattle.nl_frames.specs.Standing.{HandsFit};
+ghost use Rattle.nl_short.specs.Had.{OnlyDraws};
 ghost use Rattle.nl_at_once.specs.AtOnce.{IsAsBefore};
 
 use nl_acts::Move;
@@ -21,7 +30,28 @@ use nl_value::Value;
 use nl_words::Kinds;
 use std::alloc::Global;
 
-// By one number.
+// The agent that runs moves or turns by these inputs; else nothing is changed.
+#[inline(always)]
+fn move_now<S: Store>(hands: &mut Hands<S>, which: Move, inputs: &[Value]) -> bool
+    requires fit { HandsFit hands.old }
+    requires inputs { IsTrue (all_fit (ground hands.old) (map plain inputs.now)) }
+    ensures done { result ≡ true → (names : Names) (breed : Option BreedNumber) (runs : WhoRuns)
+        (prev : Eval) (t : Node) (s : State) (n : ℕ) → let s1 = state_of names hands.old n in
+        ((next : List Plain → State → Outcome) →
+        values prev (parts t) [] s next ≡ next (map plain inputs.now) s1) →
+        ((next : Outcome) → staying runs s1 next ≡ next) →
+        act_case (act.Move which) breed runs prev t s ≡ goes_on (state_of names hands.new n) }
+    ensures not { result ≡ false → IsAsBefore hands.new hands.old }
+    ensures stands { Stands hands.new hands.old }
+{
+    let agent = hands.site.agent;
+    match moves(which, agent, inputs, &mut hands.stage) {
+        Ok(_) => true,
+        Err(_) => false,
+    }
+}
+
+// By the number that its only part gives. Where that isn't done, a draw that was made stays made.
 #[inline(always)]
 fn move_by_one<S: Store>(
     alloc: Global,
@@ -29,7 +59,17 @@ fn move_by_one<S: Store>(
     hands: &mut Hands<S>,
     node: u32,
     which: Move,
-) -> bool {
+) -> bool
+    requires fit { HandsFit hands.old }
+    requires one { length (parts (node_at code.now node)) ≡ 1 }
+    ensures done { result ≡ true → (breed : Option BreedNumber) (runs : WhoRuns) (room n : ℕ) → 6 < room →
+        let s = state_of code.now.names hands.old n in
+        ((next : Outcome) → staying runs s next ≡ next) →
+        act_case (act.Move which) breed runs (evaluator code.now.program room) (node_at code.now node) s
+        ≡ goes_on (state_of code.now.names hands.new n) }
+    ensures not { result ≡ false → OnlyDraws hands.new hands.old }
+    ensures stands { Stands hands.new hands.old }
+{
     let Some(part) = code.part(node, 0) else {
         return false;
     };
@@ -37,13 +77,10 @@ fn move_by_one<S: Store>(
         return false;
     };
     let inputs = [Value::Number(number)];
-    match moves(which, hands.site.agent, &inputs, &mut hands.stage) {
-        Ok(_) => true,
-        Err(_) => false,
-    }
+    move_now(hands, which, &inputs)
 }
 
-// By two numbers.
+// By the numbers that its two parts give. Where that isn't done, draws that were made stay made.
 #[inline(always)]
 fn move_by_two<S: Store>(
     alloc: Global,
@@ -51,7 +88,17 @@ fn move_by_two<S: Store>(
     hands: &mut Hands<S>,
     node: u32,
     which: Move,
-) -> bool {
+) -> bool
+    requires fit { HandsFit hands.old }
+    requires two { length (parts (node_at code.now node)) ≡ 2 }
+    ensures done { result ≡ true → (breed : Option BreedNumber) (runs : WhoRuns) (room n : ℕ) → 6 < room →
+        let s = state_of code.now.names hands.old n in
+        ((next : Outcome) → staying runs s next ≡ next) →
+        act_case (act.Move which) breed runs (evaluator code.now.program room) (node_at code.now node) s
+        ≡ goes_on (state_of code.now.names hands.new n) }
+    ensures not { result ≡ false → OnlyDraws hands.new hands.old }
+    ensures stands { Stands hands.new hands.old }
+{
     let Some(first) = code.part(node, 0) else {
         return false;
     };
@@ -65,10 +112,7 @@ fn move_by_two<S: Store>(
         return false;
     };
     let inputs = [Value::Number(a), Value::Number(b)];
-    match moves(which, hands.site.agent, &inputs, &mut hands.stage) {
-        Ok(_) => true,
-        Err(_) => false,
-    }
+    move_now(hands, which, &inputs)
 }
 
 /// A turtle moves or turns by one number or by two, which may be drawn, where that is done at once; else nothing is changed.
