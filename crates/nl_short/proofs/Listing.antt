@@ -1,9 +1,9 @@
 -- The members of a set that lists some of the living members of another one, and what words of sets give.
-use Rattle.std.proofs.Common.{◌≡◌, ℕ, zero, suc, ◌<◌, ◌≤◌, ◌+◌, ◌==◌, ◌&&◌, ◌||◌, nat_le, Bool, true, false, if◌then◌else◌, List, [], ◌∷◌, map, filter, length, Option, Some, None, IsSome, is_some, refl, ap, ◌∙◌, sym, arith, ⊎_elim}
+use Rattle.std.proofs.Common.{◌≡◌, ℕ, ◌≤◌, ◌+◌, ◌==◌, ◌&&◌, ◌||◌, nat_le, Bool, true, false, if◌then◌else◌, List, [], ◌∷◌, map, filter, length, Option, Some, None, IsSome, is_some, refl, ap, ◌∙◌, sym, arith, ⊎_elim}
 use Rattle.std.specs.List.Sorted.{IsStrictlyIncreasing}
 use Rattle.std.proofs.lemmas.Bool.{or_cases, or_left, or_right, and_parts, le-leb}
 use Rattle.std.proofs.lemmas.List.Kept.{IsStrictlyIncreasing-filter}
-use Rattle.nl_value.specs.Plain.{Plain, PlainSet}
+use Rattle.nl_value.specs.Plain.{PlainSet}
 use Rattle.nl_value.specs.Sets.{set_kind}
 use Rattle.nl_value.specs.Limits.{within_limits}
 use Rattle.nl_value.specs.declared.sets.AgentKind.{AgentKind}

@@ -1,5 +1,5 @@
 -- What words of sets give at once.
-use Rattle.std.proofs.Common.{◌≡◌, ℕ, suc, ◌==◌, not, Bool, true, false, List, [], ◌∷◌, filter, length, Option, None, Ok, pos, ◌*ℤ◌, refl, ap, ◌∙◌, sym, arith}
+use Rattle.std.proofs.Common.{◌≡◌, ℕ, suc, ◌==◌, not, true, List, [], ◌∷◌, length, Option, Ok, pos, ◌*ℤ◌, refl, ap, ◌∙◌, sym, arith}
 use Rattle.std.proofs.lemmas.Bool.{ne_eqb}
 use Rattle.nl_fixed.specs.Numbers.{one}
 use Rattle.nl_fixed.specs.declared.span.Span.{Span}
@@ -12,17 +12,15 @@ use Rattle.nl_value.specs.declared.sets.AgentSet.{AgentSet}
 use Rattle.nl_tree.specs.Tree.{Node, label, span, parts}
 use Rattle.nl_tree.specs.Checked.{Checked}
 use Rattle.nl_layout.specs.Nouns.{BreedNumber}
-use Rattle.nl_agents.specs.World.{Rest}
 use Rattle.nl_agents.specs.Members.{members_of}
 use Rattle.nl_agents.specs.declared.agents.Owner.{Owner}
 use Rattle.nl_query.specs.Agents.{listed}
-use Rattle.nl_query.specs.declared.words.OfSet.{OfSet}
 use Rattle.nl_query.specs.declared.words.OfSet.TheVariants as of_set
 use Rattle.nl_query.specs.declared.words.QueryWord.{QueryWord}
 use Rattle.nl_query.specs.declared.words.QueryWord.TheVariants as query
 use Rattle.nl_query.specs.Outcomes as outcomes
 use Rattle.nl_agentset.specs.Queries.{query_answer}
-use Rattle.nl_agentset.specs.Sets.{is_caller, others, has_members}
+use Rattle.nl_agentset.specs.Sets.{others, has_members}
 use Rattle.nl_acts.specs.declared.words.Act.TheVariants as act
 use Rattle.nl_acts.specs.Stage.{Stage, outcome_map}
 use Rattle.nl_acts.specs.Fails.{error_of_query, told_as}

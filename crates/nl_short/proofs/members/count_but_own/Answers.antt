@@ -1,5 +1,5 @@
 -- The word gives the set of the members but the agent that runs.
-use Rattle.std.proofs.Common.{ℕ, ◌≤◌, ◌≡◌, Bool, not, List, length, filter, refl, ap, ◌∙◌, sym, arith}
+use Rattle.std.proofs.Common.{ℕ, ◌≤◌, ◌≡◌, not, List, length, filter, refl, ap, ◌∙◌, sym, arith}
 use Rattle.nl_tree.specs.Tree.{span}
 use Rattle.nl_value.specs.Sets.{set_kind}
 use Rattle.nl_value.specs.Plain.{PlainSet}

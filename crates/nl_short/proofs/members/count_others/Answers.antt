@@ -1,5 +1,5 @@
 -- There are no more of them than were looked at.
-use Rattle.std.proofs.Common.{ℕ, Bool, not, take, length, filter, arith}
+use Rattle.std.proofs.Common.{ℕ, Bool, not, take, arith}
 use Rattle.std.proofs.lemmas.List.{length-take-le}
 use Rattle.std.proofs.lemmas.List.Sums.{length-filter, count_by-le-length}
 use Rattle.nl_agentset.specs.Sets.{is_caller}

@@ -1,5 +1,5 @@
 -- Those that were looked at are counted.
-use Rattle.std.proofs.Common.{◌≡◌, ℕ, length, filter, not, take}
+use Rattle.std.proofs.Common.{◌≡◌, length, filter, not, take}
 use Rattle.nl_agentset.specs.Sets.{is_caller}
 use Rattle.nl_short.proofs.members.count_others.Given as goal
 

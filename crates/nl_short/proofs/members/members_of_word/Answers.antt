@@ -6,14 +6,12 @@ use Rattle.nl_tree.specs.Tree.{span, parts}
 use Rattle.nl_value.specs.Plain.{PlainSet}
 use Rattle.nl_agents.proofs.LivingMembers.{members_are_few}
 use Rattle.nl_query.specs.Agents.{listed}
-use Rattle.nl_acts.specs.declared.words.Act.TheVariants as act
 use Rattle.nl_code.specs.declared.words.Built.TheVariants as built
 use Rattle.nl_code.specs.Cases.{Word}
 use Rattle.nl_code.specs.Code.{node_at}
 use Rattle.nl_meaning.specs.State.{gives}
 use Rattle.nl_meaning.specs.Meaning.{evaluator}
 use Rattle.nl_frames.specs.Seen.{state_of}
-use Rattle.nl_short.proofs.Words.{where_some}
 use Rattle.nl_short.proofs.Single.{some_room}
 use Rattle.nl_short.proofs.Listing.{kind_of_listed, small, asks}
 use Rattle.nl_short.proofs.Sets.{set_had}
@@ -28,15 +26,17 @@ returns-clause-given g c = IfSome_then c.members_told.result c.members_told.ensu
     let word = c.in-Word-default-None-Act-Query in
     let set = listed members.kind members.numbers in
     let few : length members.numbers ≤ 400_000 = omega (arith, members_are_few w set c.members_told.ensures.stands, ap (λ (l : List ℕ). length l) told.1) in
-    let is = sym (ap (λ b. Word word.runs b word.word) word.breed-is ∙ ap (Word word.runs None) (word.word-is ∙ ap built.Act word.word-0-is)) ∙ word.ensures.op in
-    (set,
-    (λ room n some.
-    let s = state_of code.names h n in
-    some_room (λ it. evaluator code.program it t s ≡ gives (PlainSet set) s)
-    (λ less. set_had code.program less t s word.runs None word.which set is
-    (nil_from_length (parts t) (sym c.count.ensures ∙ c.if-count-ne0.false))
-    (c.if-not-lives_and_may_run.ensures.allowed refl code n (span t)) (c.if-not-lives_and_may_run.ensures.stays refl code n)
-    (asks w h.site.agent (c.if-not-lives_and_may_run.ensures.lives refl))
-    (told.0 s.stage.stream) (small members.kind members.numbers few))
-    room some),
-    kind_of_listed members.kind members.numbers, told.1))
+    let is = sym (ap (λ b. Word word.runs b word.word) word.breed-is ∙ ap (Word word.runs None) (word.word-is ∙ ap built.Act word.word-0-is)) ∙ word.ensures.op in (
+      set,
+      (λ room n some.
+          let s = state_of code.names h n in
+          some_room (λ it. evaluator code.program it t s ≡ gives (PlainSet set) s)
+          (λ less. set_had code.program less t s word.runs None word.which set is
+          (nil_from_length (parts t) (sym c.count.ensures ∙ c.if-count-ne0.false))
+          (c.if-not-lives_and_may_run.ensures.allowed refl code n (span t)) (c.if-not-lives_and_may_run.ensures.stays refl code n)
+          (asks w h.site.agent (c.if-not-lives_and_may_run.ensures.lives refl))
+          (told.0 s.stage.stream) (small members.kind members.numbers few))
+          room some),
+      kind_of_listed members.kind members.numbers,
+      told.1,
+    ))

@@ -1,6 +1,5 @@
 -- The word counts the members of the set that its part gives.
-use Rattle.std.proofs.Common.{◌≡◌, pos, ◌*ℤ◌, refl, ap, ◌∙◌, sym, arith}
-use Rattle.nl_fixed.specs.Numbers.{one}
+use Rattle.std.proofs.Common.{◌≡◌, refl, ap, ◌∙◌, sym, arith}
 use Rattle.nl_tree.specs.Tree.{span}
 use Rattle.nl_value.specs.Plain.{PlainNumber}
 use Rattle.nl_agents.proofs.LivingMembers.{members_are_few}
