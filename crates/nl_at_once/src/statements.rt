@@ -1,6 +1,7 @@
 //! Statements that are done at once.
-ghost use Rattle.std.specs.Prelude.{◌≡◌, ◌+◌, ◌<◌, ◌≤◌, ℕ, suc, Option, None, IfSome, true, false, drop};
+ghost use Rattle.std.specs.Prelude.{◌≡◌, ◌+◌, ◌^◌, ◌<◌, ◌≤◌, ℕ, suc, Option, None, IfSome, true, false, drop};
 ghost use Rattle.nl_layout.specs.Nouns.{BreedNumber};
+ghost use Rattle.nl_acts.specs.Acts.{is_gone};
 ghost use Rattle.nl_tree.specs.Tree.{label, parts, span};
 ghost use Rattle.nl_code.specs.declared.words.Built.TheVariants as built;
 ghost use Rattle.nl_code.specs.Cases as case;
@@ -101,6 +102,21 @@ fn do_plain<S: Store>(
     }
 }
 
+// A unit is spent for a statement, where there is one and the agent that runs lives.
+#[inline(always)]
+fn spends<S: Store>(hands: &Hands<S>, units: &mut u64) -> bool
+    ensures spent { result ≡ true → units.old ≡ suc units.new }
+    ensures back { result ≡ true → units.new + 1 < 2 ^ 64 }
+    ensures lives { result ≡ true → is_gone (S.world hands.now.stage.store).rest hands.now.site.agent ≡ false }
+    ensures not { result ≡ false → units.new ≡ units.old }
+{
+    if *units == 0 || is_dead(hands) {
+        return false;
+    }
+    *units -= 1;
+    true
+}
+
 // Statements of a block are done from its first one on, each for a unit, so far as they run no block and are done at once. It tells which
 // one comes next.
 fn do_plain_statements<S: Store>(
@@ -124,10 +140,9 @@ fn do_plain_statements<S: Store>(
         let Some(statement) = code.part(block, at) else {
             return at;
         };
-        if *units == 0 || is_dead(hands) {
+        if !spends(hands, units) {
             return at;
         }
-        *units -= 1;
         if !do_plain(alloc, code, hands, statement, units) {
             *units += 1;
             return at;
@@ -315,10 +330,9 @@ pub fn do_statements<S: Store>(
         let Some(statement) = code.part(block, at) else {
             return Far { at, inside: None };
         };
-        if is_dead(hands) || *units == 0 {
+        if !spends(hands, units) {
             return Far { at, inside: None };
         }
-        *units -= 1;
         let Some(done) = do_statement(alloc, code, hands, statement, units) else {
             *units += 1;
             return Far { at, inside: None };
