@@ -1,5 +1,5 @@
 -- What holds of all that a machine holds, as long as memory isn't wanting.
-use Rattle.std.specs.Prelude.{◌≡◌, ⊤, IsTrue, List, [], ◌∷◌}
+use Rattle.std.specs.Prelude.{◌≡◌, ⊤, List, [], ◌∷◌}
 use Rattle.nl_layout.specs.Layouts.{layout_of}
 use Rattle.nl_agents.specs.declared.store.Store.{Ghosts}
 use Rattle.nl_code.specs.Code.{Code}

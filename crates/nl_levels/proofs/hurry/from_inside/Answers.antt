@@ -1,5 +1,5 @@
 -- The block goes on through the level of the word that chose it.
-use Rattle.std.proofs.Common.{◌<◌, ◌-◌, ◌∷◌, [], ℕ, suc, List, drop, length, ap, ◌∙◌, sym, subst, arith, length-append}
+use Rattle.std.proofs.Common.{◌<◌, ◌-◌, ◌∷◌, [], suc, List, drop, length, ap, ◌∙◌, sym, subst, arith, length-append}
 use Rattle.nl_tree.specs.Tree.{parts, span}
 use Rattle.nl_code.specs.Code.{node_at}
 use Rattle.nl_meaning.specs.Blocks.{statements}
