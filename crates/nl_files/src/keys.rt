@@ -1,5 +1,5 @@
 //! Keys of agents by serial.
-ghost use Rattle.std.specs.Prelude.{◌≡◌, ◌+◌, ℕ, Some, None, OnOk, IsSome};
+ghost use Rattle.std.specs.Prelude.{◌≡◌, ◌+◌, ℕ, Some, None, OnOk, IsSome, IfSome};
 ghost use Rattle.nl_files.specs.Keys.{key_count, key_in, HasPlace, SameKeys, SetsKey};
 
 use indexmap::IndexMap;
@@ -10,6 +10,8 @@ use std::alloc::Global;
 #[derive(Drop)]
 pub struct Keys {
     map: IndexMap<u64, usize>,
+    /// The serial that was put while there were no keys. It is only a hint of where an entry stands.
+    first: u64,
 }
 
 impl Keys {
@@ -20,6 +22,7 @@ impl Keys {
     {
         Keys {
             map: IndexMap::new(alloc),
+            first: 0,
         }
     }
 
@@ -34,7 +37,23 @@ impl Keys {
     pub(crate) fn get(&self, serial: u64) -> Option<usize>
         ensures { result ≡ key_in self.now serial }
     {
-        self.map.get(&serial).copied()
+        match self.guessed(serial) {
+            Some(key) => Some(key),
+            None => self.map.get(&serial).copied(),
+        }
+    }
+
+    /// The key of a serial whose entry stands where a guess looks for it. Serials are given one after another and each new entry goes
+    /// last, so while few agents have died nearly all stand as far from the start as their serial is from the first one. A look there
+    /// takes less time than to find the serial by its hash.
+    fn guessed(&self, serial: u64) -> Option<usize>
+        ensures { IfSome result (λ key. key_in self.now serial ≡ Some key) }
+    {
+        if serial < self.first {
+            return None;
+        }
+        let (there, key) = self.map.get_index((serial - self.first) as usize)?;
+        if *there == serial { Some(*key) } else { None }
     }
 
     /// Makes room for one more.
@@ -54,6 +73,9 @@ impl Keys {
         ensures put { SetsKey self.old self.new serial (Some key) }
         ensures count { key_count self.new ≡ key_count self.old + 1 }
     {
+        if self.map.is_empty() {
+            self.first = serial;
+        }
         let _ = self.map.insert(serial, key).unwrap();
     }
 
