@@ -1,16 +1,22 @@
 -- What an agent keeps under a slot, by the slot's place among the slots of its kind.
-use Rattle.std.specs.Prelude.{◌≡◌, ℕ, List, zero, suc, ◌<◌, ◌==◌, false, [], ◌∷◌, slice_get, slice_set, slice_index_or, Some, None, All}
+use Rattle.std.specs.Prelude.{◌≡◌, ℕ, List, zero, suc, ◌<◌, ◌==◌, true, false, [], ◌∷◌, slice_get, slice_set, slice_index_or, Some, None, All}
 use Rattle.std.specs.List.Sorted.{IsStrictlyIncreasing}
 use Rattle.std.proofs.Common.{arith, ap, ap₂, ◌∙◌, refl, subst}
 use Rattle.std.proofs.lemmas.Bool.{cond-true, cond-false, ne_eqb, eq-eqb, or_parts, or_from}
 use Rattle.std.proofs.lemmas.Option.{same_Some, none-some, get_or_from_slice_get, slice_get_within}
 use Rattle.std.proofs.lemmas.List.Elements.{All-head, All-tail}
+use Rattle.std.proofs.lemmas.List.Folds.{list_any_at}
 use Rattle.nl_value.specs.Plain.{Plain}
 use Rattle.nl_layout.specs.Nouns.{Slot, Slots}
 use Rattle.nl_agents.specs.Nouns.{Vars}
 use Rattle.nl_agents.specs.Changes.{value_in, value_set, set_entry, changed_at}
 use Rattle.nl_layout.specs.Layouts.{has_slot}
 use Rattle.nl_agents.proofs.Keyed.{ascend_tail, ascend_head}
+
+-- a slot that stands at an index is among these
+pub has_slot_at : (slots : Slots) (i : ℕ) (slot : Slot) → slice_get slots i ≡ Some slot → has_slot slots slot ≡ true
+has_slot_at slots i slot e =
+    list_any_at (λ other. other == slot) slots i 0 (slice_get_within slots i slot e) (eq-eqb _ slot (get_or_from_slice_get slots i slot 0 e))
 
 -- a slot is below each later one
 slot_before : (s : Slot) (ss : Slots) (i : ℕ) (slot : Slot) → IsStrictlyIncreasing (s ∷ ss) → slice_get ss i ≡ Some slot → s < slot

@@ -42,6 +42,15 @@ impl Variables {
         }
     }
 
+    /// No variables, and room for so many.
+    pub(crate) fn with_room(alloc: Global, many: usize) -> Result<Variables, NoMemory>
+        ensures { IfOk result (λ vars. vars ≡ []) }
+    {
+        Ok(Variables {
+            list: Vec::with_capacity(alloc, many)?,
+        })
+    }
+
     /// Appends an entry, or leaves the variables as they were.
     pub(crate) fn push(&mut self, _alloc: Global, entry: Option<Value>) -> Result<(), NoMemory>
         ensures ok { OnOk result (self.new ≡ self.old ++ option_map plain entry ∷ []) }
@@ -123,7 +132,7 @@ impl Variables {
     pub fn copy(&self, alloc: Global) -> Result<Variables, NoMemory>
         ensures { IfOk result (λ again. again ≡ self.now) }
     {
-        let mut copied = Variables::empty(alloc);
+        let mut copied = Variables::with_room(alloc, self.list.len())?;
         for entry in &self.list {
             let again = copy_entry(alloc, entry)?;
             copied.push(alloc, again)?;
