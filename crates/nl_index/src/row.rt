@@ -44,6 +44,7 @@ fn set_after(
     requires number { number < length row.old.items }
     requires chain { chain < 5 }
     requires held { IsHeld (record_at records.old) place }
+    requires to { IsHeld (record_at records.old) to }
     ensures after { let old = after chain (borders_in row.old.items) (record_at records.old) in
         let new = after chain (borders_in row.new.items) (record_at records.new) in
         Redirects number place to old new }
@@ -71,6 +72,7 @@ fn set_before(
     requires number { number < length row.old.items }
     requires chain { chain < 5 }
     requires held { IsHeld (record_at records.old) place }
+    requires to { IsHeld (record_at records.old) to }
     ensures before { let old = before chain (borders_in row.old.items) (record_at records.old) in
         let new = before chain (borders_in row.new.items) (record_at records.new) in
         Redirects number place to old new }

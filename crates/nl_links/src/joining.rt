@@ -29,6 +29,7 @@ fn set_after(
 )
     requires turtle { IsSome (sides_at ends.old turtle) }
     requires held { IsHeld (record_at records.old) place }
+    requires to { IsHeld (record_at records.old) to }
     ensures after { let old = after (kind_of side) (borders_of side ends.old) (record_at records.old) in
         let new = after (kind_of side) (borders_of side ends.new) (record_at records.new) in
         Redirects turtle place to old new }
@@ -55,6 +56,7 @@ fn set_before(
 )
     requires turtle { IsSome (sides_at ends.old turtle) }
     requires held { IsHeld (record_at records.old) place }
+    requires to { IsHeld (record_at records.old) to }
     ensures before { let old = before (kind_of side) (borders_of side ends.old) (record_at records.old) in
         let new = before (kind_of side) (borders_of side ends.new) (record_at records.new) in
         Redirects turtle place to old new }

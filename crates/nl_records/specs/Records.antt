@@ -1,7 +1,8 @@
 -- What contracts see of records.
-use Rattle.std.specs.Prelude.{◌≡◌, ℕ, ◌==◌, Option, None, if◌then◌else◌}
+use Rattle.std.specs.Prelude.{◌≡◌, ◌<◌, ℕ, ◌==◌, Option, None, if◌then◌else◌}
 use Rattle.std.specs.Option.{option_map}
 use Rattle.slab.specs.Slab.{get, HasRoomFor}
+use Rattle.nl_records.specs.Packed.{small_keys}
 use Rattle.nl_records.specs.declared.fields.Body.{Body}
 use Rattle.nl_records.specs.declared.fields.Fields.{Fields}
 use Rattle.nl_records.specs.declared.record.Place.{Place}
@@ -10,7 +11,7 @@ use Rattle.nl_records.specs.declared.records.Records.{Records}
 
 -- the record under each key
 abbrev pub record_at : Records → ℕ → Option Record
-record_at records key = get records.slab key
+record_at records key = get records key
 
 -- what is known of the agent under each key
 abbrev pub fields_at : (ℕ → Option Record) → ℕ → Option Fields
@@ -18,7 +19,7 @@ fields_at at key = option_map (λ (r : Record). r.fields) (at key)
 
 -- the next `put` can't be refused
 abbrev pub HasRoom : Records → Type 0
-HasRoom records = HasRoomFor records.slab 1
+HasRoom records = HasRoomFor records 1 × (records.vacant_key < small_keys)
 
 -- each key has the record that it had
 abbrev pub SameRecords : (old new : ℕ → Option Record) → Type 0

@@ -2,6 +2,7 @@
 #![tactic(auto)]
 
 pub mod fields;
+mod packed;
 pub mod places;
 pub mod record;
 pub mod records;

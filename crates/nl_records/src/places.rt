@@ -1,7 +1,8 @@
 //! Single places in chains.
 ghost use Rattle.std.specs.Prelude.{◌≡◌, ◌<◌, ℕ, Some, IsSome};
+ghost use Rattle.nl_records.specs.Packed.{IsPackable};
 ghost use Rattle.nl_records.specs.Records.{record_at};
-ghost use Rattle.nl_records.specs.Filed.{after, before, next_of, previous_of, KeepsOthers, Redirects, Stays};
+ghost use Rattle.nl_records.specs.Filed.{after, before, next_of, previous_of, IsHeld, KeepsOthers, Redirects, Stays};
 ghost use Rattle.nl_records.specs.declared.places.Border.{Border};
 
 use crate::record::Place;
@@ -26,6 +27,7 @@ fn place_counted<L: Ledger>(blank: Blank, records: &Records, chain: u8, key: usi
     requires chain { chain < 5 }
     ensures next { result.next ≡ next_of chain (record_at records.now key) }
     ensures previous { result.previous ≡ previous_of chain (record_at records.now key) }
+    ensures small { IsPackable result }
 {
     let mut steps = Steps::<L>::new(blank);
     records.read(key, &mut steps).unwrap().place(chain)
@@ -37,6 +39,7 @@ pub fn place_at(records: &Records, chain: u8, key: usize) -> Place
     requires chain { chain < 5 }
     ensures next { result.next ≡ next_of chain (record_at records.now key) }
     ensures previous { result.previous ≡ previous_of chain (record_at records.now key) }
+    ensures small { IsPackable result }
 {
     place_counted::<Brand>(Blank::new(1), records, chain, key)
 }
@@ -45,6 +48,7 @@ pub fn place_at(records: &Records, chain: u8, key: usize) -> Place
 pub fn set_next(records: &mut Records, chain: u8, key: usize, to: Option<usize>)
     requires held { IsSome (record_at records.old key) }
     requires chain { chain < 5 }
+    requires to { IsHeld (record_at records.old) to }
     ensures after { (borders : ℕ → Border) (number : ℕ) →
         Redirects number (Some key) to (after chain borders (record_at records.old)) (after chain borders (record_at records.new)) }
     ensures before { (borders : ℕ → Border) →
@@ -52,6 +56,7 @@ pub fn set_next(records: &mut Records, chain: u8, key: usize, to: Option<usize>)
     ensures others { KeepsOthers chain (record_at records.old) (record_at records.new) }
 {
     let place = place_at(records, chain, key);
+    records.keys_are_small();
     records.relink(key, chain, place.previous, to);
 }
 
@@ -59,6 +64,7 @@ pub fn set_next(records: &mut Records, chain: u8, key: usize, to: Option<usize>)
 pub fn set_previous(records: &mut Records, chain: u8, key: usize, to: Option<usize>)
     requires held { IsSome (record_at records.old key) }
     requires chain { chain < 5 }
+    requires to { IsHeld (record_at records.old) to }
     ensures before { (borders : ℕ → Border) (number : ℕ) →
         Redirects number (Some key) to (before chain borders (record_at records.old)) (before chain borders (record_at records.new)) }
     ensures after { (borders : ℕ → Border) →
@@ -66,6 +72,7 @@ pub fn set_previous(records: &mut Records, chain: u8, key: usize, to: Option<usi
     ensures others { KeepsOthers chain (record_at records.old) (record_at records.new) }
 {
     let place = place_at(records, chain, key);
+    records.keys_are_small();
     records.relink(key, chain, to, place.next);
 }
 
@@ -79,11 +86,14 @@ pub fn set_place(
 )
     requires held { IsSome (record_at records.old key) }
     requires chain { chain < 5 }
+    requires previous { IsHeld (record_at records.old) previous }
+    requires next { IsHeld (record_at records.old) next }
     ensures after { (borders : ℕ → Border) (number : ℕ) →
         Redirects number (Some key) next (after chain borders (record_at records.old)) (after chain borders (record_at records.new)) }
     ensures before { (borders : ℕ → Border) (number : ℕ) →
         Redirects number (Some key) previous (before chain borders (record_at records.old)) (before chain borders (record_at records.new)) }
     ensures others { KeepsOthers chain (record_at records.old) (record_at records.new) }
 {
+    records.keys_are_small();
     records.relink(key, chain, previous, next);
 }

@@ -1,8 +1,10 @@
 //! An agent with its places in chains.
 ghost use Rattle.std.specs.Prelude.{◌≡◌, ◌<◌, ℕ};
+ghost use Rattle.nl_records.specs.Packed.{IsPackable};
 ghost use Rattle.nl_records.specs.Records.{no_place, place_of, settled, with_place};
 
 use crate::fields::{Body, Fields};
+use crate::packed::Packed;
 
 /// The keys of the records before and after a record in one chain. None where it is the first, or the last, or in no such chain.
 #[derive(Clone, Copy, Debug)]
@@ -16,11 +18,11 @@ pub struct Place {
 #[derive(Drop)]
 pub struct Record {
     fields: Fields,
-    births: Place,
-    patch: Place,
-    breed: Place,
-    end1: Place,
-    end2: Place,
+    births: Packed,
+    patch: Packed,
+    breed: Packed,
+    end1: Packed,
+    end2: Packed,
 }
 
 impl Record {
@@ -29,17 +31,13 @@ impl Record {
         ensures fields { result.fields ≡ fields }
         ensures places { (chain : ℕ) → place_of chain result ≡ no_place }
     {
-        let none = Place {
-            previous: None,
-            next: None,
-        };
         Record {
             fields,
-            births: none,
-            patch: none,
-            breed: none,
-            end1: none,
-            end2: none,
+            births: Packed::none(),
+            patch: Packed::none(),
+            breed: Packed::none(),
+            end1: Packed::none(),
+            end2: Packed::none(),
         }
     }
 
@@ -69,28 +67,32 @@ impl Record {
     /// The place in a chain of that kind.
     pub(crate) fn place(&self, chain: u8) -> Place
         requires { chain < 5 }
-        ensures { result ≡ place_of chain self.now }
+        ensures place { result ≡ place_of chain self.now }
+        ensures small { IsPackable result }
     {
-        match chain {
-            0 => self.births,
-            1 => self.patch,
-            2 => self.breed,
-            3 => self.end1,
-            _ => self.end2,
-        }
+        let packed = match chain {
+            0 => &self.births,
+            1 => &self.patch,
+            2 => &self.breed,
+            3 => &self.end1,
+            _ => &self.end2,
+        };
+        packed.place()
     }
 
     /// Sets the place in a chain of that kind.
     pub(crate) fn set_place(&mut self, chain: u8, place: Place)
-        requires { chain < 5 }
+        requires chain { chain < 5 }
+        requires small { IsPackable place }
         ensures { self.new ≡ with_place chain place self.old }
     {
+        let packed = Packed::new(place);
         match chain {
-            0 => self.births = place,
-            1 => self.patch = place,
-            2 => self.breed = place,
-            3 => self.end1 = place,
-            _ => self.end2 = place,
+            0 => self.births = packed,
+            1 => self.patch = packed,
+            2 => self.breed = packed,
+            3 => self.end1 = packed,
+            _ => self.end2 = packed,
         }
     }
 

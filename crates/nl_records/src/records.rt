@@ -1,6 +1,7 @@
 //! Records under keys.
 ghost use Rattle.std.specs.Prelude.{◌≡◌, ◌+◌, ◌<◌, ℕ, Some, None, IsSome, IsOk, IfOk, IfErr, OnOk, OnErr, option_map};
 ghost use Rattle.std.specs.Option.{option_copied};
+ghost use Rattle.nl_records.specs.Packed.{small_keys, AreSmall, IsSmall};
 ghost use Rattle.nl_records.specs.Records.{record_at, fields_at, HasRoom, SameRecords, Sets, linked, settled, with_fields};
 
 use crate::fields::{Body, Fields};
@@ -9,14 +10,34 @@ use nl_agents::Steps;
 use nl_fixed::NoMemory;
 use slab::Slab;
 use std::alloc::Global;
+use std::marker::Model;
 use std::sync::ledger::Ledger;
 
 /// The records of agents, each under a key. A key is given to one record at a time, and again when its record was taken out. Every call
-/// takes the same time however many records there are, but those that make room may move them all.
+/// takes the same time however many records there are, but those that make room may move them all. A key is less than 2^32 - 1, so that it
+/// may be kept in few bytes; where no such key is left, a new record is refused as if memory were wanted.
 #[derive(Drop)]
 pub struct Records {
     slab: Slab<Record>,
 }
+
+impl Model for Records {
+    ghost use Rattle.slab.specs.Slab.{get, slab_code, Slab as Slots};
+    ghost use Rattle.nl_records.specs.declared.record.Record.{Record};
+    ghost use Rattle.nl_records.specs.contracts.record.Record.{the_row};
+    ghost use Rattle.nl_records.specs.Packed.{AreSmall};
+
+    ghost Value = { Slots Record };
+
+    ghost coded = { slab_code the_row.coded };
+
+    ghost view = { λ r. r.slab };
+
+    ghost invariant = { λ r. AreSmall (get r.slab) };
+}
+
+/// So many keys may be given: one more than each fits in 32 bits.
+const KEYS: usize = u32::MAX as usize;
 
 impl Records {
     /// No record is held.
@@ -28,13 +49,24 @@ impl Records {
         }
     }
 
+    /// A law: a key that is held may be kept in a place.
+    pub(crate) fn keys_are_small(&self)
+        ensures { AreSmall (record_at self.now) }
+    {
+        let _ = &self.slab;
+    }
+
     /// Makes room, so that the next `put` can't be refused.
     pub fn room(&mut self, _alloc: Global) -> Result<(), NoMemory>
         ensures room { OnOk result (HasRoom self.new) }
         ensures kept { SameRecords (record_at self.old) (record_at self.new) }
     {
         self.slab.reserve(1)?;
-        Ok(())
+        if self.slab.vacant_key() < KEYS {
+            Ok(())
+        } else {
+            Err(NoMemory)
+        }
     }
 
     /// Holds a record under the key that it gives. Refused for want of memory, it hands the record back and leaves all as it was.
@@ -45,6 +77,9 @@ impl Records {
         ensures back { IfErr result (λ back. back ≡ entry) }
         ensures kept { OnErr result (SameRecords (record_at self.old) (record_at self.new)) }
     {
+        if self.slab.vacant_key() >= KEYS {
+            return Err(entry);
+        }
         match self.slab.insert(entry) {
             Ok(key) => Ok(key),
             Err(failed) => Err(failed.value),
@@ -69,10 +104,13 @@ impl Records {
         self.slab.remove(key)
     }
 
-    /// Sets the keys before and after a record in its chain of that kind, counted as in `Record::next`. It takes no memory.
+    /// Sets the keys before and after a record in its chain of that kind, counted as in `Record::next`. A key that is held is small enough.
+    /// It takes no memory.
     pub fn relink(&mut self, key: usize, chain: u8, previous: Option<usize>, next: Option<usize>)
         requires held { IsSome (record_at self.old key) }
         requires chain { chain < 5 }
+        requires previous { IsSmall previous }
+        requires next { IsSmall next }
         ensures { let changed = option_map (linked chain previous next) (record_at self.old key) in
             Sets (record_at self.old) (record_at self.new) key changed }
     {

@@ -5,6 +5,14 @@ use Rattle.nl_records.proofs.Filing.{filed-last, held-kept, keeps-trans, place-h
 use Rattle.nl_index.proofs.Borders.{last-redirects, last-stays}
 use Rattle.nl_index.proofs.row.link_last.Goals as goal
 
+pub set_place-requires-clause-previous : goal.set_place-requires-clause-previous
+set_place-requires-clause-previous c =
+    let o = c.requires.away in
+    place-held _ _ _ _ _ c.args.number _ o.filed (subst (IsPlace o.home c.args.number) (sym c.last_of-last.ensures) (o.filed.threaded.back.stays c.args.number None tt))
+
+pub set_after-requires-clause-to : goal.set_after-requires-clause-to
+set_after-requires-clause-to c = held-kept c.args.chain _ _ c.args.key c.set_place.ensures.others c.requires.held
+
 pub set_after-requires-clause-held : goal.set_after-requires-clause-held
 set_after-requires-clause-held c =
     let o = c.requires.away in

@@ -11,6 +11,17 @@ set_after-requires-clause-held c =
     let o = c.requires.listed in
     place-held _ _ _ _ _ c.args.number _ o.filed (subst (IsPlace o.home c.args.number) (sym c.place_at-place.ensures.previous) (o.filed.threaded.back.stays c.args.number (Some c.args.key) o.here))
 
+pub set_after-requires-clause-to : goal.set_after-requires-clause-to
+set_after-requires-clause-to c =
+    let o = c.requires.listed in
+    place-held _ _ _ _ _ c.args.number _ o.filed (subst (IsPlace o.home c.args.number) (sym c.place_at-place.ensures.next) (o.filed.threaded.forth.stays c.args.number (Some c.args.key) o.here))
+
+pub set_before-requires-clause-to : goal.set_before-requires-clause-to
+set_before-requires-clause-to c =
+    let o = c.requires.listed in
+    let p = subst (IsPlace o.home c.args.number) (sym c.place_at-place.ensures.previous) (o.filed.threaded.back.stays c.args.number (Some c.args.key) o.here) in
+    IsHeld-kept c.args.chain _ _ _ c.set_after.ensures.others (place-held _ _ _ _ _ c.args.number _ o.filed p)
+
 pub set_before-requires-clause-held : goal.set_before-requires-clause-held
 set_before-requires-clause-held c =
     let o = c.requires.listed in

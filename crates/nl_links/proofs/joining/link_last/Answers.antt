@@ -6,6 +6,14 @@ use Rattle.nl_links.specs.Sides.{borders_of, kind_of}
 use Rattle.nl_links.proofs.Borders.{keeps-last, keeps-then, last-set}
 use Rattle.nl_links.proofs.joining.link_last.Goals as goal
 
+pub set_place-requires-clause-previous : goal.set_place-requires-clause-previous
+set_place-requires-clause-previous c =
+    let o = c.requires.away in
+    place-held _ _ _ _ _ c.args.turtle _ o.filed (subst (IsPlace o.home c.args.turtle) (sym c.last_of-last.ensures) (o.filed.threaded.back.stays c.args.turtle None tt))
+
+pub set_after-requires-clause-to : goal.set_after-requires-clause-to
+set_after-requires-clause-to c = held-kept c.kind.result _ _ c.args.key c.set_place.ensures.others c.requires.held
+
 pub set_after-requires-clause-held : goal.set_after-requires-clause-held
 set_after-requires-clause-held c =
     let o = c.requires.away in

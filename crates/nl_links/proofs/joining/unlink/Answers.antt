@@ -17,6 +17,19 @@ set_after-requires-clause-held c =
 pub set_before-requires-clause-turtle : goal.set_before-requires-clause-turtle
 set_before-requires-clause-turtle c = c.set_after.ensures.beside.held c.args.turtle ∙ c.requires.turtle
 
+pub set_after-requires-clause-to : goal.set_after-requires-clause-to
+set_after-requires-clause-to c =
+    let o = c.requires.listed in
+    let next = rw c.kind.ensures.kind at c.place_at-place.ensures.next in
+    place-held _ _ _ _ _ c.args.turtle _ o.filed (subst (IsPlace o.home c.args.turtle) (sym next) (o.filed.threaded.forth.stays c.args.turtle (Some c.args.key) o.here))
+
+pub set_before-requires-clause-to : goal.set_before-requires-clause-to
+set_before-requires-clause-to c =
+    let o = c.requires.listed in
+    let previous = rw c.kind.ensures.kind at c.place_at-place.ensures.previous in
+    let p = subst (IsPlace o.home c.args.turtle) (sym previous) (o.filed.threaded.back.stays c.args.turtle (Some c.args.key) o.here) in
+    IsHeld-kept (kind_of c.args.side) _ _ _ c.set_after.ensures.others (place-held _ _ _ _ _ c.args.turtle _ o.filed p)
+
 pub set_before-requires-clause-held : goal.set_before-requires-clause-held
 set_before-requires-clause-held c =
     let o = c.requires.listed in
