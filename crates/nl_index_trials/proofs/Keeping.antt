@@ -1,7 +1,7 @@
 -- Lemmas on agents that come, move and go.
 use Rattle.std.proofs.Common.{◌≡◌, ◌≢◌, ℕ, ◌+◌, Bool, true, false, Option, Some, None, IsSome, is_some, eqb, cond, refl, sym, ap, ◌∙◌, inl, inr, arith, subst}
 use mathlib.Core.Path.{fun_ext}
-use Rattle.std.specs.Option.{option_map}
+use Rattle.std.specs.Option.{option_map, IsSomeAnd}
 use Rattle.std.proofs.lemmas.Bool.{cases_eq}
 use Rattle.nl_grid.specs.Geometry.{Plane}
 use Rattle.nl_grid.specs.declared.point.Point.{Point}
@@ -11,7 +11,7 @@ use Rattle.nl_records.specs.Records.{fields_at, settled, SameRecords, Sets}
 use Rattle.nl_records.specs.declared.fields.Body.{Body}
 use Rattle.nl_records.specs.declared.fields.Fields.{Fields}
 use Rattle.nl_records.specs.declared.record.Record.{Record}
-use Rattle.nl_index.specs.Index.{IsAbove, IsIndex, IsSized, Lists, MayAdd, MovesBare, SameBare, bare, breeds_in, lists_added, lists_refiled, lists_removed, no_lists, serial_at, serial_in}
+use Rattle.nl_index.specs.Index.{Fits, HasBreedChain, StandsOn, IsAbove, IsIndex, IsSized, Lists, MayAdd, MovesBare, SameBare, bare, breeds_in, lists_added, lists_refiled, lists_removed, no_lists, serial_at, serial_in}
 use Rattle.nl_index.specs.declared.chains.Chains.{Chains}
 use Rattle.nl_index.proofs.Indexes.{index-tests, index-where}
 use Rattle.nl_index_trials.specs.Filings.{held, IsFiling}
@@ -74,6 +74,11 @@ module _ (old new : ℕ → Option Record) (key : ℕ) (slot : Option Record) (s
   set-other k ne = sets k ∙ (let e : eqb k key ≡ false = grind arith in ap (λ b. cond b slot (old k)) e)
 
 -- ---- an agent comes
+
+pub fits-put : (chains : Chains) (at0 at1 : ℕ → Option Record) (shape : Plane) (breeds key : ℕ) (entry : Record) (f : Fields) → IsSized shape breeds chains → Sets at0 at1 key (Some entry) → entry.fields ≡ f → StandsOn shape f.body → HasBreedChain breeds f.breed f.body → IsSomeAnd (fields_at at1 key) (Fits chains)
+fits-put chains at0 at1 shape breeds key entry f sized sets is stands bred =
+    subst (λ o. IsSomeAnd o (Fits chains)) (sym (ap (option_map (λ (r : Record). r.fields)) (set-here at0 at1 key (Some entry) sets) ∙ ap Some is))
+    (subst (λ p. StandsOn p f.body) (sym sized.shape_is) stands, subst (λ n. HasBreedChain n f.breed f.body) (sym sized.breeds_are) bred)
 
 pub may-add : (chains : Chains) (at0 at1 : ℕ → Option Record) (shape : Plane) (breeds next key : ℕ) (entry : Record) → IsFiling chains at0 shape breeds next → at0 key ≡ None → Sets at0 at1 key (Some entry) → entry.fields.serial ≡ next → MayAdd chains at1 key
 may-add chains at0 at1 shape breeds next key entry f vacant sets serial =

@@ -1,5 +1,6 @@
 //! Records under keys, their places and their fields.
 ghost use Rattle.std.specs.Prelude.{◌≡◌, ◌<◌, IsSome, IsTrue};
+ghost use Rattle.nl_records.specs.Packed.{IsSmall};
 ghost use Rattle.nl_records.specs.Records.{record_at};
 
 use nl_agents::{Steps, Variables};
@@ -125,7 +126,9 @@ fn relink(
     previous: Option<usize>,
     next: Option<usize>,
 ) -> Result<(), &'static str>
-    requires { chain < 5 }
+    requires chain { chain < 5 }
+    requires previous { IsSmall previous }
+    requires next { IsSmall next }
 {
     if !is_held(records, key) {
         return Err("not held");
