@@ -1,7 +1,7 @@
 -- What is had at once: it is what the meaning of texts says of a node, wherever there is room for so many nodes in each other.
 use Rattle.std.specs.Prelude.{◌≡◌, ℕ, ◌<◌, Bool, true, false, List, length}
 use Rattle.nl_fixed.specs.Nouns.{Names}
-use Rattle.nl_value.specs.Plain.{Plain, PlainSet}
+use Rattle.nl_value.specs.Plain.{Plain, PlainNumber, PlainSet, PlainTruth}
 use Rattle.nl_value.specs.Sets.{set_kind}
 use Rattle.nl_value.specs.declared.sets.AgentKind.{AgentKind}
 use Rattle.nl_value.specs.declared.sets.AgentSet.{AgentSet}
@@ -15,12 +15,19 @@ use Rattle.nl_meaning.specs.Walks.{at_stream}
 use Rattle.nl_meaning.specs.Meaning.{evaluator}
 use Rattle.nl_frames.specs.Seen.{state_of}
 use Rattle.nl_frames.specs.declared.hands.Hands.{Hands}
+use Rattle.nl_short.specs.declared.values.ShortValue.{ShortValue}
+use Rattle.nl_short.specs.declared.values.ShortValue.TheVariants as short
 
 -- the node gives the value, and changes nothing
 abbrev pub IsHad : {S : Type 0} {G : Ghosts S} → Code → Hands S G → ℕ → ℕ → Plain → Type 0
 IsHad c h node nested value =
     (room n : ℕ) → nested < room →
     evaluator c.program room (node_at c node) (state_of c.names h n) ≡ gives value (state_of c.names h n)
+
+-- a value that is had at once
+abbrev pub short_plain : ShortValue → Plain
+short_plain (short.Truth truth) = PlainTruth truth
+short_plain (short.Number number) = PlainNumber number
 
 -- the node gives a set of agents of the kind, of which these are the living members, and changes nothing
 abbrev pub GivesMembers : {S : Type 0} {G : Ghosts S} → Code → Hands S G → ℕ → ℕ → AgentKind → List ℕ → Type 0

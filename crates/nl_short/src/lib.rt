@@ -8,3 +8,4 @@ pub mod members;
 pub mod numbers;
 pub mod running;
 pub mod truths;
+pub mod values;

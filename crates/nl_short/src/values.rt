@@ -1,0 +1,98 @@
+//! Values that are had at once.
+ghost use Rattle.std.specs.Prelude.{◌≡◌, IsTrue, IfSome};
+ghost use Rattle.nl_value.specs.Views.{plain};
+ghost use Rattle.nl_frames.specs.Ground.{Ground, fits};
+ghost use Rattle.nl_frames.specs.Standing.{HandsFit};
+ghost use Rattle.nl_short.specs.Had.{IsHad, short_plain};
+ghost use Rattle.nl_short.specs.declared.values.TheConstants.{VALUE_NESTED as value_nested};
+
+use crate::numbers::number;
+use crate::truths::truth;
+use nl_acts::Act;
+use nl_agents::Store;
+use nl_code::{Built, Code, Op};
+use nl_fixed::Num;
+use nl_frames::Hands;
+use nl_listops::ValueWord;
+use nl_query::words::QueryWord;
+use nl_value::Value;
+use std::alloc::Global;
+
+/// So many nodes at most stand in each other in a node whose value is had at once.
+pub const VALUE_NESTED: usize = 9;
+
+/// A value that is had at once.
+#[derive(Clone, Copy)]
+pub enum ShortValue {
+    Truth(bool),
+    Number(Num),
+}
+
+impl ShortValue {
+    /// The same as any value. It fits every world.
+    #[inline(always)]
+    pub fn value(&self) -> Value
+        ensures is { plain result ≡ short_plain self.now }
+        ensures fits { (g : Ground) → IsTrue (fits g (plain result)) }
+    {
+        match self {
+            ShortValue::Truth(truth) => Value::Truth(*truth),
+            ShortValue::Number(number) => Value::Number(*number),
+        }
+    }
+}
+
+/// The truth or the number that a node gives, where it is had at once.
+#[inline(always)]
+pub fn short_value<S: Store>(
+    alloc: Global,
+    code: &Code,
+    hands: &Hands<S>,
+    node: u32,
+) -> Option<ShortValue>
+    requires { HandsFit hands.now }
+    ensures { IfSome result (λ short. IsHad code.now hands.now node value_nested (short_plain short)) }
+{
+    match truth(alloc, code, hands, node) {
+        Some(truth) => Some(ShortValue::Truth(truth)),
+        None => match number(alloc, code, hands, node) {
+            Some(number) => Some(ShortValue::Number(number)),
+            None => None,
+        },
+    }
+}
+
+// Whether a node is in parentheses, or a word that may have a value at once, but for `and` and `or`.
+#[inline(always)]
+fn may_be_short(code: &Code, node: u32) -> bool {
+    match code.op(node) {
+        Op::Inside => true,
+        Op::Word {
+            word: Built::Act(act),
+            ..
+        } => match act {
+            Act::Value(ValueWord::OfNumbers(_) | ValueWord::Compare(_) | ValueWord::Not) => true,
+            Act::Query(QueryWord::OfSet(_)) => true,
+            _ => false,
+        },
+        _ => false,
+    }
+}
+
+/// The same of a word, or of what stands in parentheses: any other node has its value fast enough without this.
+#[inline(always)]
+pub fn value_of_word<S: Store>(
+    alloc: Global,
+    code: &Code,
+    hands: &Hands<S>,
+    node: u32,
+) -> Option<ShortValue>
+    requires { HandsFit hands.now }
+    ensures { IfSome result (λ short. IsHad code.now hands.now node value_nested (short_plain short)) }
+{
+    if may_be_short(code, node) {
+        short_value(alloc, code, hands, node)
+    } else {
+        None
+    }
+}
