@@ -21,9 +21,10 @@ use Rattle.nl_frames.proofs.Grounds.{pass_push}
 use Rattle.nl_turns.specs.Turning.{first_of}
 use Rattle.nl_answers.proofs.Collecting.{members_ascend_on, turn_comes}
 use Rattle.nl_answers.proofs.Fitting.{ascend_pushed, ascend_without, members_front, members_push, members_pushed}
-use Rattle.nl_at_once.specs.declared.answers.Short.{Short}
-use Rattle.nl_at_once.specs.declared.answers.Short.TheVariants as short
-use Rattle.nl_at_once.specs.AtOnce.{answering, short_plain, told_by}
+use Rattle.nl_short.specs.Had.{short_plain}
+use Rattle.nl_short.specs.declared.values.ShortValue.{ShortValue}
+use Rattle.nl_short.specs.declared.values.ShortValue.TheVariants as short
+use Rattle.nl_at_once.specs.AtOnce.{answering, told_by}
 
 -- ---- what is told
 
@@ -75,7 +76,7 @@ module _ (member : ℕ) (value : Plain) (made new : List Answer) where
   ascend_on how ys (Decide other) is up = absurd (cc)
   ascend_on how ys Refuse is up = absurd (cc)
 
-pub short_fits : (g : Ground) (value : Short) → IsTrue (fits g (short_plain value))
+pub short_fits : (g : Ground) (value : ShortValue) → IsTrue (fits g (short_plain value))
 short_fits g (short.Truth truth) = refl
 short_fits g (short.Number number) = refl
 
@@ -116,7 +117,7 @@ next_ascends how turns member value made new r f place m told is stands up =
     (ascend_on member value made new how (drop turns.at turns.members) r told up)
 
 -- what is held fits at the next turn
-pub next_fits : (g : Ground) (turns : Turns) (member : ℕ) (value : Short) (made new : List Answer) (r : Reply) (place m : ℕ)
+pub next_fits : (g : Ground) (turns : Turns) (member : ℕ) (value : ShortValue) (made new : List Answer) (r : Reply) (place m : ℕ)
     → Some new ≡ told_by r member (short_plain value) made → slice_get turns.members place ≡ Some m
     → AnsweringFits g member turns made → AnsweringFits g m (record turns { at = place + 1 }) new
 next_fits g turns member value made new r place m told stands fit = record {

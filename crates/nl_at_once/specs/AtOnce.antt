@@ -1,7 +1,7 @@
 -- What is done at once: it comes to what the meaning of texts says of it, wherever there is room for so many nodes in each other.
 use Rattle.std.specs.Prelude.{◌≡◌, Bool, true, false, ℕ, ◌+◌, ◌-◌, ◌<◌, List, [], ◌∷◌, ◌++◌, Option, Some, None, drop}
 use Rattle.nl_fixed.specs.Nouns.{Names}
-use Rattle.nl_value.specs.Plain.{Plain, PlainNumber, PlainTruth}
+use Rattle.nl_value.specs.Plain.{Plain}
 use Rattle.nl_tree.specs.Tree.{Node, parts, span}
 use Rattle.nl_agents.specs.declared.agents.Owner.{Owner}
 use Rattle.nl_agents.specs.declared.agents.Owner.TheVariants as owner
@@ -19,8 +19,6 @@ use Rattle.nl_frames.specs.declared.turns.Turns.{Turns}
 use Rattle.nl_code.specs.declared.words.Control.{Control}
 use Rattle.nl_code.specs.declared.words.Control.TheVariants as control
 use Rattle.nl_code.specs.declared.words.Over.{Over}
-use Rattle.nl_at_once.specs.declared.answers.Short.{Short}
-use Rattle.nl_at_once.specs.declared.answers.Short.TheVariants as short
 use Rattle.nl_at_once.specs.declared.statements.Done.{Done}
 use Rattle.nl_at_once.specs.declared.statements.Done.TheVariants as done
 use Rattle.nl_at_once.specs.declared.statements.Far.{Far}
@@ -106,8 +104,3 @@ told_by Refuse member value made = None
 abbrev pub value_or_block : Code → Eval → ℕ → Option Plain → State → Outcome
 value_or_block c prev block None s = prev (node_at c block) s
 value_or_block c prev block (Some value) s = gives value s
-
--- a value that is had at once
-abbrev pub short_plain : Short → Plain
-short_plain (short.Truth truth) = PlainTruth truth
-short_plain (short.Number number) = PlainNumber number

@@ -11,60 +11,23 @@ ghost use Rattle.nl_frames.specs.Means.{Stands};
 ghost use Rattle.nl_frames.specs.Seen.{ground, state_of};
 ghost use Rattle.nl_frames.specs.Standing.{AnsweringFits, HandsFit, MembersAscend};
 ghost use Rattle.nl_frames.specs.declared.turns.Gathered.{Gathered as How};
-ghost use Rattle.nl_short.specs.Had.{IsHad};
-ghost use Rattle.nl_at_once.specs.AtOnce.{answering, short_plain, told_by, value_or_block};
+ghost use Rattle.nl_short.specs.Had.{short_plain};
+ghost use Rattle.nl_at_once.specs.AtOnce.{answering, told_by, value_or_block};
 ghost use Rattle.nl_at_once.specs.declared.statements.TheConstants.{MOST_NESTED as most_nested};
 
 use nl_agents::Store;
 use nl_answers::replies::{Reply, reply_to};
 use nl_code::{Code, Over};
-use nl_fixed::Num;
 use nl_frames::{Answered, BoxedAnswers, BoxedTurns, Hands};
 use nl_meaning::Site;
-use nl_short::numbers::number;
-use nl_short::truths::truth;
+use nl_short::values::{ShortValue, short_value};
 use nl_turns::living::{first_living, member_at, owner_of};
 use nl_value::Value;
 use std::alloc::Global;
 
-/// A value that is had at once.
-#[derive(Clone, Copy)]
-enum Short {
-    Truth(bool),
-    Number(Num),
-}
-
-impl Short {
-    // The same as a value.
-    #[inline(always)]
-    fn value(&self) -> Value
-        ensures { plain result ≡ short_plain self.now }
-    {
-        match self {
-            Short::Truth(truth) => Value::Truth(*truth),
-            Short::Number(number) => Value::Number(*number),
-        }
-    }
-}
-
-// The value that a block gives, where it is had at once.
-#[inline(always)]
-fn short_of<S: Store>(alloc: Global, code: &Code, hands: &Hands<S>, block: u32) -> Option<Short>
-    requires { HandsFit hands.now }
-    ensures { IfSome result (λ short. IsHad code.now hands.now block 9 (short_plain short)) }
-{
-    match truth(alloc, code, hands, block) {
-        Some(truth) => Some(Short::Truth(truth)),
-        None => match number(alloc, code, hands, block) {
-            Some(number) => Some(Short::Number(number)),
-            None => None,
-        },
-    }
-}
-
 // An answer is kept or passed over. False where it decides all, or is of the wrong kind, or memory is lacking: then nothing is changed.
 #[inline(always)]
-fn told(made: &mut BoxedAnswers, word: Over, member: u64, short: &Short) -> bool
+fn told(made: &mut BoxedAnswers, word: Over, member: u64, short: &ShortValue) -> bool
     ensures told { result ≡ true → let v = short_plain short.now in
         Some made.new ≡ told_by (reply_to word v) member v made.old }
     ensures not { result ≡ false → made.new ≡ made.old }
@@ -89,7 +52,7 @@ fn next_answer<S: Store>(
     index: u32,
     block: u32,
     word: Over,
-    short: &Short,
+    short: &ShortValue,
     member: &mut u64,
     turns: &mut BoxedTurns,
     made: &mut BoxedAnswers,
@@ -175,7 +138,7 @@ pub fn do_answers<S: Store>(
     ensures stands { Stands hands.new hands.old }
 {
     'answers: loop {
-        let Some(short) = short_of(alloc, code, hands, block) else {
+        let Some(short) = short_value(alloc, code, hands, block) else {
             return None;
         };
         if !next_answer(

@@ -12,7 +12,8 @@ use Rattle.nl_frames.specs.declared.turns.Turns.{Turns}
 use Rattle.nl_frames.proofs.Standing.{stands_on}
 use Rattle.nl_turns.specs.Turning.{first_of}
 use Rattle.nl_turns.proofs.Members.{member_small, member_agent_fits}
-use Rattle.nl_at_once.specs.AtOnce.{answering, short_plain}
+use Rattle.nl_short.specs.Had.{short_plain}
+use Rattle.nl_at_once.specs.AtOnce.{answering}
 use Rattle.nl_at_once.proofs.Answering.{first_among, member_there, next_ascends, next_fits, turn_begins}
 use Rattle.nl_at_once.proofs.answers.next_answer.Goals as goal
 
