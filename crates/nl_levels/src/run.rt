@@ -30,6 +30,7 @@ use nl_dispatch::dispatch::enter_text;
 use nl_fixed::NoMemory;
 use nl_frames::{Exit, Hands, Next};
 use nl_meaning::Site;
+use nl_short::values::{VALUE_NESTED, value_of_word};
 use nl_tree::Form;
 use nl_value::Value;
 use std::alloc::Global;
@@ -137,7 +138,7 @@ fn too_nested(code: &Code, site: Site, node: u32) -> Focus
     Focus::Give(Exit::Error(ErrorKind::TooNested, code.span(node), site.body))
 }
 
-// Begins a node, where there is room for it.
+// Begins a node, where there is room for it, or gives its value, where that is had at once.
 #[inline(always)]
 #[tactic(auto, using(nl_frames::proofs::Weights::weight_positive, crate::proofs::Steadying::steady_on))]
 fn enter_node<S: Store>(
@@ -161,6 +162,11 @@ fn enter_node<S: Store>(
 {
     if levels.len() >= limit {
         return Ok(too_nested(code, hands.site, node));
+    }
+    if limit - levels.len() > VALUE_NESTED {
+        if let Some(short) = value_of_word(alloc, code, hands, node) {
+            return Ok(Focus::Give(Exit::Gives(short.value())));
+        }
     }
     let focus = begin(alloc, code, hands, levels, node)?;
     Ok(focus)
