@@ -14,7 +14,7 @@ use nl_code::{Built, Code, Op};
 use nl_fixed::Num;
 use nl_frames::Hands;
 use nl_listops::ValueWord;
-use nl_query::words::QueryWord;
+use nl_query::words::{OfSet, QueryWord};
 use nl_value::Value;
 use std::alloc::Global;
 
@@ -42,6 +42,40 @@ impl ShortValue {
     }
 }
 
+// The truth that a node gives, where it is had at once, as a value.
+#[inline(always)]
+fn short_truth<S: Store>(
+    alloc: Global,
+    code: &Code,
+    hands: &Hands<S>,
+    node: u32,
+) -> Option<ShortValue>
+    requires { HandsFit hands.now }
+    ensures { IfSome result (λ short. IsHad code.now hands.now node value_nested (short_plain short)) }
+{
+    match truth(alloc, code, hands, node) {
+        Some(truth) => Some(ShortValue::Truth(truth)),
+        None => None,
+    }
+}
+
+// The number that a node gives, where it is had at once, as a value.
+#[inline(always)]
+fn short_number<S: Store>(
+    alloc: Global,
+    code: &Code,
+    hands: &Hands<S>,
+    node: u32,
+) -> Option<ShortValue>
+    requires { HandsFit hands.now }
+    ensures { IfSome result (λ short. IsHad code.now hands.now node value_nested (short_plain short)) }
+{
+    match number(alloc, code, hands, node) {
+        Some(number) => Some(ShortValue::Number(number)),
+        None => None,
+    }
+}
+
 /// The truth or the number that a node gives, where it is had at once.
 #[inline(always)]
 pub fn short_value<S: Store>(
@@ -53,33 +87,13 @@ pub fn short_value<S: Store>(
     requires { HandsFit hands.now }
     ensures { IfSome result (λ short. IsHad code.now hands.now node value_nested (short_plain short)) }
 {
-    match truth(alloc, code, hands, node) {
-        Some(truth) => Some(ShortValue::Truth(truth)),
-        None => match number(alloc, code, hands, node) {
-            Some(number) => Some(ShortValue::Number(number)),
-            None => None,
-        },
+    match short_truth(alloc, code, hands, node) {
+        Some(short) => Some(short),
+        None => short_number(alloc, code, hands, node),
     }
 }
 
-// Whether a node is in parentheses, or a word that may have a value at once, but for `and` and `or`.
-#[inline(always)]
-fn may_be_short(code: &Code, node: u32) -> bool {
-    match code.op(node) {
-        Op::Inside => true,
-        Op::Word {
-            word: Built::Act(act),
-            ..
-        } => match act {
-            Act::Value(ValueWord::OfNumbers(_) | ValueWord::Compare(_) | ValueWord::Not) => true,
-            Act::Query(QueryWord::OfSet(_)) => true,
-            _ => false,
-        },
-        _ => false,
-    }
-}
-
-/// The same of a word, or of what stands in parentheses: any other node has its value fast enough without this.
+/// The same of a word of numbers, a comparison, `not`, `count` and `any?`, and of what stands in parentheses. Any other node has no value here.
 #[inline(always)]
 pub fn value_of_word<S: Store>(
     alloc: Global,
@@ -90,9 +104,19 @@ pub fn value_of_word<S: Store>(
     requires { HandsFit hands.now }
     ensures { IfSome result (λ short. IsHad code.now hands.now node value_nested (short_plain short)) }
 {
-    if may_be_short(code, node) {
-        short_value(alloc, code, hands, node)
-    } else {
-        None
+    match code.op(node) {
+        Op::Inside => short_value(alloc, code, hands, node),
+        Op::Word {
+            word: Built::Act(act),
+            ..
+        } => match act {
+            Act::Value(ValueWord::OfNumbers(_)) | Act::Query(QueryWord::OfSet(OfSet::Count)) => {
+                short_number(alloc, code, hands, node)
+            }
+            Act::Value(ValueWord::Compare(_) | ValueWord::Not)
+            | Act::Query(QueryWord::OfSet(OfSet::Any)) => short_truth(alloc, code, hands, node),
+            _ => None,
+        },
+        _ => None,
     }
 }
