@@ -11,7 +11,7 @@ use Rattle.nl_records.specs.Records.{fields_at, settled, SameRecords, Sets}
 use Rattle.nl_records.specs.declared.fields.Body.{Body}
 use Rattle.nl_records.specs.declared.fields.Fields.{Fields}
 use Rattle.nl_records.specs.declared.record.Record.{Record}
-use Rattle.nl_index.specs.Index.{Fits, HasBreedChain, StandsOn, IsAbove, IsIndex, IsSized, Lists, MayAdd, MovesBare, SameBare, bare, breeds_in, lists_added, lists_refiled, lists_removed, no_lists, serial_at, serial_in}
+use Rattle.nl_index.specs.Index.{Fits, HasBreedChain, IsAbove, IsIndex, IsSized, Lists, MayAdd, MovesBare, SameBare, StandsOn, bare, breeds_in, lists_added, lists_refiled, lists_removed, no_lists, serial_at, serial_in}
 use Rattle.nl_index.specs.declared.chains.Chains.{Chains}
 use Rattle.nl_index.proofs.Indexes.{index-tests, index-where}
 use Rattle.nl_index_trials.specs.Filings.{held, IsFiling}

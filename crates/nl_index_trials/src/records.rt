@@ -220,6 +220,26 @@ fn five_places_of_a_record_are_set_each_by_itself(rt: HostRuntime) -> Result<(),
     Ok(())
 }
 
+/// What a turtle tells that stands between the least and the greatest key that a place may have, in its first chain and, the other way round,
+/// in its last.
+fn between_extremes(alloc: Global) -> Result<Option<Told>, &'static str> {
+    let mut records = Records::new(alloc);
+    let key = put(alloc, &mut records, turtle(alloc, 50, 0)?)?;
+    relink(&mut records, key, 0, Some(0), Some(4_294_967_294))?;
+    relink(&mut records, key, 4, Some(4_294_967_294), Some(0))?;
+    Ok(told_at(&records, key))
+}
+
+#[test]
+fn the_least_and_the_greatest_key_are_told_as_they_were_set(rt: HostRuntime) -> Result<(), Fail> {
+    let told = between_extremes(rt.alloc())?.ok_or("not held")?;
+    let mut places = NOWHERE;
+    places[0] = (Some(0), Some(4_294_967_294));
+    places[4] = (Some(4_294_967_294), Some(0));
+    assert_eq!(rt; told.places, places);
+    Ok(())
+}
+
 /// The serial of the fields that were handed back, and what the record tells after they were set, and after it was settled.
 fn changed(alloc: Global) -> Result<(u64, Option<Told>, Option<Told>), &'static str> {
     let mut records = Records::new(alloc);

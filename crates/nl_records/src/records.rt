@@ -1,7 +1,7 @@
 //! Records under keys.
 ghost use Rattle.std.specs.Prelude.{◌≡◌, ◌+◌, ◌<◌, ℕ, Some, None, IsSome, IsOk, IfOk, IfErr, OnOk, OnErr, option_map};
 ghost use Rattle.std.specs.Option.{option_copied};
-ghost use Rattle.nl_records.specs.Packed.{small_keys, AreSmall, IsSmall};
+ghost use Rattle.nl_records.specs.Packed.{AreSmall, IsSmall};
 ghost use Rattle.nl_records.specs.Records.{record_at, fields_at, HasRoom, SameRecords, Sets, linked, settled, with_fields};
 
 use crate::fields::{Body, Fields};
