@@ -1,3 +1,4 @@
+pub mod Ascending
 pub mod Calling
 pub mod Entries
 pub mod Finding

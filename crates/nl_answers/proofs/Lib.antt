@@ -8,3 +8,4 @@ pub mod Giving
 pub mod Choosing
 pub mod Turning
 pub mod Still
+pub mod Turns

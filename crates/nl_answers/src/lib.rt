@@ -10,3 +10,6 @@ pub mod orders;
 pub mod replies;
 pub mod sets;
 pub mod several;
+
+// The turns in which members answer, for who takes them by itself.
+pub use nl_turns::{living, making, walking};

@@ -18,7 +18,7 @@ use Rattle.nl_frames.specs.Standing.{AnsweringFits, MembersAscend, MembersFit}
 use Rattle.nl_frames.specs.declared.turns.Gathered.{Gathered}
 use Rattle.nl_frames.specs.declared.turns.Turns.{Turns}
 use Rattle.nl_frames.proofs.Grounds.{pass_push}
-use Rattle.nl_turns.specs.Turning.{first_of}
+use Rattle.nl_answers.proofs.Turns.{first_of}
 use Rattle.nl_answers.proofs.Collecting.{members_ascend_on, turn_comes}
 use Rattle.nl_answers.proofs.Fitting.{ascend_pushed, ascend_without, members_front, members_push, members_pushed}
 use Rattle.nl_short.specs.Had.{short_plain}

@@ -13,7 +13,7 @@ use Rattle.nl_frames.specs.declared.hands.Hands.{Hands}
 use Rattle.nl_frames.proofs.Grounds.{pass_take}
 use Rattle.nl_frames.proofs.Newest.{held_take}
 use Rattle.nl_frames.proofs.Standing.{stands_on}
-use Rattle.nl_turns.proofs.Through.{stands_through}
+use Rattle.nl_answers.proofs.Turns.{stands_through}
 
 module _ {S : Type 0} {G : Ghosts S} (h : Hands S G) (kept : ℕ) (locals : List Kept) (are : locals ≡ take kept h.locals) where
   pub cut_state : (names : Names) (n : ℕ) → cut_to kept (state_of names h n) ≡ state_of names (record h { locals = locals }) n

@@ -16,12 +16,12 @@ ghost use Rattle.nl_at_once.specs.AtOnce.{answering, told_by, value_or_block};
 ghost use Rattle.nl_at_once.specs.declared.statements.TheConstants.{MOST_NESTED as most_nested};
 
 use nl_agents::Store;
+use nl_answers::living::{first_living, member_at, owner_of};
 use nl_answers::replies::{Reply, reply_to};
 use nl_code::{Code, Over};
 use nl_frames::{Answered, BoxedAnswers, BoxedTurns, Hands};
 use nl_meaning::Site;
 use nl_short::values::{ShortValue, short_value};
-use nl_turns::living::{first_living, member_at, owner_of};
 use nl_value::Value;
 use std::alloc::Global;
 

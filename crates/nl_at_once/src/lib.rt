@@ -11,3 +11,6 @@ pub mod setting;
 pub mod statements;
 pub mod turns;
 pub mod walking;
+
+// Values that are had at once, for who begins a node.
+pub use nl_short::values;

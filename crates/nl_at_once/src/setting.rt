@@ -19,8 +19,8 @@ use nl_fixed::Num;
 use nl_frames::{Hands, Local};
 use nl_layout::{Rule, rule_of};
 use nl_short::running::lives_and_may_run;
+use nl_short::variables::{global, owner_of};
 use nl_value::Value;
-use nl_variables::variables::{global, owner_of};
 use nl_words::Kinds;
 
 // The newest local whose name has this number.

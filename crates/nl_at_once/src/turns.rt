@@ -16,10 +16,10 @@ ghost use Rattle.nl_at_once.specs.declared.statements.TheConstants.{MOST_NESTED 
 
 use crate::statements::{Far, do_statements};
 use nl_agents::Store;
+use nl_answers::living::{first_living, member_at, owner_of};
 use nl_code::Code;
 use nl_frames::{BoxedTurns, Hands};
 use nl_meaning::Site;
-use nl_turns::living::{first_living, member_at, owner_of};
 use std::alloc::Global;
 
 /// A block that isn't over: how far its statements were done, and how many locals are known around it.

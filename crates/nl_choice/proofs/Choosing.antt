@@ -18,7 +18,7 @@ use Rattle.nl_value.specs.declared.values.Value.{Value}
 use Rattle.nl_draw.specs.Stream.{drawn, chosen, chosen_index}
 use Rattle.nl_draw.proofs.Shuffles.{chosen-none, chosen-some, chosen-after, chosen_index-none, chosen_index-some}
 use Rattle.nl_grid.specs.Geometry.{patches_of}
-use Rattle.nl_layout.proofs.Ascending.{range_ascends}
+use Rattle.nl_agents.proofs.Ascending.{range_ascends}
 use Rattle.nl_agents.specs.World.{World}
 use Rattle.nl_agents.specs.Members.{members_of, is_listed}
 use Rattle.nl_agents.specs.Standing.{IsWorld}

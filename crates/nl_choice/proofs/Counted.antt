@@ -16,7 +16,7 @@ use Rattle.std.proofs.lemmas.Map.Keys.{IsDistinct-IsPermutation}
 use Rattle.std.proofs.lemmas.Map.Made.{length-le_from_is_member, AllPairs-from_IsDistinct, IsDistinct-from_AllPairs}
 use Rattle.nl_draw.specs.Stream.{shuffled}
 use Rattle.nl_draw.proofs.Shuffles.{shuffled-permutes}
-use Rattle.nl_layout.proofs.Ascending.{range_ascends, has_range, has_filter}
+use Rattle.nl_agents.proofs.Ascending.{range_ascends, has_range, has_filter}
 use Rattle.nl_agents.specs.Members.{is_listed}
 use Rattle.nl_choice.specs.Choices.{places_drawn}
 

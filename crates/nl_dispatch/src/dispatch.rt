@@ -23,7 +23,8 @@ ghost use Rattle.nl_frames.specs.Work.{frame_work, next_work};
 use nl_acts::ErrorKind;
 use nl_agents::Store;
 use nl_answers::answering::resume_answer;
-use nl_answers::sets;
+use nl_answers::making::{enter_making, resume_making};
+use nl_answers::{sets, walking};
 use nl_cases::blocks::{
     enter_inside, enter_negation, enter_statements, next_text_statement, resume_negated,
     resume_statement, resume_text_statement,
@@ -46,8 +47,6 @@ use nl_code::{Built, Code, Control, Op, Over, Spread};
 use nl_fixed::NoMemory;
 use nl_frames::ends::{barred, fault};
 use nl_frames::{Exit, Frame, Hands, Next};
-use nl_turns::making::{enter_making, resume_making};
-use nl_turns::walking;
 use nl_value::Value;
 use nl_variables::setting::{enter_let, enter_set, resume_let, resume_set};
 use nl_variables::variables::{read_apart, read_global, read_local, read_owned};

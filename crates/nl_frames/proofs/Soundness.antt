@@ -27,7 +27,7 @@ use Rattle.nl_layout.specs.declared.layout.Layout.{Layout}
 use Rattle.nl_query.specs.declared.words.QueryWord.{QueryWord}
 use Rattle.nl_query.specs.declared.words.QueryWord.TheVariants as word
 use Rattle.nl_query.specs.declared.words.Whole.TheVariants as whole
-use Rattle.nl_agentset.specs.Queries.{is_breed_or_none, word_breed_fits}
+use Rattle.nl_meaning.specs.Acting.{is_breed_or_none, word_breed_fits}
 use Rattle.nl_acts.specs.declared.words.Act.{Act}
 use Rattle.nl_acts.specs.declared.words.Act.TheVariants as act
 use Rattle.nl_code.specs.declared.words.Apart.{Apart}

@@ -11,7 +11,7 @@ use Rattle.nl_tree.specs.declared.tree.Label.TheVariants as label
 use Rattle.nl_layout.specs.Nouns.{BreedNumber}
 use Rattle.nl_layout.specs.Layouts.{is_turtle_breed, is_link_breed}
 use Rattle.nl_layout.specs.declared.layout.Layout.{Layout}
-use Rattle.nl_agentset.specs.Queries.{is_breed_or_none, word_breed_fits}
+use Rattle.nl_meaning.specs.Acting.{is_breed_or_none, word_breed_fits}
 use Rattle.nl_acts.specs.declared.words.Act.{Act}
 use Rattle.nl_acts.specs.declared.words.Act.TheVariants as act
 use Rattle.nl_code.specs.declared.words.Built.{Built}

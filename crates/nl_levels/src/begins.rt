@@ -17,13 +17,13 @@ use crate::focus::Focus;
 use crate::levels::Level;
 use crate::run::follow;
 use nl_agents::Store;
-use nl_cases::blocks::enter_statements;
 use nl_code::{Built, Code, Control, Op};
+use nl_dispatch::blocks::enter_statements;
 use nl_dispatch::dispatch::{enter, enter_word};
+use nl_dispatch::variables::{read_global, read_local};
 use nl_fixed::{NoMemory, Num};
 use nl_frames::{Exit, Hands, Next};
 use nl_value::Value;
-use nl_variables::variables::{read_global, read_local};
 use nl_words::Kinds;
 use std::alloc::Global;
 

@@ -15,17 +15,17 @@ use crate::focus::Focus;
 use crate::levels::Level;
 use crate::run::follow;
 use nl_agents::Store;
-use nl_cases::blocks::resume_statement;
-use nl_cases::choices::resume_if;
-use nl_cases::loops::resume_turn;
-use nl_cases::parts::resume_part;
 use nl_code::Code;
+use nl_dispatch::blocks::resume_statement;
+use nl_dispatch::choices::resume_if;
 use nl_dispatch::dispatch::resume;
+use nl_dispatch::loops::resume_turn;
+use nl_dispatch::parts::resume_part;
+use nl_dispatch::setting::resume_set;
+use nl_dispatch::walking;
 use nl_fixed::NoMemory;
 use nl_frames::{BoxedTurns, Exit, Frame, Hands};
-use nl_turns::walking;
 use nl_value::Items;
-use nl_variables::setting::resume_set;
 use std::alloc::Global;
 
 // A part of a list, a call or an act has its value.

@@ -6,6 +6,7 @@ use Rattle.nl_agents.specs.World.{Rest}
 use Rattle.nl_agents.specs.declared.agents.Owner.{Owner}
 use Rattle.nl_agents.specs.declared.agents.Owner.TheVariants as owner
 use Rattle.nl_query.specs.declared.words.QueryWord.{QueryWord}
+pub use Rattle.nl_agentset.specs.Queries.{is_breed_or_none, word_breed_fits}
 use Rattle.nl_agentset.specs.Queries.{query_answer}
 use Rattle.nl_acts.specs.declared.words.Act.{Act}
 use Rattle.nl_acts.specs.declared.words.Act.TheVariants as act

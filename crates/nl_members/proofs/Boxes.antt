@@ -5,7 +5,7 @@ use Rattle.std.specs.List.{flat_map}
 use Rattle.std.specs.List.Sorted.{IsStrictlyIncreasing}
 use Rattle.std.proofs.lemmas.Bool.{eq-eqb, eqb-true, false_from_ne_true}
 use Rattle.std.proofs.lemmas.List.{length-append}
-use Rattle.nl_layout.proofs.Ascending.{has, rest_ascends, first_is_below}
+use Rattle.nl_agents.proofs.Ascending.{has, rest_ascends, first_is_below}
 
 eqb_turned : (a b : ℕ) → (a == b) ≡ (b == a)
 eqb_turned a b = by (a == b) refl (b == a) refl

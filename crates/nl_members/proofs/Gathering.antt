@@ -3,7 +3,7 @@ use Rattle.std.specs.Prelude.{◌≡◌, ℕ, zero, suc, ℤ, ◌+◌, ◌<◌, 
 use Rattle.std.proofs.Common.{ap, sym, ◌∙◌, subst, arith, get_or, nat_cmp}
 use Rattle.std.specs.List.{flat_map, dedup}
 use Rattle.std.proofs.lemmas.Map.Keys.{IsStrictlyIncreasing-dedup}
-use Rattle.nl_layout.proofs.Collected.{same_once}
+use Rattle.nl_agents.proofs.Ascending.{same_once}
 use Rattle.std.specs.List.Sorted.{IsStrictlyIncreasing, IsSorted, IsPermutation}
 use Rattle.std.proofs.lemmas.Bool.{eq-eqb, and_parts, or_left, or_right, ltb-true}
 use Rattle.std.proofs.lemmas.List.{length-append}
@@ -16,7 +16,7 @@ use Rattle.nl_agents.specs.World.{Rest, World}
 use Rattle.nl_agents.specs.Members.{turtles_where, is_on}
 use Rattle.nl_agents.specs.Standing.{IsWorld}
 use Rattle.nl_agents.specs.declared.agents.Turtle.{Turtle}
-use Rattle.nl_layout.proofs.Ascending.{has, has_filter, has_range, same_ascending, range_ascends}
+use Rattle.nl_agents.proofs.Ascending.{has, has_filter, has_range, same_ascending, range_ascends}
 use Rattle.nl_agents.proofs.LivingMembers.{passing_ascend}
 use Rattle.nl_members.specs.Near.{turtles_in_box, is_in_box, box_reads}
 use Rattle.nl_members.proofs.Boxes.{each_has, each_counted}

@@ -11,13 +11,13 @@ use Rattle.nl_value.specs.declared.sets.AgentKind.TheVariants as the_kind
 use Rattle.nl_value.specs.declared.sets.AgentSet.TheVariants.{Turtles, Breed}
 use Rattle.nl_grid.specs.Geometry.{IsPointOf, all_patches, box_patches, patch_at, patches_of}
 use Rattle.nl_grid.proofs.CoverLemmas.{box_covers}
-use Rattle.nl_layout.specs.Nouns.{BreedNumber}
+use Rattle.nl_agents.specs.Nouns.{BreedNumber}
 use Rattle.nl_agents.specs.World.{Rest, World}
 use Rattle.nl_agents.specs.Changes.{turtle_of}
 use Rattle.nl_agents.specs.Members.{turtles_where, all_turtles}
 use Rattle.nl_agents.specs.Standing.{IsWorld}
 use Rattle.nl_agents.specs.declared.agents.Turtle.{Turtle}
-use Rattle.nl_layout.proofs.Ascending.{has, has_filter, has_range, same_ascending}
+use Rattle.nl_agents.proofs.Ascending.{has, has_filter, has_range, same_ascending}
 use Rattle.nl_agents.proofs.LivingMembers.{found_passing, passing_ascend, turtle_found}
 use Rattle.nl_members.specs.Near.{is_within, is_in_box, stands_where, members_where, turtles_in_box}
 use Rattle.nl_members.specs.declared.near.Region.{Region}

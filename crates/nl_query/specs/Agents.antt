@@ -8,8 +8,8 @@ use Rattle.nl_value.specs.declared.sets.AgentSet.{AgentSet}
 use Rattle.nl_value.specs.declared.sets.AgentSet.TheVariants as set
 use Rattle.nl_grid.specs.declared.point.Point.{Point}
 use Rattle.nl_grid.specs.Geometry.{center_of, patch_at}
-use Rattle.nl_layout.specs.BuiltIn.{heading_slot}
-use Rattle.nl_layout.specs.Nouns.{BreedNumber}
+use Rattle.nl_agents.specs.Nouns.{heading_slot}
+use Rattle.nl_agents.specs.Nouns.{BreedNumber}
 use Rattle.nl_agents.specs.World.{Rest}
 use Rattle.nl_agents.specs.Changes.{turtle_of, in_turtle}
 use Rattle.nl_agents.specs.declared.agents.Owner.{Owner}

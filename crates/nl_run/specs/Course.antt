@@ -20,9 +20,10 @@ use Rattle.nl_acts.specs.declared.fail.ErrorKind.{ErrorKind}
 use Rattle.nl_acts.specs.declared.fail.ErrorKind.TheVariants.{WrongType, TooLarge}
 use Rattle.nl_meaning.specs.State.{Outcome}
 use Rattle.nl_meaning.specs.Meaning.{text}
-use Rattle.nl_exec.specs.Endings.{Ending, ending_of}
-use Rattle.nl_exec.specs.Endings as ending
-use Rattle.nl_exec.specs.Machines.{first_state, scene_in, in_stream}
+pub use Rattle.nl_exec.specs.Endings.{Ending, ending_of}
+pub use Rattle.nl_exec.specs.Endings as ending
+pub use Rattle.nl_exec.specs.Machines.{first_state}
+use Rattle.nl_exec.specs.Machines.{scene_in, in_stream}
 use Rattle.nl_run.specs.Job.{Job, Lone, scene_at_first}
 use Rattle.nl_run.specs.Rows.{measure, closed_by, error_text}
 use Rattle.nl_run.specs.declared.rows.Row.{Row}

@@ -9,3 +9,6 @@ pub mod numbers;
 pub mod running;
 pub mod truths;
 pub mod values;
+
+// Variables, for who sets them to what is had at once.
+pub use nl_variables::variables;

@@ -21,7 +21,7 @@ use Rattle.nl_agents.specs.Names.{patch_fits, set_fits}
 use Rattle.nl_agents.specs.Standing.{IsWorld, fits_rest}
 use Rattle.nl_agents.specs.declared.agents.Turtle.{Turtle}
 use Rattle.nl_agents.specs.declared.agents.Link.{Link}
-use Rattle.nl_layout.proofs.Ascending.{has_filter, has_range, same_ascending}
+use Rattle.nl_agents.proofs.Ascending.{has_filter, has_range, same_ascending}
 use Rattle.nl_agents.proofs.LivingMembers.{found_passing, members_ascend}
 use Rattle.nl_query.specs.Outcomes.{Outcome, and_then}
 use Rattle.nl_query.specs.declared.fail.QueryFail.TheVariants.{WrongType}

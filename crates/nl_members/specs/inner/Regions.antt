@@ -3,7 +3,7 @@ use Rattle.std.specs.Prelude.{ℕ, ℤ, Bool, true, false, ◌&&◌, ◌==◌, O
 use Rattle.nl_grid.specs.Geometry.{Plane, heading_between}
 use Rattle.nl_grid.specs.declared.point.Point.{Point}
 use Rattle.nl_value.specs.declared.sets.AgentKind.TheVariants as the_kind
-use Rattle.nl_layout.specs.Nouns.{BreedNumber}
+use Rattle.nl_agents.specs.Nouns.{BreedNumber}
 use Rattle.nl_agents.specs.World.{Rest}
 use Rattle.nl_agents.specs.Changes.{turtle_of}
 use Rattle.nl_agents.specs.declared.agents.Turtle.{Turtle}

@@ -6,9 +6,7 @@ use Rattle.nl_tree.specs.declared.declared.Form.{Form}
 use Rattle.nl_tree.specs.declared.declared.Form.TheVariants as form
 use Rattle.nl_agents.specs.declared.store.Store.{Ghosts}
 use Rattle.nl_exec.specs.Machines.{form_of, program_of, spent_of}
-use Rattle.nl_levels.specs.declared.focus.Wish.{Wish}
-use Rattle.nl_levels.specs.declared.focus.Wish.TheVariants as wish
-use Rattle.nl_exec.specs.declared.phase.Phase.{Phase}
+use Rattle.nl_exec.specs.inner.Codes.{phase_code}
 use Rattle.nl_exec.specs.declared.phase.Phase.TheVariants as machine
 use Rattle.nl_run.specs.Course.{Finish, course_within}
 use Rattle.nl_run.specs.Going.{CourseIn, ReadyIn}
@@ -48,37 +46,6 @@ form_again form.Reporter = refl
 
 abbrev form_code : Coded Form
 form_code = code_by ℕ coded_ℕ number_of_form form_at form_again
-
--- a phase of the machine is its place among the variants, and a number
-abbrev wish_parts : Wish → ℕ × ℕ
-wish_parts (wish.Node node) = (0, node)
-wish_parts wish.Tick = (1, 0)
-
-abbrev phase_parts : Phase → ℕ × (ℕ × ℕ)
-phase_parts machine.Closed = (0, (0, 0))
-phase_parts machine.Failed = (1, (0, 0))
-phase_parts (machine.Begun node) = (2, (0, node))
-phase_parts (machine.Waiting w) = (3, wish_parts w)
-
-abbrev wish_at : ℕ → ℕ → Wish
-wish_at zero node = wish.Node node
-wish_at (suc place) node = wish.Tick
-
-abbrev phase_at : ℕ → ℕ × ℕ → Phase
-phase_at zero rest = machine.Closed
-phase_at (suc zero) rest = machine.Failed
-phase_at (suc (suc zero)) rest = machine.Begun rest.1
-phase_at (suc (suc (suc place))) rest = machine.Waiting (wish_at rest.0 rest.1)
-
-abbrev phase_again : (p : Phase) → phase_at (phase_parts p).0 (phase_parts p).1 ≡ p
-phase_again machine.Closed = refl
-phase_again machine.Failed = refl
-phase_again (machine.Begun node) = refl
-phase_again (machine.Waiting (wish.Node node)) = refl
-phase_again (machine.Waiting wish.Tick) = refl
-
-abbrev phase_code : Coded Phase
-phase_code = code_by (ℕ × (ℕ × ℕ)) (coded× coded_ℕ (coded× coded_ℕ coded_ℕ)) phase_parts (λ c. phase_at c.0 c.1) phase_again
 
 nothing_once : IsProp ⊥
 nothing_once = λ x y. absurd x

@@ -10,8 +10,8 @@ use Rattle.nl_frames.specs.Seen.{ground, state_of}
 use Rattle.nl_frames.specs.Standing.{AnsweringFits, MembersAscend, MembersFit, TurnsFit}
 use Rattle.nl_frames.specs.declared.turns.Turns.{Turns}
 use Rattle.nl_frames.proofs.Standing.{stands_on}
-use Rattle.nl_turns.specs.Turning.{first_of}
-use Rattle.nl_turns.proofs.Members.{member_small, member_agent_fits}
+use Rattle.nl_answers.proofs.Turns.{first_of}
+use Rattle.nl_answers.proofs.Turns.{member_small, member_agent_fits}
 use Rattle.nl_short.specs.Had.{short_plain}
 use Rattle.nl_at_once.specs.AtOnce.{answering}
 use Rattle.nl_at_once.proofs.Answering.{first_among, member_there, next_ascends, next_fits, turn_begins}

@@ -3,7 +3,7 @@ use Rattle.std.proofs.Common.{◌≡◌, ◌+◌, ◌-◌, suc, ◌∙◌, arith
 use Rattle.nl_code.specs.Code.{node_at}
 use Rattle.nl_meaning.specs.Meaning.{evaluator}
 use Rattle.nl_frames.specs.Seen.{state_of}
-use Rattle.nl_turns.proofs.Through.{stands_through}
+use Rattle.nl_answers.proofs.Turns.{stands_through}
 use Rattle.nl_at_once.proofs.Taking.{turn_taken}
 use Rattle.nl_at_once.proofs.repeats.do_repeats.Goals as goal
 

@@ -12,8 +12,8 @@ use Rattle.nl_frames.specs.Seen.{ground, state_of}
 use Rattle.nl_frames.specs.Standing.{MembersFit, TurnsFit}
 use Rattle.nl_frames.specs.declared.turns.Turns.{Turns}
 use Rattle.nl_frames.proofs.Standing.{stands_on}
-use Rattle.nl_turns.proofs.Members.{member_small, member_agent_fits}
-use Rattle.nl_turns.proofs.Skipping.{block_runs}
+use Rattle.nl_answers.proofs.Turns.{member_small, member_agent_fits}
+use Rattle.nl_answers.proofs.Turns.{block_runs}
 use Rattle.nl_at_once.proofs.turns.next_member.Goals as goal
 
 pub owner_of-requires : goal.owner_of-requires

@@ -1,5 +1,5 @@
 use Rattle.std.proofs.Common.{List, ℕ, ◌++◌, ◌∷◌, [], ap, sym, ◌∙◌}
-use Rattle.nl_layout.proofs.Ascending.{range_more}
+use Rattle.nl_agents.proofs.Ascending.{range_more}
 use Rattle.nl_choice.proofs.choices.places.Goals as goal
 
 pub loop-place-preserved : goal.loop-place-preserved

@@ -3,7 +3,7 @@ use Rattle.std.specs.List.Sorted.{IsStrictlyIncreasing}
 use Rattle.std.proofs.lemmas.List.Filters.{dedup_is}
 use Rattle.std.proofs.lemmas.Map.Keys.{IsStrictlyIncreasing-dedup}
 use Rattle.nl_agents.specs.Members.{is_listed}
-use Rattle.nl_layout.proofs.Collected.{same_once}
+use Rattle.nl_agents.proofs.Ascending.{same_once}
 use Rattle.nl_query.proofs.orders.in_order.Goals as goal
 
 pub of_vec-requires : goal.of_vec-requires
