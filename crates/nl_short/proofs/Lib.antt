@@ -5,4 +5,4 @@ pub mod Words
 pub mod Single
 pub mod Listing
 pub mod Sets
-pub mod Variables
+pub mod Assigned

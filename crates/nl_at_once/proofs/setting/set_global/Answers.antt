@@ -6,7 +6,7 @@ use Rattle.nl_agents.specs.World.{World}
 use Rattle.nl_acts.specs.declared.fail.ErrorKind.TheVariants.{WrongType}
 use Rattle.nl_meaning.specs.State.{found, goes_on, with_world}
 use Rattle.nl_frames.specs.Seen.{state_of}
-use Rattle.nl_short.proofs.Variables.{global_revalued}
+use Rattle.nl_short.proofs.Assigned.{global_revalued}
 use Rattle.nl_at_once.proofs.setting.set_global.Goals as goal
 
 pub returns-in-Ok-clause-set : goal.returns-in-Ok-clause-set

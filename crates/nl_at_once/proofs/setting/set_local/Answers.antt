@@ -11,7 +11,7 @@ use Rattle.nl_frames.specs.Standing.{LocalsFit}
 use Rattle.nl_frames.proofs.Grounds.{pass_set}
 use Rattle.nl_frames.proofs.Newest.{newest_is, held_set}
 use Rattle.nl_frames.proofs.Standing.{stands_on}
-use Rattle.nl_short.proofs.Variables.{index_within}
+use Rattle.nl_short.proofs.Assigned.{index_within}
 use Rattle.nl_at_once.proofs.setting.set_local.Goals as goal
 
 pub replace-requires : goal.replace-requires
