@@ -1,5 +1,5 @@
 //! The chains of links by their ends.
-ghost use Rattle.std.specs.Prelude.{◌≡◌, ◌==◌, ℕ, Bool, true, false, [], Option, Some, None, IsSome, IsSomeAnd, OnOk, OnErr};
+ghost use Rattle.std.specs.Prelude.{◌≡◌, ◌==◌, ℕ, Bool, true, false, [], Option, Some, None, IfSome, IsSome, IsSomeAnd, OnOk, OnErr};
 ghost use Rattle.std.specs.Option.{option_map};
 ghost use Rattle.nl_threads.specs.Threads.{at_number};
 ghost use Rattle.nl_records.specs.Records.{record_at, fields_at};
@@ -24,6 +24,8 @@ use std::sync::ledger::{Blank, Ledger};
 #[derive(Drop)]
 pub struct Ends {
     map: IndexMap<u64, Sides>,
+    /// The turtle that was held while no other was. It is only a hint of where an entry stands.
+    first: u64,
 }
 
 /// The ends of a link.
@@ -74,6 +76,7 @@ impl Ends {
     {
         Ends {
             map: IndexMap::new(alloc),
+            first: 0,
         }
     }
 
@@ -151,6 +154,9 @@ impl Ends {
         ensures held { OnOk result (SetsSides (sides_at self.old) (sides_at self.new) turtle (Some no_links)) }
         ensures kept { OnErr result (SameSides (sides_at self.old) (sides_at self.new)) }
     {
+        if self.map.is_empty() {
+            self.first = turtle;
+        }
         self.map.insert(turtle, Sides::empty())?;
         Ok(())
     }
@@ -166,7 +172,23 @@ impl Ends {
         requires { IsSome (sides_at self.now turtle) }
         ensures { sides_at self.now turtle ≡ Some result }
     {
-        *self.map.get(&turtle).unwrap()
+        match self.guessed(turtle) {
+            Some(sides) => sides,
+            None => *self.map.get(&turtle).unwrap(),
+        }
+    }
+
+    /// The borders of a turtle's chains, where a guess finds its entry: turtles are held in the order of their serials, so while few have
+    /// died nearly all stand as far from the start as their serial is from the first one. A look there takes less time than to find the
+    /// serial by its hash.
+    fn guessed(&self, turtle: u64) -> Option<Sides>
+        ensures { IfSome result (λ sides. sides_at self.now turtle ≡ Some sides) }
+    {
+        if turtle < self.first {
+            return None;
+        }
+        let (there, sides) = self.map.get_index((turtle - self.first) as usize)?;
+        if *there == turtle { Some(*sides) } else { None }
     }
 
     pub(crate) fn set_first(&mut self, side: Side, turtle: u64, to: Option<usize>)
