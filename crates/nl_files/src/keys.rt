@@ -1,9 +1,10 @@
 //! Keys of agents by serial.
-ghost use Rattle.std.specs.Prelude.{◌≡◌, ◌+◌, ℕ, Some, None, OnOk, IsSome, IfSome};
+ghost use Rattle.std.specs.Prelude.{◌≡◌, ◌+◌, ℕ, Some, None, OnOk, IsSome};
 ghost use Rattle.nl_files.specs.Keys.{key_count, key_in, HasPlace, SameKeys, SetsKey};
 
 use indexmap::IndexMap;
 use nl_fixed::NoMemory;
+use nl_links::guesses::guessed;
 use std::alloc::Global;
 
 /// The keys of the turtles, or of the links, that live.
@@ -37,23 +38,10 @@ impl Keys {
     pub(crate) fn get(&self, serial: u64) -> Option<usize>
         ensures { result ≡ key_in self.now serial }
     {
-        match self.guessed(serial) {
+        match guessed(&self.map, self.first, serial) {
             Some(key) => Some(key),
             None => self.map.get(&serial).copied(),
         }
-    }
-
-    /// The key of a serial whose entry stands where a guess looks for it. Serials are given one after another and each new entry goes
-    /// last, so while few agents have died nearly all stand as far from the start as their serial is from the first one. A look there
-    /// takes less time than to find the serial by its hash.
-    fn guessed(&self, serial: u64) -> Option<usize>
-        ensures { IfSome result (λ key. key_in self.now serial ≡ Some key) }
-    {
-        if serial < self.first {
-            return None;
-        }
-        let (there, key) = self.map.get_index((serial - self.first) as usize)?;
-        if *there == serial { Some(*key) } else { None }
     }
 
     /// Makes room for one more.

@@ -1,5 +1,5 @@
 //! The chains of links by their ends.
-ghost use Rattle.std.specs.Prelude.{◌≡◌, ◌==◌, ℕ, Bool, true, false, [], Option, Some, None, IfSome, IsSome, IsSomeAnd, OnOk, OnErr};
+ghost use Rattle.std.specs.Prelude.{◌≡◌, ◌==◌, ℕ, Bool, true, false, [], Option, Some, None, IsSome, IsSomeAnd, OnOk, OnErr};
 ghost use Rattle.std.specs.Option.{option_map};
 ghost use Rattle.nl_threads.specs.Threads.{at_number};
 ghost use Rattle.nl_records.specs.Records.{record_at, fields_at};
@@ -9,6 +9,7 @@ ghost use Rattle.nl_index.specs.Index.{chain_of, first_of};
 ghost use Rattle.nl_links.specs.Sides.{sides_at, with_first, with_last, no_links, HoldsSame, SameSides, SetsSides};
 ghost use Rattle.nl_links.specs.Ends.{by_first, by_second, lists_joined, lists_parted, no_link_lists, HasEnds, Holds, IsEnded, IsFree, IsHeldBy, IsJoined, LinkLists, MayJoin, SameUnjoined};
 
+use crate::guesses::guessed;
 use crate::joining::{link_last, unlink};
 use crate::sides::{Side, Sides};
 use indexmap::IndexMap;
@@ -172,23 +173,10 @@ impl Ends {
         requires { IsSome (sides_at self.now turtle) }
         ensures { sides_at self.now turtle ≡ Some result }
     {
-        match self.guessed(turtle) {
+        match guessed(&self.map, self.first, turtle) {
             Some(sides) => sides,
             None => *self.map.get(&turtle).unwrap(),
         }
-    }
-
-    /// The borders of a turtle's chains, where a guess finds its entry: turtles are held in the order of their serials, so while few have
-    /// died nearly all stand as far from the start as their serial is from the first one. A look there takes less time than to find the
-    /// serial by its hash.
-    fn guessed(&self, turtle: u64) -> Option<Sides>
-        ensures { IfSome result (λ sides. sides_at self.now turtle ≡ Some sides) }
-    {
-        if turtle < self.first {
-            return None;
-        }
-        let (there, sides) = self.map.get_index((turtle - self.first) as usize)?;
-        if *there == turtle { Some(*sides) } else { None }
     }
 
     pub(crate) fn set_first(&mut self, side: Side, turtle: u64, to: Option<usize>)

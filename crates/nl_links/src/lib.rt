@@ -2,6 +2,7 @@
 #![tactic(auto)]
 
 pub mod ends;
+pub mod guesses;
 pub mod joining;
 pub mod laws;
 pub mod sides;
