@@ -40,8 +40,16 @@ impl Keys {
     {
         match guessed(&self.map, self.first, serial) {
             Some(key) => Some(key),
-            None => self.map.get(&serial).copied(),
+            None => self.found(serial),
         }
+    }
+
+    // The key of a serial, by its hash. It stands apart, so that where a guess suffices nothing is kept for it.
+    #[inline(never)]
+    fn found(&self, serial: u64) -> Option<usize>
+        ensures { result ≡ key_in self.now serial }
+    {
+        self.map.get(&serial).copied()
     }
 
     /// Makes room for one more.

@@ -175,8 +175,17 @@ impl Ends {
     {
         match guessed(&self.map, self.first, turtle) {
             Some(sides) => sides,
-            None => *self.map.get(&turtle).unwrap(),
+            None => self.found(turtle),
         }
+    }
+
+    // The borders of a turtle's chains, by its hash. It stands apart, so that where a guess suffices nothing is kept for it.
+    #[inline(never)]
+    fn found(&self, turtle: u64) -> Sides
+        requires { IsSome (sides_at self.now turtle) }
+        ensures { sides_at self.now turtle ≡ Some result }
+    {
+        *self.map.get(&turtle).unwrap()
     }
 
     pub(crate) fn set_first(&mut self, side: Side, turtle: u64, to: Option<usize>)
