@@ -207,6 +207,12 @@ pub trait Store: Sized + Drop {
         ensures list { OnOk result (into.new ≡ turtles_on patch (world self.now).rest) }
         ensures reads { steps.new ≤ steps.old + length (turtles_on patch (world self.now).rest) + 1 };
 
+    /// How many living turtles stand on a patch. It reads each of them.
+    fn count_on<L: Ledger>(&self, patch: u32, steps: &mut Steps<L>) -> usize
+        requires { patch < patches_of (world self.now).rest.shape }
+        ensures many { result ≡ length (turtles_on patch (world self.now).rest) }
+        ensures reads { steps.new ≤ steps.old + length (turtles_on patch (world self.now).rest) + 1 };
+
     /// Fills the list with the serials of the links that live, ascending.
     fn links<L: Ledger>(
         &self,
@@ -227,6 +233,12 @@ pub trait Store: Sized + Drop {
     ) -> Result<(), NoMemory>
         requires { TurtleLives turtle (world self.now) }
         ensures list { OnOk result (into.new ≡ links_with_end turtle (world self.now).rest) }
+        ensures reads { steps.new ≤ steps.old + length (links_with_end turtle (world self.now).rest) + 1 };
+
+    /// How many living links have the turtle as an end. It reads each of them.
+    fn count_links_of<L: Ledger>(&self, turtle: u64, steps: &mut Steps<L>) -> usize
+        requires { TurtleLives turtle (world self.now) }
+        ensures many { result ≡ length (links_with_end turtle (world self.now).rest) }
         ensures reads { steps.new ≤ steps.old + length (links_with_end turtle (world self.now).rest) + 1 };
 
     /// All turtles and links die, and the next turtle is called 0.

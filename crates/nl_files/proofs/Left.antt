@@ -35,6 +35,18 @@ module _ (chain : ℕ) (at : ℕ → Option Record) (ks was now : List ℕ) (b a
   pub left-done : (here : Option ℕ) → length ks ≤ i → IsLeft chain at here ks was now b a i → now ≡ was ++ serials_of at ks
   left-done here s l = done-rest l.rest l.far s l.told
 
+  none-left : (rest : List ℕ) → IsPath chain at None rest → length rest + i ≡ length ks → i ≡ length ks
+  none-left [] w f = omega (arith, f)
+  none-left (k ∷ rest) w f = absurd (let z = w.0 in cc)
+
+  -- all keys were passed where there is no key
+  pub left-all : (here : Option ℕ) → here ≡ None → IsLeft chain at here ks was now b a i → i ≡ length ks
+  left-all here h l = none-left l.rest (subst (λ x. IsPath chain at x l.rest) h l.path) l.far
+
+  -- no more keys were passed than there are
+  pub left-far : (here : Option ℕ) → IsLeft chain at here ks was now b a i → i ≤ length ks
+  left-far here l = let f = l.far in omega arith
+
   -- what was read is no more than the keys
   pub left-reads : (here : Option ℕ) → IsLeft chain at here ks was now b a i → a ≤ b + length ks
   left-reads here l = let r = l.reads in omega arith

@@ -2,6 +2,7 @@ pub mod Altering
 pub mod Chosen
 pub mod Coming
 pub mod Counting
+pub mod Chained
 pub mod Filed
 pub mod Going
 pub mod Leaving

@@ -14,6 +14,7 @@ use crate::filing::{make_room, put_new};
 use crate::filling::{fill_both, fill_in_order, fill_sorted};
 use crate::keys::Keys;
 use crate::looking::{either, fields_of, key_of, link_parts, point_of};
+use crate::walk::length;
 use nl_agents::{Layout, Slots, Steps, Variables};
 use nl_fixed::NoMemory;
 use nl_grid::{Point, Shape};
@@ -369,6 +370,35 @@ impl Files {
         let first = self.chains.first(Chain::Patch(patch));
         let most = self.turtle_keys.len();
         fill_sorted(alloc, &self.records, 1, first, most, into, steps)
+    }
+
+    /// How many turtles stand on the patch.
+    pub fn count_on<L: Ledger>(&self, patch: u32, steps: &mut Steps<L>) -> usize
+        requires { patch < patches_of self.now.shape }
+        ensures many { result ≡ length (filter (λ t. patch_at self.now.shape t.at == patch) self.now.turtles) }
+        ensures reads { steps.new
+            ≤ steps.old + length (filter (λ t. patch_at self.now.shape t.at == patch) self.now.turtles) }
+    {
+        let most = self.turtle_keys.len();
+        length(
+            &self.records,
+            1,
+            self.chains.first(Chain::Patch(patch)),
+            most,
+            steps,
+        )
+    }
+
+    /// How many links have the turtle as an end.
+    pub fn count_links_of<L: Ledger>(&self, turtle: u64, steps: &mut Steps<L>) -> usize
+        requires { IsSome (find (is_turtle turtle) self.now.turtles) }
+        ensures many { result ≡ length (filter (has_end turtle) self.now.links) }
+        ensures reads { steps.new ≤ steps.old + length (filter (has_end turtle) self.now.links) }
+    {
+        let firsts = self.ends.firsts(turtle);
+        let most = self.link_keys.len();
+        let by_first = length(&self.records, 3, firsts.0, most, steps);
+        by_first + length(&self.records, 4, firsts.1, most, steps)
     }
 
     /// Fills the list with the serials of the links that have the turtle as an end, ascending.

@@ -8,6 +8,31 @@ use nl_fixed::NoMemory;
 use nl_records::Records;
 use std::sync::ledger::Ledger;
 
+/// How many keys a chain of the kind has, from its first key on. Each is one read.
+pub(crate) fn length<L: Ledger>(
+    records: &Records,
+    chain: u8,
+    first: Option<usize>,
+    most: usize,
+    steps: &mut Steps<L>,
+) -> usize
+    requires chain { chain < 5 }
+    requires path { HasPath chain (record_at records.now) first most }
+    ensures many { (keys : List ℕ) → IsPath chain (record_at records.now) first keys → length keys ≤ most →
+        result ≡ length keys }
+    ensures reads { (keys : List ℕ) → IsPath chain (record_at records.now) first keys → length keys ≤ most →
+        steps.new ≤ steps.old + length keys }
+{
+    let mut here = first;
+    for passed in 0..most {
+        let Some(key) = here else {
+            return passed;
+        };
+        here = records.read(key, steps).unwrap().next(chain);
+    }
+    most
+}
+
 /// Appends the serials of a chain of the kind, from its first key on. Each is one read.
 pub(crate) fn walk<L: Ledger>(
     records: &Records,

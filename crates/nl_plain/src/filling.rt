@@ -80,6 +80,13 @@ pub(crate) fn fill_on(
     Ok(())
 }
 
+// Whether the turtle is an end of the link.
+fn has_end(link: &Link, turtle: u64) -> bool
+    ensures { result ≡ has_end turtle link.now }
+{
+    link.end1 == turtle || link.end2 == turtle
+}
+
 /// Fills the list with the serials of the links that have a turtle as an end.
 pub(crate) fn fill_links_of(
     alloc: Global,
@@ -92,11 +99,38 @@ pub(crate) fn fill_links_of(
 {
     into.clear();
     for link in links {
-        if link.end1 == turtle || link.end2 == turtle {
+        if has_end(link, turtle) {
             into.push(alloc, link.serial)?;
         }
     }
     Ok(())
+}
+
+/// How many turtles stand on a patch.
+pub(crate) fn count_on(turtles: &[Turtle], shape: Shape, patch: u32) -> usize
+    requires { All (λ t. IsPointOf shape t.at) turtles.now }
+    ensures { result ≡ length (map (λ t. t.serial) (filter (λ t. patch_at shape t.at == patch) turtles.now)) }
+{
+    let mut count = 0;
+    for turtle in turtles {
+        if shape.patch_of(turtle.at) == patch {
+            count += 1;
+        }
+    }
+    count
+}
+
+/// How many links have a turtle as an end.
+pub(crate) fn count_links_of(links: &[Link], turtle: u64) -> usize
+    ensures { result ≡ length (map (λ l. l.serial) (filter (has_end turtle) links.now)) }
+{
+    let mut count = 0;
+    for link in links {
+        if has_end(link, turtle) {
+            count += 1;
+        }
+    }
+    count
 }
 
 /// How many turtles are of a breed.

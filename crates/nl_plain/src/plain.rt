@@ -14,7 +14,10 @@ use crate::bearing::{birth_vars, zeros};
 use crate::changing::{move_turtle, rebreed_turtle, remove_turtle, set_patch, set_turtle};
 use crate::clearing::{clear_coded, first_patches, reset_patches};
 use crate::copying::{copy_patches, copy_turtles};
-use crate::filling::{count_breed, fill_breed, fill_links, fill_links_of, fill_on, fill_turtles};
+use crate::filling::{
+    count_breed, count_links_of, count_on, fill_breed, fill_links, fill_links_of, fill_on,
+    fill_turtles,
+};
 use crate::finding::{link_in, link_place, patch_in, turtle_in, turtle_place};
 use crate::globals::{global_in, set_global};
 use crate::links::Links;
@@ -266,6 +269,10 @@ impl Store for Plain {
         fill_on(alloc, &self.turtles, self.shape, patch, into)
     }
 
+    fn count_on<L: Ledger>(&self, patch: u32, _steps: &mut Steps<L>) -> usize {
+        count_on(&self.turtles, self.shape, patch)
+    }
+
     fn links<L: Ledger>(
         &self,
         alloc: Global,
@@ -283,6 +290,10 @@ impl Store for Plain {
         _steps: &mut Steps<L>,
     ) -> Result<(), NoMemory> {
         fill_links_of(alloc, self.links.as_slice(), turtle, into)
+    }
+
+    fn count_links_of<L: Ledger>(&self, turtle: u64, _steps: &mut Steps<L>) -> usize {
+        count_links_of(self.links.as_slice(), turtle)
     }
 
     fn clear_turtles(&mut self) {

@@ -248,6 +248,10 @@ impl Store for Indexed {
         self.roster.files().members_on(alloc, patch, into, steps)
     }
 
+    fn count_on<L: Ledger>(&self, patch: u32, steps: &mut Steps<L>) -> usize {
+        self.roster.files().count_on(patch, steps)
+    }
+
     fn links<L: Ledger>(
         &self,
         alloc: Global,
@@ -265,6 +269,10 @@ impl Store for Indexed {
         steps: &mut Steps<L>,
     ) -> Result<(), NoMemory> {
         self.roster.files().links_of(alloc, turtle, into, steps)
+    }
+
+    fn count_links_of<L: Ledger>(&self, turtle: u64, steps: &mut Steps<L>) -> usize {
+        self.roster.files().count_links_of(turtle, steps)
     }
 
     fn clear_turtles(&mut self) {

@@ -78,6 +78,36 @@ impl<S: Store> Tried<S> {
         }
     }
 
+    // Whether the store lists these serials, and counts as many.
+    fn tells(&self, alloc: Global, which: Listed, wanted: &[u64]) -> bool {
+        self.counts::<Brand>(Blank::new(1), which, wanted.len()) && self.lists(alloc, which, wanted)
+    }
+
+    // Whether the store counts as many. False where the store may not be asked for it.
+    fn counts<L: Ledger>(&self, blank: Blank, which: Listed, wanted: usize) -> bool
+        requires name { blank.name ≡ L.name }
+        requires parts { blank.parts ≡ L.parts }
+        requires one { blank.parts ≡ 1 }
+    {
+        let mut steps = Steps::<L>::new(blank);
+        match which {
+            Listed::Turtles => self.store.turtle_count() == wanted,
+            Listed::OfBreed(breed) => self.store.breed_count(breed) == wanted,
+            Listed::On(place) => match self.point(place) {
+                Some(at) => {
+                    let patch = self.store.shape().patch_of(at);
+                    self.store.count_on(patch, &mut steps) == wanted
+                }
+                None => false,
+            },
+            Listed::Links => self.store.link_count() == wanted,
+            Listed::LinksOf(turtle) => {
+                self.store.turtle_lives(turtle)
+                    && self.store.count_links_of(turtle, &mut steps) == wanted
+            }
+        }
+    }
+
     fn is_turtle(&self, turtle: u64, breed: u32, place: Place) -> bool {
         if !self.store.turtle_lives(turtle) {
             return false;
@@ -108,19 +138,11 @@ impl<S: Store> Tried<S> {
     /// Whether the store gives the answer.
     pub fn answers(&self, alloc: Global, look: Look) -> bool {
         match look {
-            Look::Turtles(wanted) => {
-                self.store.turtle_count() == wanted.len()
-                    && self.lists(alloc, Listed::Turtles, wanted)
-            }
-            Look::OfBreed(breed, wanted) => {
-                self.store.breed_count(breed) == wanted.len()
-                    && self.lists(alloc, Listed::OfBreed(breed), wanted)
-            }
-            Look::On(place, wanted) => self.lists(alloc, Listed::On(place), wanted),
-            Look::Links(wanted) => {
-                self.store.link_count() == wanted.len() && self.lists(alloc, Listed::Links, wanted)
-            }
-            Look::LinksOf(turtle, wanted) => self.lists(alloc, Listed::LinksOf(turtle), wanted),
+            Look::Turtles(wanted) => self.tells(alloc, Listed::Turtles, wanted),
+            Look::OfBreed(breed, wanted) => self.tells(alloc, Listed::OfBreed(breed), wanted),
+            Look::On(place, wanted) => self.tells(alloc, Listed::On(place), wanted),
+            Look::Links(wanted) => self.tells(alloc, Listed::Links, wanted),
+            Look::LinksOf(turtle, wanted) => self.tells(alloc, Listed::LinksOf(turtle), wanted),
             Look::Unbreeded(directed, count) => self.store.unbreeded_count(directed) == count,
             Look::Turtle(turtle, breed, place) => self.is_turtle(turtle, breed, place),
             Look::Link(link, breed, directed, end1, end2) => {
