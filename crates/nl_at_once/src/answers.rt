@@ -23,7 +23,6 @@ use nl_frames::{Answered, BoxedAnswers, BoxedTurns, Hands};
 use nl_meaning::Site;
 use nl_short::values::{ShortValue, short_value};
 use nl_value::Value;
-use std::alloc::Global;
 
 // An answer is kept or passed over. False where it decides all, or is of the wrong kind, or memory is lacking: then nothing is changed.
 #[inline(always)]
@@ -107,7 +106,6 @@ fn next_answer<S: Store>(
 /// Members answer, of which the first one has its unit, so far as that is done at once: where a value is given, it is that of the member at
 /// which they stand, and else this one's block is still to be evaluated.
 pub fn do_answers<S: Store>(
-    alloc: Global,
     code: &Code,
     hands: &mut Hands<S>,
     node: u32,
@@ -138,7 +136,7 @@ pub fn do_answers<S: Store>(
     ensures stands { Stands hands.new hands.old }
 {
     'answers: loop {
-        let Some(short) = short_value(alloc, code, hands, block) else {
+        let Some(short) = short_value(code, hands, block) else {
             return None;
         };
         if !next_answer(

@@ -90,8 +90,8 @@ fn do_plain<S: Store>(
     match word {
         Built::Control(control) => match control {
             Control::Set => set(alloc, code, hands, node),
-            Control::Forward => walk(alloc, code, hands, node, runs, false, units),
-            Control::Back => walk(alloc, code, hands, node, runs, true, units),
+            Control::Forward => walk(code, hands, node, runs, false, units),
+            Control::Back => walk(code, hands, node, runs, true, units),
             _ => false,
         },
         Built::Act(act) => match act {
@@ -107,7 +107,8 @@ fn do_plain<S: Store>(
 fn spends<S: Store>(hands: &Hands<S>, units: &mut u64) -> bool
     ensures spent { result ≡ true → units.old ≡ suc units.new }
     ensures back { result ≡ true → units.new + 1 < 2 ^ 64 }
-    ensures lives { result ≡ true → is_gone (S.world hands.now.stage.store).rest hands.now.site.agent ≡ false }
+    ensures lives { let r = (S.world hands.now.stage.store).rest in
+        result ≡ true → is_gone r hands.now.site.agent ≡ false }
     ensures not { result ≡ false → units.new ≡ units.old }
 {
     if *units == 0 || is_dead(hands) {
@@ -223,7 +224,8 @@ fn choose<S: Store>(
     units: &mut u64,
 ) -> Option<Done>
     requires fit { HandsFit hands.old }
-    requires is { (breed : Option BreedNumber) × (case_of code.now.program.declared (label (node_at code.now node))
+    requires is { (breed : Option BreedNumber) ×
+        (case_of code.now.program.declared (label (node_at code.now node))
         ≡ case.Word runs breed (built.Control (choosing either))) }
     ensures done { IfSome result (λ done.
         GoesUpTo code.now node most_nested done hands.new units.new hands.old units.old) }

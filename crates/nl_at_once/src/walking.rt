@@ -21,7 +21,6 @@ use nl_motion::step;
 use nl_short::numbers::number;
 use nl_short::running::lives_and_may_run;
 use nl_words::Kinds;
-use std::alloc::Global;
 
 // A step is made for a unit, and nothing comes behind it. Where there is no unit, or the world's numbers don't hold the step, nothing is
 // changed.
@@ -69,7 +68,6 @@ fn is_within_one_step(by: Num) -> bool
 /// A turtle goes at most one step, where that is done at once; else nothing is changed.
 #[inline(never)]
 pub fn walk<S: Store>(
-    alloc: Global,
     code: &Code,
     hands: &mut Hands<S>,
     node: u32,
@@ -89,7 +87,7 @@ pub fn walk<S: Store>(
     let Some(part) = code.part(node, 0) else {
         return false;
     };
-    let Some(number) = number(alloc, code, hands, part) else {
+    let Some(number) = number(code, hands, part) else {
         return false;
     };
     let Owner::Turtle(turtle) = hands.site.agent else {

@@ -354,7 +354,6 @@ fn hurry_repeat<S: Store>(
 // Members answer at once.
 #[inline(always)]
 fn hurry_answering<S: Store>(
-    alloc: Global,
     code: &Code,
     hands: &mut Hands<S>,
     limit: usize,
@@ -397,7 +396,6 @@ fn hurry_answering<S: Store>(
     let mut turns = turns;
     let mut made = made;
     let value = do_answers(
-        alloc,
         code,
         hands,
         whose,
@@ -476,8 +474,8 @@ fn hurry_under<S: Store>(
             gathered,
         } => {
             hurry_answering(
-                alloc, code, hands, limit, levels, top, whose, index, word, member, turns, made,
-                gathered, node, units,
+                code, hands, limit, levels, top, whose, index, word, member, turns, made, gathered,
+                node, units,
             )
         }
         Frame::RepeatTurn { node: word, left } => {

@@ -14,7 +14,7 @@ ghost use Rattle.nl_frames.specs.Standing.{ExitFits, NextFits};
 ghost use Rattle.nl_frames.specs.Work.{frame_work, next_work};
 ghost use Rattle.nl_frames.specs.declared.exits.Exit.TheVariants.{Gives};
 ghost use Rattle.nl_levels.specs.Rest.{through, rest, stopped, wished, begun, IsOver, IsSpent, stop_exit};
-ghost use Rattle.nl_levels.specs.Steady.{IsSteady, LevelsFit, FocusFits, StopFits};
+ghost use Rattle.nl_levels.specs.Steady.{IsSteady, FocusFits, StopFits};
 ghost use Rattle.nl_levels.specs.Work.{levels_work, total_work};
 ghost use Rattle.nl_levels.specs.declared.focus.Focus.TheVariants.{Start, Enter, Give};
 
@@ -164,7 +164,7 @@ fn enter_node<S: Store>(
         return Ok(too_nested(code, hands.site, node));
     }
     if limit - levels.len() > VALUE_NESTED {
-        if let Some(short) = value_of_word(alloc, code, hands, node) {
+        if let Some(short) = value_of_word(code, hands, node) {
             return Ok(Focus::Give(Exit::Gives(short.value())));
         }
     }

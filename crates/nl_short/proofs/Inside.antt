@@ -1,5 +1,5 @@
 -- What a node gives that has what is had of its one part: parentheses give what is inside, which is within the limits already.
-use Rattle.std.proofs.Common.{◌≡◌, ℕ, zero, suc, ◌<◌, ◌≤◌, Bool, true, false, Option, Some, None, IfSome, slice_get, refl, ap, ◌∙◌, sym, arith}
+use Rattle.std.proofs.Common.{◌≡◌, ℕ, zero, suc, ◌<◌, Bool, true, false, Option, Some, None, IfSome, slice_get, refl, ap, ◌∙◌, sym, arith}
 use Rattle.nl_fixed.specs.declared.span.Span.{Span}
 use Rattle.nl_value.specs.Plain.{Plain}
 use Rattle.nl_value.specs.Limits.{within_limits}
@@ -75,10 +75,3 @@ pub had_inside : {X : Type 0} (p : Checked) (t part : Node) (s : ℕ → State) 
 had_inside p t part s n of None outer inner = tt
 had_inside p t part s n of (Some x) outer inner = λ room units some.
     one_nested p t part (s units) n (of x) (of x) (λ less. outer less (s units) (s units) (of x)) (λ less h. inner less units h) room some
-
--- what is had with less room is had with more
-pub had_below : {X : Type 0} (p : Checked) (t : Node) (s : ℕ → State) (n m : ℕ) (of : X → Plain) (o : Option X) → n ≤ m →
-    IfSome o (λ x. (room units : ℕ) → n < room → evaluator p room t (s units) ≡ gives (of x) (s units)) →
-    IfSome o (λ x. (room units : ℕ) → m < room → evaluator p room t (s units) ≡ gives (of x) (s units))
-had_below p t s n m of None below had = tt
-had_below p t s n m of (Some x) below had = λ room units some. had room units (omega (arith, below, some))

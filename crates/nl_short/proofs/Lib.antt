@@ -5,4 +5,5 @@ pub mod Words
 pub mod Single
 pub mod Listing
 pub mod Sets
+pub mod Counting
 pub mod Assigned

@@ -7,7 +7,6 @@ use Rattle.nl_words.specs.declared.entry.Kinds.{Kinds}
 use Rattle.nl_value.specs.Plain.{Plain, PlainNumber, PlainTruth, PlainSet}
 use Rattle.nl_value.specs.Limits.{within_limits}
 use Rattle.nl_value.specs.Sets.{set_kind}
-use Rattle.nl_value.specs.declared.sets.AgentKind.{AgentKind}
 use Rattle.nl_value.specs.declared.sets.AgentSet.{AgentSet}
 use Rattle.nl_tree.specs.Tree.{Node, label, span, parts}
 use Rattle.nl_tree.specs.Checked.{Checked}
@@ -18,7 +17,6 @@ use Rattle.nl_query.specs.Agents.{listed}
 use Rattle.nl_query.specs.declared.words.OfSet.TheVariants as of_set
 use Rattle.nl_query.specs.declared.words.QueryWord.{QueryWord}
 use Rattle.nl_query.specs.declared.words.QueryWord.TheVariants as query
-use Rattle.nl_query.specs.Outcomes as outcomes
 use Rattle.nl_agentset.specs.Queries.{query_answer}
 use Rattle.nl_agentset.specs.Sets.{others, has_members}
 use Rattle.nl_acts.specs.declared.words.Act.TheVariants as act
@@ -34,9 +32,6 @@ use Rattle.nl_meaning.specs.Acting.{performed, who_asks}
 use Rattle.nl_meaning.specs.Meaning.{evaluator, limited}
 use Rattle.nl_short.proofs.Single.{word_of_none_had, word_of_one_had}
 
-abbrev Queried : Plain × ℕ → outcomes.Outcome (Plain × ℕ)
-Queried answer = Ok answer
-
 -- what a query answers that draws nothing, where who runs lives
 query_told_so : (which : QueryWord) (breed : Option BreedNumber) (agent asker : Owner) (inputs : List Plain) (st : Stage) (value : Plain) →
     who_asks st.rest agent ≡ agent → query_answer st.rest breed agent which inputs st.stream ≡ Ok (value, st.stream) →
@@ -44,11 +39,6 @@ query_told_so : (which : QueryWord) (breed : Option BreedNumber) (agent asker : 
 query_told_so which breed agent asker inputs st value living answers =
     ap (λ who. outcome_map (with_stream st) (told_as error_of_query (query_answer st.rest breed who which inputs st.stream))) living
     ∙ ap (λ o. outcome_map (with_stream st) (told_as error_of_query o)) answers
-
--- an answer is the set of a list
-pub set_answered : (which : AgentKind) (numbers found : List ℕ) (stream : ℕ) → found ≡ numbers →
-    Queried (PlainSet (listed which found), stream) ≡ Queried (PlainSet (listed which numbers), stream)
-set_answered which numbers found stream is = ap (λ l. Queried (PlainSet (listed which l), stream)) is
 
 is_small : (place : Span) (set : AgentSet) (s : State) → within_limits (PlainSet set) ≡ true → limited place (gives (PlainSet set) s) ≡ gives (PlainSet set) s
 is_small place set s small = ap (λ b. choose b (gives (PlainSet set) s) (fails TooLarge place s)) small

@@ -1,12 +1,17 @@
 -- What is had at once: it is what the meaning of texts says of a node, wherever there is room for so many nodes in each other.
-use Rattle.std.specs.Prelude.{◌≡◌, ℕ, ◌<◌, Bool, true, false, List, length}
+use Rattle.std.specs.Prelude.{◌≡◌, ℕ, ◌<◌, Bool, true, false, not, List, [], length, filter, None, Ok}
 use Rattle.nl_fixed.specs.Nouns.{Names}
 use Rattle.nl_value.specs.Plain.{Plain, PlainNumber, PlainSet, PlainTruth}
-use Rattle.nl_value.specs.Sets.{set_kind}
 use Rattle.nl_value.specs.declared.sets.AgentKind.{AgentKind}
 use Rattle.nl_value.specs.declared.sets.AgentSet.{AgentSet}
+use Rattle.nl_agents.specs.World.{World}
 use Rattle.nl_agents.specs.Members.{members_of}
+use Rattle.nl_agents.specs.declared.agents.Owner.{Owner}
 use Rattle.nl_agents.specs.declared.store.Store.{Ghosts}
+use Rattle.nl_query.specs.Agents.{listed}
+use Rattle.nl_query.specs.declared.words.QueryWord.{QueryWord}
+use Rattle.nl_agentset.specs.Queries.{query_answer}
+use Rattle.nl_agentset.specs.Sets.{is_caller, others}
 use Rattle.nl_code.specs.Code.{Code, node_at}
 use Rattle.nl_tree.specs.Tree.{Node}
 use Rattle.nl_meaning.specs.State.{State, Outcome, Eval, gives}
@@ -29,10 +34,20 @@ abbrev pub short_plain : ShortValue → Plain
 short_plain (short.Truth truth) = PlainTruth truth
 short_plain (short.Number number) = PlainNumber number
 
--- the node gives a set of agents of the kind, of which these are the living members, and changes nothing
-abbrev pub GivesMembers : {S : Type 0} {G : Ghosts S} → Code → Hands S G → ℕ → ℕ → AgentKind → List ℕ → Type 0
-GivesMembers {G = g} c h node nested kind members =
-    (set : AgentSet) × IsHad c h node nested (PlainSet set) × (set_kind set ≡ kind) × (members_of (g.world h.stage.store).rest set ≡ members)
+-- a query of no breed gives, without inputs, a set of so many living members, of which so many aren't the agent that asks
+pub record TellsSet (w : World) (agent : Owner) (which : QueryWord) (all but_own : ℕ) : Type 0 where
+  pub kind_of : AgentKind
+  pub numbers : List ℕ
+  pub answers : (stream : ℕ) → query_answer w.rest None agent which [] stream ≡ Ok (PlainSet (listed kind_of numbers), stream)
+  pub members : members_of w.rest (listed kind_of numbers) ≡ numbers
+  pub so_many : length numbers ≡ all
+  pub apart : length (filter (λ number. not (is_caller agent kind_of number)) numbers) ≡ but_own
+
+-- the node gives a set of so many living members, of which so many aren't the agent that runs, and changes nothing
+abbrev pub GivesCounted : {S : Type 0} {G : Ghosts S} → Code → Hands S G → ℕ → ℕ → (all but_own : ℕ) → Type 0
+GivesCounted {G = g} c h node nested all but_own =
+    (set : AgentSet) × IsHad c h node nested (PlainSet set) × (length (members_of (g.world h.stage.store).rest set) ≡ all)
+    × (length (others (g.world h.stage.store).rest h.site.agent set) ≡ but_own)
 
 -- the node gives a set of so many living members, and changes nothing
 abbrev pub GivesSoMany : {S : Type 0} {G : Ghosts S} → Code → Hands S G → ℕ → ℕ → ℕ → Type 0

@@ -71,7 +71,8 @@ fn drawn_below<S: Store>(
     requires fit { HandsFit hands.old }
     requires is { case_of code.now.program.declared (label (node_at code.now node))
         ≡ case.Word runs breed (built.Act (act.Value (value.Draws which))) }
-    ensures drawn { IfSome result (λ number. IsDrawn code.now hands.new hands.old node 6 (PlainNumber number)) }
+    ensures drawn { IfSome result (λ number.
+        IsDrawn code.now hands.new hands.old node 6 (PlainNumber number)) }
     ensures draws { OnlyDraws hands.new hands.old }
     ensures stands { Stands hands.new hands.old }
 {
@@ -81,7 +82,7 @@ fn drawn_below<S: Store>(
     let Some(part) = one_part(code, node) else {
         return None;
     };
-    let Some(below) = number(alloc, code, hands, part) else {
+    let Some(below) = number(code, hands, part) else {
         return None;
     };
     draw_counted::<S, Brand>(alloc, Blank::new(1), which, below, &mut hands.stage)
@@ -100,7 +101,8 @@ fn drawn_spot<S: Store>(
     requires fit { HandsFit hands.old }
     requires is { case_of code.now.program.declared (label (node_at code.now node))
         ≡ case.Word runs breed (built.Act (act.Spot which)) }
-    ensures drawn { IfSome result (λ number. IsDrawn code.now hands.new hands.old node 0 (PlainNumber number)) }
+    ensures drawn { IfSome result (λ number.
+        IsDrawn code.now hands.new hands.old node 0 (PlainNumber number)) }
     ensures draws { OnlyDraws hands.new hands.old }
     ensures stands { Stands hands.new hands.old }
 {
@@ -117,7 +119,8 @@ fn drawn_spot<S: Store>(
 /// had, a draw that was made stays made.
 pub fn drawn<S: Store>(alloc: Global, code: &Code, hands: &mut Hands<S>, node: u32) -> Option<Num>
     requires fit { HandsFit hands.old }
-    ensures drawn { IfSome result (λ number. IsDrawn code.now hands.new hands.old node 6 (PlainNumber number)) }
+    ensures drawn { IfSome result (λ number.
+        IsDrawn code.now hands.new hands.old node 6 (PlainNumber number)) }
     ensures draws { OnlyDraws hands.new hands.old }
     ensures stands { Stands hands.new hands.old }
 {
@@ -132,6 +135,6 @@ pub fn drawn<S: Store>(alloc: Global, code: &Code, hands: &mut Hands<S>, node: u
             breed,
             word: Built::Act(Act::Spot(which)),
         } => drawn_spot(code, hands, node, runs, breed, which),
-        _ => number(alloc, code, hands, node),
+        _ => number(code, hands, node),
     }
 }

@@ -120,7 +120,6 @@ fn whole(many: usize) -> Num
 // How many members a set has, as a number.
 #[inline(never)]
 fn number_of_members<S: Store>(
-    alloc: Global,
     code: &Code,
     hands: &Hands<S>,
     node: u32,
@@ -140,7 +139,7 @@ fn number_of_members<S: Store>(
     let Some(part) = one_part(code, node) else {
         return None;
     };
-    match count(alloc, code, hands, part) {
+    match count(code, hands, part) {
         Some(many) => Some(whole(many)),
         None => None,
     }
@@ -148,7 +147,7 @@ fn number_of_members<S: Store>(
 
 // The number that the node of a word gives which counts members.
 #[inline(always)]
-fn count_of_word<S: Store>(alloc: Global, code: &Code, hands: &Hands<S>, node: u32) -> Option<Num>
+fn count_of_word<S: Store>(code: &Code, hands: &Hands<S>, node: u32) -> Option<Num>
     requires { HandsFit hands.now }
     ensures { IfSome result (λ number. IsHad code.now hands.now node 2 (PlainNumber number)) }
 {
@@ -157,14 +156,14 @@ fn count_of_word<S: Store>(alloc: Global, code: &Code, hands: &Hands<S>, node: u
             runs,
             breed,
             word: Built::Act(Act::Query(QueryWord::OfSet(OfSet::Count))),
-        } => number_of_members(alloc, code, hands, node, runs, breed),
+        } => number_of_members(code, hands, node, runs, breed),
         _ => None,
     }
 }
 
 // The number that a node gives which has no parts that give numbers: one that is written, that of a variable, or how many members a set
 // has.
-fn leaf<S: Store>(alloc: Global, code: &Code, hands: &Hands<S>, node: u32) -> Option<Num>
+fn leaf<S: Store>(code: &Code, hands: &Hands<S>, node: u32) -> Option<Num>
     requires { HandsFit hands.now }
     ensures { IfSome result (λ number. IsHad code.now hands.now node 2 (PlainNumber number)) }
 {
@@ -174,7 +173,7 @@ fn leaf<S: Store>(alloc: Global, code: &Code, hands: &Hands<S>, node: u32) -> Op
         Op::Global(slot) => number_in(global(hands, slot)),
         Op::Owned { runs, slot } => number_owned(hands, runs, slot),
         Op::Aside { runs, which } => number_apart(code, hands, code.span(node), runs, which),
-        _ => count_of_word(alloc, code, hands, node),
+        _ => count_of_word(code, hands, node),
     }
 }
 
@@ -267,61 +266,56 @@ pub(crate) fn inside_of(code: &Code, node: u32) -> Option<u32>
 }
 
 // The number of a leaf, of a word of two leaves, or of a leaf in parentheses.
-fn number_of_leaves<S: Store>(
-    alloc: Global,
-    code: &Code,
-    hands: &Hands<S>,
-    node: u32,
-) -> Option<Num>
+fn number_of_leaves<S: Store>(code: &Code, hands: &Hands<S>, node: u32) -> Option<Num>
     requires { HandsFit hands.now }
     ensures { IfSome result (λ number. IsHad code.now hands.now node 3 (PlainNumber number)) }
 {
     if let Some(word) = word_of_two(code, hands, node) {
         return of_both(
             word.which,
-            leaf(alloc, code, hands, word.left),
-            leaf(alloc, code, hands, word.right),
+            leaf(code, hands, word.left),
+            leaf(code, hands, word.right),
         );
     }
     match inside_of(code, node) {
-        Some(part) => leaf(alloc, code, hands, part),
-        None => leaf(alloc, code, hands, node),
+        Some(part) => leaf(code, hands, part),
+        None => leaf(code, hands, node),
     }
 }
 
 // The same of such numbers again.
-fn number_of_words<S: Store>(alloc: Global, code: &Code, hands: &Hands<S>, node: u32) -> Option<Num>
+fn number_of_words<S: Store>(code: &Code, hands: &Hands<S>, node: u32) -> Option<Num>
     requires { HandsFit hands.now }
     ensures { IfSome result (λ number. IsHad code.now hands.now node 4 (PlainNumber number)) }
 {
     if let Some(word) = word_of_two(code, hands, node) {
         return of_both(
             word.which,
-            number_of_leaves(alloc, code, hands, word.left),
-            number_of_leaves(alloc, code, hands, word.right),
+            number_of_leaves(code, hands, word.left),
+            number_of_leaves(code, hands, word.right),
         );
     }
     match inside_of(code, node) {
-        Some(part) => number_of_leaves(alloc, code, hands, part),
-        None => leaf(alloc, code, hands, node),
+        Some(part) => number_of_leaves(code, hands, part),
+        None => leaf(code, hands, node),
     }
 }
 
 /// The number that a node gives, where it is had at once: a number that is written, that of a variable, how many members a set has, or
 /// what words make of two such, at most three in each other, where parentheses count as a word.
-pub fn number<S: Store>(alloc: Global, code: &Code, hands: &Hands<S>, node: u32) -> Option<Num>
+pub fn number<S: Store>(code: &Code, hands: &Hands<S>, node: u32) -> Option<Num>
     requires { HandsFit hands.now }
     ensures { IfSome result (λ number. IsHad code.now hands.now node 5 (PlainNumber number)) }
 {
     if let Some(word) = word_of_two(code, hands, node) {
         return of_both(
             word.which,
-            number_of_words(alloc, code, hands, word.left),
-            number_of_words(alloc, code, hands, word.right),
+            number_of_words(code, hands, word.left),
+            number_of_words(code, hands, word.right),
         );
     }
     match inside_of(code, node) {
-        Some(part) => number_of_words(alloc, code, hands, part),
-        None => leaf(alloc, code, hands, node),
+        Some(part) => number_of_words(code, hands, part),
+        None => leaf(code, hands, node),
     }
 }

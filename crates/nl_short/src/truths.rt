@@ -89,12 +89,7 @@ fn word_that_compares<S: Store>(code: &Code, hands: &Hands<S>, node: u32) -> Opt
 }
 
 // Whether two numbers that are had at once compare so.
-fn compared_at_once<S: Store>(
-    alloc: Global,
-    code: &Code,
-    hands: &Hands<S>,
-    node: u32,
-) -> Option<bool>
+fn compared_at_once<S: Store>(code: &Code, hands: &Hands<S>, node: u32) -> Option<bool>
     requires { HandsFit hands.now }
     ensures { IfSome result (λ truth. IsHad code.now hands.now node 6 (PlainTruth truth)) }
 {
@@ -102,8 +97,8 @@ fn compared_at_once<S: Store>(
         return None;
     };
     match (
-        number(alloc, code, hands, word.left),
-        number(alloc, code, hands, word.right),
+        number(code, hands, word.left),
+        number(code, hands, word.right),
     ) {
         (Some(a), Some(b)) => Some(comparison(word.which, a, b)),
         _ => None,
@@ -115,7 +110,6 @@ fn compared_at_once<S: Store>(
 // Whether a set has members.
 #[inline(never)]
 fn has_members<S: Store>(
-    alloc: Global,
     code: &Code,
     hands: &Hands<S>,
     node: u32,
@@ -133,14 +127,14 @@ fn has_members<S: Store>(
     let Some(part) = one_part(code, node) else {
         return None;
     };
-    match count(alloc, code, hands, part) {
+    match count(code, hands, part) {
         Some(many) => Some(many != 0),
         None => None,
     }
 }
 
 // A comparison of two numbers, or whether a set has members.
-fn plain_truth<S: Store>(alloc: Global, code: &Code, hands: &Hands<S>, node: u32) -> Option<bool>
+fn plain_truth<S: Store>(code: &Code, hands: &Hands<S>, node: u32) -> Option<bool>
     requires { HandsFit hands.now }
     ensures { IfSome result (λ truth. IsHad code.now hands.now node 6 (PlainTruth truth)) }
 {
@@ -149,32 +143,26 @@ fn plain_truth<S: Store>(alloc: Global, code: &Code, hands: &Hands<S>, node: u32
             runs,
             breed,
             word: Built::Act(Act::Query(QueryWord::OfSet(OfSet::Any))),
-        } => has_members(alloc, code, hands, node, runs, breed),
-        _ => compared_at_once(alloc, code, hands, node),
+        } => has_members(code, hands, node, runs, breed),
+        _ => compared_at_once(code, hands, node),
     }
 }
 
 // The same, which may stand in parentheses.
-fn simple_truth<S: Store>(alloc: Global, code: &Code, hands: &Hands<S>, node: u32) -> Option<bool>
+fn simple_truth<S: Store>(code: &Code, hands: &Hands<S>, node: u32) -> Option<bool>
     requires { HandsFit hands.now }
     ensures { IfSome result (λ truth. IsHad code.now hands.now node 7 (PlainTruth truth)) }
 {
     match inside_of(code, node) {
-        Some(part) => plain_truth(alloc, code, hands, part),
-        None => plain_truth(alloc, code, hands, node),
+        Some(part) => plain_truth(code, hands, part),
+        None => plain_truth(code, hands, node),
     }
 }
 
 // ---- words of truths
 
 // What two truths give of which the right one isn't looked at where the left one decides.
-fn of_two_truths<S: Store>(
-    alloc: Global,
-    code: &Code,
-    hands: &Hands<S>,
-    node: u32,
-    decides: bool,
-) -> Option<bool>
+fn of_two_truths<S: Store>(code: &Code, hands: &Hands<S>, node: u32, decides: bool) -> Option<bool>
     requires fit { HandsFit hands.now }
     ensures { IfSome result (λ truth. (room n : ℕ) → 7 < room →
         let s = state_of code.now.names hands.now n in
@@ -184,7 +172,7 @@ fn of_two_truths<S: Store>(
     let Some(first) = code.part(node, 0) else {
         return None;
     };
-    let Some(left) = simple_truth(alloc, code, hands, first) else {
+    let Some(left) = simple_truth(code, hands, first) else {
         return None;
     };
     if left == decides {
@@ -193,12 +181,11 @@ fn of_two_truths<S: Store>(
     let Some(second) = code.part(node, 1) else {
         return None;
     };
-    simple_truth(alloc, code, hands, second)
+    simple_truth(code, hands, second)
 }
 
 // What `not` gives.
 fn negated<S: Store>(
-    alloc: Global,
     code: &Code,
     hands: &Hands<S>,
     node: u32,
@@ -216,14 +203,14 @@ fn negated<S: Store>(
     let Some(part) = one_part(code, node) else {
         return None;
     };
-    match simple_truth(alloc, code, hands, part) {
+    match simple_truth(code, hands, part) {
         Some(truth) => Some(!truth),
         None => None,
     }
 }
 
 // A simple truth, or what a word makes of such.
-fn truth_of_words<S: Store>(alloc: Global, code: &Code, hands: &Hands<S>, node: u32) -> Option<bool>
+fn truth_of_words<S: Store>(code: &Code, hands: &Hands<S>, node: u32) -> Option<bool>
     requires fit { HandsFit hands.now }
     ensures { IfSome result (λ truth. IsHad code.now hands.now node 8 (PlainTruth truth)) }
 {
@@ -234,7 +221,7 @@ fn truth_of_words<S: Store>(alloc: Global, code: &Code, hands: &Hands<S>, node: 
             ..
         } => {
             if may_run(hands, runs) {
-                of_two_truths(alloc, code, hands, node, false)
+                of_two_truths(code, hands, node, false)
             } else {
                 None
             }
@@ -245,7 +232,7 @@ fn truth_of_words<S: Store>(alloc: Global, code: &Code, hands: &Hands<S>, node: 
             ..
         } => {
             if may_run(hands, runs) {
-                of_two_truths(alloc, code, hands, node, true)
+                of_two_truths(code, hands, node, true)
             } else {
                 None
             }
@@ -254,20 +241,20 @@ fn truth_of_words<S: Store>(alloc: Global, code: &Code, hands: &Hands<S>, node: 
             runs,
             breed,
             word: Built::Act(Act::Value(ValueWord::Not)),
-        } => negated(alloc, code, hands, node, runs, breed),
-        _ => simple_truth(alloc, code, hands, node),
+        } => negated(code, hands, node, runs, breed),
+        _ => simple_truth(code, hands, node),
     }
 }
 
 /// The truth that a node gives, where it is had at once: a comparison of two numbers, whether a set has members, or what `and`, `or` and
 /// `not` make of such, where each may stand in parentheses.
-pub fn truth<S: Store>(alloc: Global, code: &Code, hands: &Hands<S>, node: u32) -> Option<bool>
+pub fn truth<S: Store>(code: &Code, hands: &Hands<S>, node: u32) -> Option<bool>
     requires { HandsFit hands.now }
     ensures { IfSome result (λ truth. IsHad code.now hands.now node 9 (PlainTruth truth)) }
 {
     match inside_of(code, node) {
-        Some(part) => truth_of_words(alloc, code, hands, part),
-        None => truth_of_words(alloc, code, hands, node),
+        Some(part) => truth_of_words(code, hands, part),
+        None => truth_of_words(code, hands, node),
     }
 }
 
@@ -323,6 +310,6 @@ pub fn truth_or_chance<S: Store>(
             breed,
             word: Built::Act(Act::Value(ValueWord::Compare(which))),
         } => compared_by_chance(alloc, code, hands, node, runs, breed, which),
-        _ => truth(alloc, code, hands, node),
+        _ => truth(code, hands, node),
     }
 }

@@ -16,7 +16,6 @@ use nl_frames::Hands;
 use nl_listops::ValueWord;
 use nl_query::words::{OfSet, QueryWord};
 use nl_value::Value;
-use std::alloc::Global;
 
 /// So many nodes at most stand in each other in a node whose value is had at once.
 pub const VALUE_NESTED: usize = 9;
@@ -44,16 +43,11 @@ impl ShortValue {
 
 // The truth that a node gives, where it is had at once, as a value.
 #[inline(always)]
-fn short_truth<S: Store>(
-    alloc: Global,
-    code: &Code,
-    hands: &Hands<S>,
-    node: u32,
-) -> Option<ShortValue>
+fn short_truth<S: Store>(code: &Code, hands: &Hands<S>, node: u32) -> Option<ShortValue>
     requires { HandsFit hands.now }
     ensures { IfSome result (λ short. IsHad code.now hands.now node value_nested (short_plain short)) }
 {
-    match truth(alloc, code, hands, node) {
+    match truth(code, hands, node) {
         Some(truth) => Some(ShortValue::Truth(truth)),
         None => None,
     }
@@ -61,16 +55,11 @@ fn short_truth<S: Store>(
 
 // The number that a node gives, where it is had at once, as a value.
 #[inline(always)]
-fn short_number<S: Store>(
-    alloc: Global,
-    code: &Code,
-    hands: &Hands<S>,
-    node: u32,
-) -> Option<ShortValue>
+fn short_number<S: Store>(code: &Code, hands: &Hands<S>, node: u32) -> Option<ShortValue>
     requires { HandsFit hands.now }
     ensures { IfSome result (λ short. IsHad code.now hands.now node value_nested (short_plain short)) }
 {
-    match number(alloc, code, hands, node) {
+    match number(code, hands, node) {
         Some(number) => Some(ShortValue::Number(number)),
         None => None,
     }
@@ -78,43 +67,33 @@ fn short_number<S: Store>(
 
 /// The truth or the number that a node gives, where it is had at once.
 #[inline(always)]
-pub fn short_value<S: Store>(
-    alloc: Global,
-    code: &Code,
-    hands: &Hands<S>,
-    node: u32,
-) -> Option<ShortValue>
+pub fn short_value<S: Store>(code: &Code, hands: &Hands<S>, node: u32) -> Option<ShortValue>
     requires { HandsFit hands.now }
     ensures { IfSome result (λ short. IsHad code.now hands.now node value_nested (short_plain short)) }
 {
-    match short_truth(alloc, code, hands, node) {
+    match short_truth(code, hands, node) {
         Some(short) => Some(short),
-        None => short_number(alloc, code, hands, node),
+        None => short_number(code, hands, node),
     }
 }
 
 /// The same of a word of numbers, a comparison, `not`, `count` and `any?`, and of what stands in parentheses. Any other node has no value here.
 #[inline(always)]
-pub fn value_of_word<S: Store>(
-    alloc: Global,
-    code: &Code,
-    hands: &Hands<S>,
-    node: u32,
-) -> Option<ShortValue>
+pub fn value_of_word<S: Store>(code: &Code, hands: &Hands<S>, node: u32) -> Option<ShortValue>
     requires { HandsFit hands.now }
     ensures { IfSome result (λ short. IsHad code.now hands.now node value_nested (short_plain short)) }
 {
     match code.op(node) {
-        Op::Inside => short_value(alloc, code, hands, node),
+        Op::Inside => short_value(code, hands, node),
         Op::Word {
             word: Built::Act(act),
             ..
         } => match act {
             Act::Value(ValueWord::OfNumbers(_)) | Act::Query(QueryWord::OfSet(OfSet::Count)) => {
-                short_number(alloc, code, hands, node)
+                short_number(code, hands, node)
             }
             Act::Value(ValueWord::Compare(_) | ValueWord::Not)
-            | Act::Query(QueryWord::OfSet(OfSet::Any)) => short_truth(alloc, code, hands, node),
+            | Act::Query(QueryWord::OfSet(OfSet::Any)) => short_truth(code, hands, node),
             _ => None,
         },
         _ => None,
