@@ -4,15 +4,14 @@ ghost use Rattle.nl_files.specs.Keys.{key_count, key_in, HasPlace, SameKeys, Set
 
 use indexmap::IndexMap;
 use nl_fixed::NoMemory;
-use nl_links::guesses::guessed;
+use nl_links::guesses::{Hints, guessed};
 use std::alloc::Global;
 
 /// The keys of the turtles, or of the links, that live.
 #[derive(Drop)]
 pub struct Keys {
     map: IndexMap<u64, usize>,
-    /// The serial that was put while there were no keys. It is only a hint of where an entry stands.
-    first: u64,
+    hints: Hints,
 }
 
 impl Keys {
@@ -23,7 +22,7 @@ impl Keys {
     {
         Keys {
             map: IndexMap::new(alloc),
-            first: 0,
+            hints: Hints::new(alloc),
         }
     }
 
@@ -38,13 +37,13 @@ impl Keys {
     pub(crate) fn get(&self, serial: u64) -> Option<usize>
         ensures { result ≡ key_in self.now serial }
     {
-        match guessed(&self.map, self.first, serial) {
-            Some(key) => Some(key),
+        match guessed(&self.map, self.hints.of(serial), serial) {
+            Some(key) => Some(*key),
             None => self.found(serial),
         }
     }
 
-    // The key of a serial, by its hash. It stands apart, so that where a guess suffices nothing is kept for it.
+    // The key of a serial, by its hash. It stands apart, so that where a hint suffices nothing is kept for it.
     #[inline(never)]
     fn found(&self, serial: u64) -> Option<usize>
         ensures { result ≡ key_in self.now serial }
@@ -59,7 +58,7 @@ impl Keys {
         ensures count { key_count self.new ≡ key_count self.old }
     {
         self.map.reserve(1)?;
-        Ok(())
+        self.hints.room(self.map.len() + 1)
     }
 
     /// Keeps the key of a serial that has none. It takes no memory.
@@ -69,9 +68,7 @@ impl Keys {
         ensures put { SetsKey self.old self.new serial (Some key) }
         ensures count { key_count self.new ≡ key_count self.old + 1 }
     {
-        if self.map.is_empty() {
-            self.first = serial;
-        }
+        self.hints.put(serial, self.map.len());
         let _ = self.map.insert(serial, key).unwrap();
     }
 
@@ -82,6 +79,10 @@ impl Keys {
         ensures taken { SetsKey self.old self.new serial None }
         ensures count { key_count self.new + 1 ≡ key_count self.old }
     {
-        self.map.swap_remove(&serial).unwrap()
+        let (index, _, key) = self.map.swap_remove_full(&serial).unwrap();
+        if let Some((moved, _)) = self.map.get_index(index) {
+            self.hints.put(*moved, index);
+        }
+        key
     }
 }

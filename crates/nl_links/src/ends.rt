@@ -9,7 +9,7 @@ ghost use Rattle.nl_index.specs.Index.{chain_of, first_of};
 ghost use Rattle.nl_links.specs.Sides.{sides_at, with_first, with_last, no_links, HoldsSame, SameSides, SetsSides};
 ghost use Rattle.nl_links.specs.Ends.{by_first, by_second, lists_joined, lists_parted, no_link_lists, HasEnds, Holds, IsEnded, IsFree, IsHeldBy, IsJoined, LinkLists, MayJoin, SameUnjoined};
 
-use crate::guesses::guessed;
+use crate::guesses::{Hints, guessed};
 use crate::joining::{link_last, unlink};
 use crate::sides::{Side, Sides};
 use indexmap::IndexMap;
@@ -25,8 +25,7 @@ use std::sync::ledger::{Blank, Ledger};
 #[derive(Drop)]
 pub struct Ends {
     map: IndexMap<u64, Sides>,
-    /// The turtle that was held while no other was. It is only a hint of where an entry stands.
-    first: u64,
+    hints: Hints,
 }
 
 /// The ends of a link.
@@ -77,7 +76,7 @@ impl Ends {
     {
         Ends {
             map: IndexMap::new(alloc),
-            first: 0,
+            hints: Hints::new(alloc),
         }
     }
 
@@ -155,9 +154,9 @@ impl Ends {
         ensures held { OnOk result (SetsSides (sides_at self.old) (sides_at self.new) turtle (Some no_links)) }
         ensures kept { OnErr result (SameSides (sides_at self.old) (sides_at self.new)) }
     {
-        if self.map.is_empty() {
-            self.first = turtle;
-        }
+        let index = self.map.len();
+        self.hints.room(index + 1)?;
+        self.hints.put(turtle, index);
         self.map.insert(turtle, Sides::empty())?;
         Ok(())
     }
@@ -165,7 +164,11 @@ impl Ends {
     fn let_go(&mut self, turtle: u64)
         ensures { SetsSides (sides_at self.old) (sides_at self.new) turtle None }
     {
-        let _ = self.map.swap_remove(&turtle);
+        if let Some((index, _, _)) = self.map.swap_remove_full(&turtle)
+            && let Some((moved, _)) = self.map.get_index(index)
+        {
+            self.hints.put(*moved, index);
+        }
     }
 
     /// The borders of a turtle's chains.
@@ -173,13 +176,13 @@ impl Ends {
         requires { IsSome (sides_at self.now turtle) }
         ensures { sides_at self.now turtle ≡ Some result }
     {
-        match guessed(&self.map, self.first, turtle) {
-            Some(sides) => sides,
+        match guessed(&self.map, self.hints.of(turtle), turtle) {
+            Some(sides) => *sides,
             None => self.found(turtle),
         }
     }
 
-    // The borders of a turtle's chains, by its hash. It stands apart, so that where a guess suffices nothing is kept for it.
+    // The borders of a turtle's chains, by its hash. It stands apart, so that where a hint suffices nothing is kept for it.
     #[inline(never)]
     fn found(&self, turtle: u64) -> Sides
         requires { IsSome (sides_at self.now turtle) }
