@@ -4,6 +4,7 @@ pub mod Counting
 pub mod Keeping
 pub mod Looking
 pub mod Numbers
+pub mod OneTarget
 pub mod Partners
 pub mod Setting
 pub mod Tied

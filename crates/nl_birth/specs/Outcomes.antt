@@ -21,6 +21,10 @@ pub data Outcome (X : Type 0) : Type 0 where
 abbrev pub outcome_of : {X : Type 0} → (ℕ → X) → (room first count : ℕ) → Outcome X
 outcome_of after room first count = if nat_le count room then Made (range_with_len first count) (after count) else Filled (after room)
 
+-- All were made, with some serials, and this is left.
+abbrev pub IsMade : {X : Type 0} → Outcome X → X → Type 0
+IsMade outcome now = (made : Serials) × (outcome ≡ Made made now)
+
 -- Memory was refused after some of them were made.
 pub record IsCutShort {X : Type 0} (after : ℕ → X) (most : ℕ) (now : X) : Type 0 where
   pub made : ℕ

@@ -10,5 +10,5 @@ pub mod way;
 
 pub use births::{create, hatch, sprout};
 pub use failing::BirthFail;
-pub use linking::link;
+pub use linking::{link, link_one};
 pub use way::Way;

@@ -2,7 +2,7 @@
 //!
 //! Links are made to the targets in ascending order. Where one more would not fit, those that were made before it stay, and so they do
 //! where memory is refused. Which links stand in the way is this project's own choice; what the words do is the NetLogo Dictionary's.
-ghost use Rattle.std.specs.Prelude.{◌≡◌, ◌==◌, ◌<◌, ◌≤◌, ℕ, false, length, min, All, IsTrue, IfOk};
+ghost use Rattle.std.specs.Prelude.{◌≡◌, ◌==◌, ◌&&◌, ◌<◌, ◌≤◌, ℕ, [], ◌∷◌, false, length, min, All, IsTrue, IfOk, OnOk, OnErr};
 ghost use Rattle.std.specs.List.{list_any};
 ghost use Rattle.std.specs.List.Sorted.{IsStrictlyIncreasing};
 ghost use Rattle.std.specs.Option.{option_and_then};
@@ -10,7 +10,7 @@ ghost use Rattle.nl_layout.specs.Layouts.{is_link_breed};
 ghost use Rattle.nl_agents.specs.Changes.{link_of, TurtleLives, LinkLives};
 ghost use Rattle.nl_agents.specs.Members.{is_listed};
 ghost use Rattle.nl_birth.specs.Links.{AreFree, wanted, is_of_other_kind, first_ties, links_made, link_room, linkings, linked, most_links};
-ghost use Rattle.nl_birth.specs.Outcomes.{IsOutcome};
+ghost use Rattle.nl_birth.specs.Outcomes.{IsMade, IsOutcome};
 ghost use Rattle.nl_birth.specs.Keeping.{Keeps};
 ghost use Rattle.nl_birth.specs.inner.Partners.{other_end, partner, ArePartners};
 
@@ -175,4 +175,46 @@ pub fn link<S: Store>(
         return Err(BirthFail::LinkFault);
     }
     tie_all(alloc, store, breed, way, caller, &wanted)
+}
+
+/// Whether a link of the breed may not be made, since it is of no breed and one of the other kind lives.
+fn is_barred<S: Store>(store: &S, breed: u32, directed: bool) -> bool
+    ensures { let links = (S.world store.now).rest.links in
+        result ≡ ((breed == 0) && list_any (is_of_other_kind directed) links) }
+{
+    breed == 0 && other_kind_lives(store, directed)
+}
+
+/// A link of a breed is made between the caller and the target, as `link` does it for one target. Where it is refused nothing is changed,
+/// also where memory is.
+pub fn link_one<S: Store>(
+    alloc: Global,
+    store: &mut S,
+    breed: u32,
+    way: Way,
+    caller: u64,
+    target: u64,
+) -> Result<(), BirthFail>
+    requires breed { IsTrue (is_link_breed (S.world store.old).rest.layout breed) }
+    requires caller { TurtleLives caller (S.world store.old) }
+    requires target { TurtleLives target (S.world store.old) }
+    ensures made { let w = S.world store.old in
+        OnOk result (IsMade (linked way breed caller (target ∷ []) w) (S.world store.new)) }
+    ensures kept { OnErr result (S.world store.new ≡ S.world store.old) }
+    ensures keeps { Keeps (S.world store.old) (S.world store.new) }
+{
+    if target == caller {
+        return Err(BirthFail::LinkFault);
+    }
+    let others = partners::<S, Brand>(alloc, Blank::new(1), store, way, breed, caller)?;
+    if others.contains(target) {
+        return Ok(());
+    }
+    let directed = way.has_direction();
+    if is_barred(store, breed, directed) {
+        return Err(BirthFail::LinkFault);
+    }
+    let (end1, end2) = way.ends(caller, target);
+    let _link = store.tie(alloc, breed, directed, end1, end2)?;
+    Ok(())
 }
