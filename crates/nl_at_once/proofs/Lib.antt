@@ -1,3 +1,4 @@
+mod OneLink
 mod Moves
 mod Owning
 mod Stepping

@@ -5,6 +5,7 @@
 #![tactic(auto)]
 
 pub mod answers;
+pub mod linking;
 pub mod moving;
 pub mod repeats;
 pub mod setting;

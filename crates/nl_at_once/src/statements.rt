@@ -4,6 +4,7 @@ ghost use Rattle.nl_layout.specs.Nouns.{BreedNumber};
 ghost use Rattle.nl_acts.specs.Acts.{is_gone};
 ghost use Rattle.nl_tree.specs.Tree.{label, parts, span};
 ghost use Rattle.nl_code.specs.declared.words.Built.TheVariants as built;
+ghost use Rattle.nl_code.specs.declared.words.Making.TheVariants as the_making;
 ghost use Rattle.nl_code.specs.Cases as case;
 ghost use Rattle.nl_code.specs.Cases.{case_of};
 ghost use Rattle.nl_code.specs.Code.{node_at};
@@ -16,12 +17,14 @@ ghost use Rattle.nl_frames.specs.Standing.{HandsFit};
 ghost use Rattle.nl_at_once.specs.AtOnce.{GoesOn, GoesUpTo, IsAsBefore, choosing, left_of, far_left};
 ghost use Rattle.nl_at_once.specs.declared.statements.TheConstants.{PLAIN_NESTED as plain_nested, MOST_NESTED as most_nested};
 
+use crate::linking::do_link;
 use crate::moving::do_move;
 use crate::setting::set_number;
 use crate::walking::walk;
 use nl_acts::Act;
 use nl_agents::Store;
-use nl_code::{Built, Code, Control, Op};
+use nl_birth::Way;
+use nl_code::{Built, Code, Control, Making, Op};
 use nl_frames::Hands;
 use nl_frames::ends::is_dead;
 use nl_short::draws::drawn;
@@ -65,6 +68,24 @@ fn set<S: Store>(alloc: Global, code: &Code, hands: &mut Hands<S>, node: u32) ->
     done
 }
 
+// Which way the links of no breed lead that a word makes with the turtles of a set.
+#[inline(always)]
+fn way_of(breed: Option<u32>, word: Built) -> Option<Way>
+    ensures breed { IfSome result (λ way. breed ≡ None) }
+    ensures word { IfSome result (λ way. word ≡ built.Making (the_making.Link way false)) }
+{
+    let None = breed else {
+        return None;
+    };
+    let Built::Making(making) = word else {
+        return None;
+    };
+    match making {
+        Making::Link { way, one: false } => Some(way),
+        _ => None,
+    }
+}
+
 // A statement is done that runs no block, where that is done at once; else nothing is changed. The unit of the statement itself is spent
 // before.
 #[inline(always)]
@@ -81,7 +102,7 @@ fn do_plain<S: Store>(
     ensures left { units.new ≤ units.old }
     ensures stands { Stands hands.new hands.old }
 {
-    let Op::Word { runs, word, .. } = code.op(node) else {
+    let Op::Word { runs, breed, word } = code.op(node) else {
         return false;
     };
     if !may_run(hands, runs) {
@@ -98,7 +119,10 @@ fn do_plain<S: Store>(
             Act::Move(which) => do_move(alloc, code, hands, node, runs, which),
             _ => false,
         },
-        _ => false,
+        word => match way_of(breed, word) {
+            Some(way) => do_link(alloc, code, hands, node, runs, way),
+            None => false,
+        },
     }
 }
 

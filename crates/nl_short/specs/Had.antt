@@ -1,16 +1,19 @@
 -- What is had at once: it is what the meaning of texts says of a node, wherever there is room for so many nodes in each other.
-use Rattle.std.specs.Prelude.{◌≡◌, ℕ, ◌<◌, Bool, true, false, not, List, [], length, filter, None, Ok}
+use Rattle.std.specs.Prelude.{◌≡◌, ℕ, ◌<◌, Bool, true, false, not, List, [], ◌∷◌, length, filter, None, Ok}
 use Rattle.nl_fixed.specs.Nouns.{Names}
 use Rattle.nl_value.specs.Plain.{Plain, PlainNumber, PlainSet, PlainTruth}
+use Rattle.nl_value.specs.Sets.{set_kind}
 use Rattle.nl_value.specs.declared.sets.AgentKind.{AgentKind}
+use Rattle.nl_value.specs.declared.sets.AgentKind.TheVariants as kind
 use Rattle.nl_value.specs.declared.sets.AgentSet.{AgentSet}
 use Rattle.nl_agents.specs.World.{World}
 use Rattle.nl_agents.specs.Members.{members_of}
 use Rattle.nl_agents.specs.declared.agents.Owner.{Owner}
 use Rattle.nl_agents.specs.declared.store.Store.{Ghosts}
-use Rattle.nl_query.specs.Agents.{listed}
+use Rattle.nl_query.specs.Agents.{listed, own_patch}
 use Rattle.nl_query.specs.declared.words.QueryWord.{QueryWord}
 use Rattle.nl_agentset.specs.Queries.{query_answer}
+use Rattle.nl_agentset.specs.Places.{turtles_on}
 use Rattle.nl_agentset.specs.Sets.{is_caller, others}
 use Rattle.nl_code.specs.Code.{Code, node_at}
 use Rattle.nl_tree.specs.Tree.{Node}
@@ -53,6 +56,18 @@ GivesCounted {G = g} c h node nested all but_own =
 abbrev pub GivesSoMany : {S : Type 0} {G : Ghosts S} → Code → Hands S G → ℕ → ℕ → ℕ → Type 0
 GivesSoMany {G = g} c h node nested many =
     (set : AgentSet) × IsHad c h node nested (PlainSet set) × (length (members_of (g.world h.stage.store).rest set) ≡ many)
+
+-- the node gives the turtles on the patch of the agent that runs, and changes nothing
+abbrev pub GivesHere : {S : Type 0} {G : Ghosts S} → Code → Hands S G → ℕ → ℕ → Type 0
+GivesHere {G = g} c h node nested =
+    let r = (g.world h.stage.store).rest in
+    IsHad c h node nested (PlainSet (listed kind.Turtle (turtles_on r None (own_patch r h.site.agent ∷ []))))
+
+-- the node gives a set of turtles with just this one living member, and changes nothing
+abbrev pub GivesOne : {S : Type 0} {G : Ghosts S} → Code → Hands S G → ℕ → ℕ → ℕ → Type 0
+GivesOne {G = g} c h node nested turtle =
+    (set : AgentSet) × IsHad c h node nested (PlainSet set) × (set_kind set ≡ kind.Turtle)
+    × (members_of (g.world h.stage.store).rest set ≡ turtle ∷ [])
 
 -- the node gives the value, and draws what it draws
 abbrev pub IsDrawn : {S : Type 0} {G : Ghosts S} → Code → (after before : Hands S G) → ℕ → ℕ → Plain → Type 0

@@ -1,5 +1,5 @@
 //! How many members a set has that a node gives, without the set being made.
-ghost use Rattle.std.specs.Prelude.{◌≡◌, ◌∷◌, [], None, filter, length, not, IfSome};
+ghost use Rattle.std.specs.Prelude.{◌≡◌, ◌==◌, ◌∷◌, [], None, true, filter, length, not, IfSome};
 ghost use Rattle.nl_value.specs.declared.sets.AgentKind.TheVariants as kind;
 ghost use Rattle.nl_tree.specs.Tree.{label};
 ghost use Rattle.nl_agents.specs.Changes.{OwnerLives, TurtleLives};
@@ -17,7 +17,7 @@ ghost use Rattle.nl_code.specs.Cases as case;
 ghost use Rattle.nl_code.specs.Cases.{case_of};
 ghost use Rattle.nl_code.specs.Code.{node_at};
 ghost use Rattle.nl_frames.specs.Standing.{HandsFit};
-ghost use Rattle.nl_short.specs.Had.{GivesCounted, GivesSoMany, TellsSet};
+ghost use Rattle.nl_short.specs.Had.{GivesCounted, GivesHere, GivesOne, GivesSoMany, TellsSet};
 
 use crate::numbers::one_part;
 use crate::running::lives_and_may_run;
@@ -27,7 +27,9 @@ use nl_code::{Built, Code, Op};
 use nl_frames::Hands;
 use nl_query::agents::own_patch;
 use nl_query::words::{OfSet, QueryWord, Side, Standing};
+use nl_value::Serials;
 use nl_words::Kinds;
+use std::alloc::Global;
 use std::marker::Brand;
 use std::sync::ledger::{Blank, Ledger};
 
@@ -203,4 +205,125 @@ pub fn count<S: Store>(code: &Code, hands: &Hands<S>, node: u32) -> Option<usize
             None => None,
         },
     }
+}
+
+// ---- the only member
+
+// The turtles on the patch of a living agent, ascending, which are read with this counter. None where memory is refused.
+fn turtles_listed<S: Store, L: Ledger>(
+    alloc: Global,
+    blank: Blank,
+    agent: Owner,
+    store: &S,
+) -> Option<Serials>
+    requires name { blank.name ≡ L.name }
+    requires parts { blank.parts ≡ L.parts }
+    requires some { blank.parts ≡ 1 }
+    requires lives { OwnerLives agent (S.world store.now) }
+    ensures { let r = (S.world store.now).rest in
+        IfSome result (λ turtles. turtles ≡ turtles_on r None (own_patch r agent ∷ [])) }
+{
+    let mut steps = Steps::<L>::new(blank);
+    let mut turtles = Serials::empty(alloc);
+    let patch = own_patch(agent, store);
+    match store.members_on(alloc, patch, &mut turtles, &mut steps) {
+        Ok(()) => Some(turtles),
+        Err(_) => None,
+    }
+}
+
+// The one of two numbers that isn't this one, where the other is.
+#[inline(always)]
+fn other_of_two(numbers: &[u64], own: u64) -> Option<u64>
+    ensures { IfSome result (λ other. filter (λ number. not (number == own)) numbers.now ≡ other ∷ []) }
+{
+    if numbers.len() != 2 {
+        return None;
+    }
+    let first = numbers[0];
+    let second = numbers[1];
+    if first == own && second != own {
+        Some(second)
+    } else if second == own && first != own {
+        Some(first)
+    } else {
+        None
+    }
+}
+
+// The other turtle on the patch of a living one, where there is just one other.
+#[inline(always)]
+fn other_here<S: Store>(alloc: Global, agent: Owner, store: &S) -> Option<u64>
+    requires { OwnerLives agent (S.world store.now) }
+    ensures { let r = (S.world store.now).rest in
+        let here = turtles_on r None (own_patch r agent ∷ []) in
+        IfSome result (λ other. filter (λ number. not (is_caller agent kind.Turtle number)) here ≡ other ∷ []) }
+{
+    let Owner::Turtle(turtle) = agent else {
+        return None;
+    };
+    if turtles_here(agent, store) != 2 {
+        return None;
+    }
+    let Some(here) = turtles_listed::<S, Brand>(alloc, Blank::new(1), agent, store) else {
+        return None;
+    };
+    other_of_two(here.as_slice(), turtle)
+}
+
+// Whether a node gives the turtles on the patch of the agent that runs.
+#[inline(always)]
+fn gives_here<S: Store>(code: &Code, hands: &Hands<S>, node: u32) -> bool
+    requires fit { HandsFit hands.now }
+    requires stands { IsWorld (S.world hands.now.stage.store) }
+    ensures { result ≡ true → GivesHere code.now hands.now node 0 }
+{
+    let Op::Word {
+        runs,
+        breed: None,
+        word: Built::Act(Act::Query(which)),
+    } = code.op(node)
+    else {
+        return false;
+    };
+    if code.count(node) != 0 || !lives_and_may_run(hands, runs) {
+        return false;
+    }
+    let QueryWord::Standing(place) = which else {
+        return false;
+    };
+    let Standing::Here = place else {
+        return false;
+    };
+    true
+}
+
+/// The only living member of the set that a node gives, where these are the turtles on the patch of the agent that runs but itself, and it
+/// is a turtle. None where that isn't so, or memory is refused.
+#[inline(never)]
+pub fn only_other<S: Store>(alloc: Global, code: &Code, hands: &Hands<S>, node: u32) -> Option<u64>
+    requires { HandsFit hands.now }
+    ensures gives { IfSome result (λ other. GivesOne code.now hands.now node 1 other) }
+    ensures lives { IfSome result (λ other. TurtleLives other (S.world hands.now.stage.store)) }
+{
+    let Op::Word {
+        runs,
+        breed,
+        word: Built::Act(Act::Query(QueryWord::OfSet(OfSet::Other))),
+    } = code.op(node)
+    else {
+        return None;
+    };
+    if !lives_and_may_run(hands, runs) {
+        return None;
+    }
+    let Some(part) = one_part(code, node) else {
+        return None;
+    };
+    // What the order of the turtles rests on.
+    let _stands = hands.stage.store.shape();
+    if !gives_here(code, hands, part) {
+        return None;
+    }
+    other_here(alloc, hands.site.agent, &hands.stage.store)
 }

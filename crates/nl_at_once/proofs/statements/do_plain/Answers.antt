@@ -1,12 +1,14 @@
 -- What each word does where it is done at once.
-use Rattle.std.proofs.Common.{◌+◌, refl, ap, ◌∙◌, sym, arith}
+use Rattle.std.proofs.Common.{◌+◌, false, Option, None, refl, ap, ap₂, ◌∙◌, sym, arith}
 use Rattle.nl_tree.specs.Tree.{span}
+use Rattle.nl_layout.specs.Nouns.{BreedNumber}
 use Rattle.nl_code.specs.Cases as case
 use Rattle.nl_code.specs.Code.{node_at}
 use Rattle.nl_acts.specs.declared.words.Act.{Act}
 use Rattle.nl_code.specs.declared.words.Control.{Control}
 use Rattle.nl_code.specs.declared.words.Built.{Built}
 use Rattle.nl_code.specs.declared.words.Built.TheVariants as built
+use Rattle.nl_code.specs.declared.words.Making.TheVariants as the_making
 use Rattle.nl_frames.specs.Seen.{state_of}
 use Rattle.nl_at_once.proofs.Controls.{word_goes_on}
 use Rattle.nl_at_once.proofs.statements.do_plain.Goals as goal
@@ -64,3 +66,18 @@ returns-in-Move-clause-done g c = λ done room n enough.
 
 pub returns-in-Move-clause-not : goal.returns-in-Move-clause-not
 returns-in-Move-clause-not g c = λ not. (c.do_move.ensures.not not, refl)
+
+pub returns-in-Some-clause-done : goal.returns-in-Some-clause-done
+returns-in-Some-clause-done g c = λ done room n enough.
+    let code = c.args.code.now in
+    let k = c.in-Word in
+    let way = c.in-Some.way in
+    word_goes_on code.program (node_at code c.args.node) k.runs None (built.Making (the_making.Link way false))
+    (state_of code.names c.args.hands.now (c.args.units.now + n)) (state_of code.names c.do_link.new.hands (c.args.units.now + n))
+    (ap₂ (λ (b : Option BreedNumber) (w : Built). case.Word k.runs b w) (sym c.in-Some.ensures.breed) (sym c.in-Some.ensures.word) ∙ k.ensures.op)
+    (λ next. c.if-not-may_run.ensures.allowed refl code (c.args.units.now + n) (span (node_at code c.args.node)) next)
+    (λ r inside. c.do_link.ensures.done done r (c.args.units.now + n) inside)
+    room enough
+
+pub returns-in-Some-clause-not : goal.returns-in-Some-clause-not
+returns-in-Some-clause-not g c = λ not. (c.do_link.ensures.not not, refl)
