@@ -2,7 +2,7 @@
 //!
 //! Numbers and coordinates are in tenths.
 
-use crate::making::{Act, Answer, Call, NONE, act, acted, go_on, links};
+use crate::making::{Act, Answer, Call, NONE, act, acted, go_on, links, links_one};
 use nl_agents::Store;
 use nl_birth::{BirthFail, Way};
 use nl_plain::Plain;
@@ -143,6 +143,9 @@ fn assert_web<S: Store>(rt: &impl Abort, alloc: Global) {
     assert!(rt; links_all(&mut tried, alloc, 0, Answer::Many(0, 199_999)));
     assert!(rt; links_all(&mut tried, alloc, 1, Answer::Many(199_999, 199_998)));
     assert!(rt; links_all(&mut tried, alloc, 2, TOO_MANY));
+    assert!(rt; tried.store.link_count() == 400_000);
+    assert!(rt; links_one(&mut tried, alloc, 0, Way::With, 10, 11, TOO_MANY));
+    assert!(rt; links_one(&mut tried, alloc, 0, Way::With, 1, 11, Answer::Done));
     assert!(rt; tried.store.link_count() == 400_000);
     // The three for which there was room.
     assert!(rt; tried.answers(alloc, Look::LinksOf(4, &[3, 200_001, 399_998])));

@@ -238,3 +238,52 @@ const WITH_ITSELF: &[Act] = &[
 fn a_link_of_a_turtle_with_itself_is_a_fault(rt: HostRuntime) {
     assert_acts(&rt, rt.alloc(), THREE, WITH_ITSELF);
 }
+
+// One link at a time: made, left where it is there already, and refused.
+const ONE_BY_ONE: &[Act] = &[
+    (
+        Call::LinkOne(0, Way::With, 1, 0),
+        Answer::Done,
+        &[Look::Links(&[0]), Look::Link(0, 0, false, 0, 1)],
+    ),
+    (
+        Call::LinkOne(0, Way::With, 0, 1),
+        Answer::Done,
+        &[Look::Links(&[0])],
+    ),
+    (
+        Call::LinkOne(0, Way::To, 0, 2),
+        LINK_FAULT,
+        &[Look::Links(&[0])],
+    ),
+    (
+        Call::LinkOne(0, Way::To, 0, 1),
+        LINK_FAULT,
+        &[Look::Links(&[0])],
+    ),
+    (
+        Call::LinkOne(ROPES, Way::With, 2, 2),
+        LINK_FAULT,
+        &[Look::Links(&[0])],
+    ),
+    (
+        Call::LinkOne(WIRES, Way::From, 0, 2),
+        Answer::Done,
+        &[Look::Links(&[0, 1]), Look::Link(1, WIRES, true, 2, 0)],
+    ),
+    (
+        Call::LinkOne(WIRES, Way::To, 0, 2),
+        Answer::Done,
+        &[Look::Links(&[0, 1, 2]), Look::Link(2, WIRES, true, 0, 2)],
+    ),
+    (
+        Call::LinkOne(WIRES, Way::To, 2, 0),
+        Answer::Done,
+        &[Look::Links(&[0, 1, 2]), Look::LinksOf(0, &[0, 1, 2])],
+    ),
+];
+
+#[test]
+fn a_link_to_one_other_is_made_or_nothing_is_changed(rt: HostRuntime) {
+    assert_acts(&rt, rt.alloc(), THREE, ONE_BY_ONE);
+}

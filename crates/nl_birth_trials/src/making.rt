@@ -5,7 +5,7 @@ ghost use Rattle.std.specs.Prelude.{All, IsTrue};
 ghost use Rattle.nl_agents.specs.Changes.{TurtleLives};
 
 use nl_agents::Store;
-use nl_birth::{BirthFail, Way, create, hatch, link, sprout};
+use nl_birth::{BirthFail, Way, create, hatch, link, link_one, sprout};
 use nl_draw::Stream;
 use nl_plain::Plain;
 use nl_store::Indexed;
@@ -27,6 +27,8 @@ pub(crate) enum Call {
     Hatch(u64, u32, i64),
     /// A turtle makes links of a breed with others.
     Link(u32, Way, u64, &'static [u64]),
+    /// A turtle makes a link of a breed with one other.
+    LinkOne(u32, Way, u64, u64),
 }
 
 /// What a call answers.
@@ -35,6 +37,8 @@ pub(crate) enum Answer {
     Made(&'static [u64]),
     /// So many, with the serials from the first one on.
     Many(u64, usize),
+    /// It is done, and no serials are told.
+    Done,
     Fails(BirthFail),
 }
 
@@ -60,7 +64,7 @@ fn are_made(serials: &Serials, wanted: Answer) -> bool {
     match wanted {
         Answer::Made(numbers) => serials.as_slice() == numbers,
         Answer::Many(first, count) => are_from(serials.as_slice(), first, count),
-        Answer::Fails(_) => false,
+        Answer::Done | Answer::Fails(_) => false,
     }
 }
 
@@ -178,6 +182,31 @@ pub(crate) fn links<S: Store>(
     is_answer(made, answer)
 }
 
+/// Whether a turtle makes a link of a breed with another one, and the call answers so.
+pub(crate) fn links_one<S: Store>(
+    tried: &mut Tried<S>,
+    alloc: Global,
+    breed: u32,
+    way: Way,
+    caller: u64,
+    other: u64,
+    answer: Answer,
+) -> bool {
+    if !tried.layout.is_link_breed(breed)
+        || !tried.store.turtle_lives(caller)
+        || !tried.store.turtle_lives(other)
+    {
+        return false;
+    }
+    match link_one(alloc, &mut tried.store, breed, way, caller, other) {
+        Ok(()) => match answer {
+            Answer::Done => true,
+            _ => false,
+        },
+        Err(fail) => is_fail(fail, answer),
+    }
+}
+
 /// Makes the call where its conditions hold. False where they don't, and where it answers otherwise.
 pub(crate) fn makes<S: Store>(
     tried: &mut Tried<S>,
@@ -196,6 +225,9 @@ pub(crate) fn makes<S: Store>(
         Call::Hatch(parent, breed, count) => hatches(tried, alloc, parent, breed, count, answer),
         Call::Link(breed, way, caller, others) => {
             links(tried, alloc, breed, way, caller, others, answer)
+        }
+        Call::LinkOne(breed, way, caller, other) => {
+            links_one(tried, alloc, breed, way, caller, other, answer)
         }
     }
 }

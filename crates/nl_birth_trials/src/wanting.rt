@@ -69,7 +69,12 @@ const TRIALS: &[Trial] = &[
         0,
         1,
     ),
+    (Call::LinkOne(ROPES, Way::With, 1, 0), Answer::Done, 0, 1),
+    (Call::LinkOne(WIRES, Way::To, 0, 1), Answer::Done, 0, 0),
 ];
+
+// One link is made, or nothing is changed.
+const ONE: &[Trial] = &[(Call::LinkOne(ROPES, Way::With, 1, 0), Answer::Done, 0, 1)];
 
 fn plays<S: Store>(tried: &mut Tried<S>, alloc: Global, steps: &[Step]) -> bool {
     for step in steps {
@@ -131,6 +136,27 @@ fn assert_kept<S: Store>(rt: &impl Abort, alloc: Global, trial: &Trial) {
     assert!(rt; are_first(&tried.store), "{call:?}");
     for look in ALWAYS {
         assert!(rt; tried.answers(alloc, *look), "{call:?}: {look:?}");
+    }
+}
+
+fn assert_one<S: Store>(rt: &impl Abort, alloc: Global, trial: &Trial) {
+    let Some(mut tried) = begun::<S>(alloc) else {
+        return;
+    };
+    let (call, answer, _, links) = *trial;
+    let done = makes(&mut tried, alloc, &mut Stream::new(42), call, answer);
+    let more = if done { links } else { 0 };
+    assert!(rt;
+        is_count(tried.store.link_count(), LINKS, more, true),
+        "{call:?}"
+    );
+}
+
+#[test]
+fn one_link_is_made_or_nothing_is_changed(rt: HostRuntime) {
+    for trial in ONE {
+        assert_one::<Plain>(&rt, rt.alloc(), trial);
+        assert_one::<Indexed>(&rt, rt.alloc(), trial);
     }
 }
 

@@ -376,3 +376,143 @@ fn draws_are_those_of_the_text(rt: HostRuntime) {
     let wrong = wrong_in(rt.alloc(), MODEL, BOX, DRAWS, FINE);
     assert!(rt; wrong.is_none(), "{wrong:?}");
 }
+
+// Links with the turtles of a set, of which there is none, one, or more.
+const LINKS: &[(u64, Row)] = &[
+    // One other: a link, and none more where one joins them.
+    (
+        999,
+        Row {
+            text: "cro 2 ask turtle 0 [ create-links-with other turtles-here create-links-with other turtles-here set a count my-links ] set b count links",
+            ends: Ends::Done,
+            spent: 7,
+            looks: &[(
+                "(list a b sum [[who] of end1] of links)",
+                Ends::Says("[1 1 0]"),
+            )],
+        },
+    ),
+    // The first end is the one that came first, whoever links.
+    (
+        999,
+        Row {
+            text: "cro 2 ask turtle 1 [ create-links-with other turtles-here ] set a count links",
+            ends: Ends::Done,
+            spent: 5,
+            looks: &[(
+                "(list a [who] of [end1] of one-of links [who] of [end2] of one-of links)",
+                Ends::Says("[1 0 1]"),
+            )],
+        },
+    ),
+    // No other, and more than one.
+    (
+        999,
+        Row {
+            text: "cro 1 ask turtle 0 [ create-links-with other turtles-here set a 1 ] cro 2 ask turtle 0 [ create-links-with other turtles-here set b 2 ] set c count links",
+            ends: Ends::Done,
+            spent: 11,
+            looks: &[("(list a b c)", Ends::Says("[1 2 2]"))],
+        },
+    ),
+    // One that has a direction, each way, and none the same way again.
+    (
+        999,
+        Row {
+            text: "cro 2 ask turtle 0 [ create-links-to other turtles-here ] set a count links ask turtle 1 [ create-links-from other turtles-here ] set b count links ask turtle 1 [ create-links-to other turtles-here ] set c count links",
+            ends: Ends::Done,
+            spent: 13,
+            looks: &[(
+                "(list a b c [[who] of end1] of link 0 1 [[who] of end1] of link 1 0)",
+                Ends::Says("[1 1 2 0 1]"),
+            )],
+        },
+    ),
+    // One without a direction where one with it lives.
+    (
+        999,
+        Row {
+            text: "cro 2 ask turtle 0 [ create-links-to other turtles-here ] set a 1 ask turtle 1 [ set b 1 create-links-with other turtles-here set c 1 ]",
+            ends: Ends::Fails(ErrorKind::LinkFault, 89, 0),
+            spent: 9,
+            looks: &[("(list a b c count links)", Ends::Says("[1 1 0 1]"))],
+        },
+    ),
+    // With a block, which the new link runs.
+    (
+        999,
+        Row {
+            text: "cro 2 ask turtle 0 [ create-links-with other turtles-here [ set a a + 1 ] set b 1 ] set c count links",
+            ends: Ends::Done,
+            spent: 8,
+            looks: &[("(list a b c)", Ends::Says("[1 1 1]"))],
+        },
+    ),
+    // The other is dead, or has gone.
+    (
+        999,
+        Row {
+            text: "cro 3 ask turtle 1 [ die ] ask turtle 2 [ fd 1 ] ask turtle 0 [ create-links-with other turtles-here set a 1 ] set b count links",
+            ends: Ends::Done,
+            spent: 13,
+            looks: &[("(list a b)", Ends::Says("[1 0]"))],
+        },
+    ),
+    // A dead turtle leaves, and a patch may not run the word.
+    (
+        999,
+        Row {
+            text: "cro 2 ask turtle 0 [ set a 1 die create-links-with other turtles-here set a 2 ] set b count links",
+            ends: Ends::Done,
+            spent: 6,
+            looks: &[("(list a b)", Ends::Says("[1 0]"))],
+        },
+    ),
+    (
+        999,
+        Row {
+            text: "set g patch 0 0 ask g [ set a 1 create-links-with other turtles-here ]",
+            ends: Ends::Fails(ErrorKind::WrongContext, 32, 0),
+            spent: 5,
+            looks: &[("(list a count links)", Ends::Says("[1 0]"))],
+        },
+    ),
+    // In blocks that are chosen, in turn.
+    (
+        999,
+        Row {
+            text: "cro 6 ask turtles [ if who > 1 [ set heading 90 * (who mod 2) fd 1 ] ] ask turtles [ if any? other turtles-here [ create-links-with other turtles-here set c c + 1 ] if count my-links > 0 [ set t count my-links rt 180 fd 1 if any? other turtles-here [ create-links-with other turtles-here ] ] if count my-links > 2 [ die ] ] set a count links set b count turtles",
+            ends: Ends::Done,
+            spent: 91,
+            looks: &[(
+                "(list a b c sum [t] of turtles sum [who] of turtles)",
+                Ends::Says("[1 4 4 3 10]"),
+            )],
+        },
+    ),
+    // Units end before a link, and behind it.
+    (
+        4,
+        Row {
+            text: "cro 2 ask turtle 0 [ set a 1 create-links-with other turtles-here set b 1 ]",
+            ends: Ends::Budget,
+            spent: 4,
+            looks: &[("(list a b count links)", Ends::Says("[1 0 0]"))],
+        },
+    ),
+    (
+        5,
+        Row {
+            text: "cro 2 ask turtle 0 [ set a 1 create-links-with other turtles-here set b 1 ]",
+            ends: Ends::Budget,
+            spent: 5,
+            looks: &[("(list a b count links)", Ends::Says("[1 0 1]"))],
+        },
+    ),
+];
+
+#[test]
+fn links_with_the_others_here_are_as_told(rt: HostRuntime) {
+    let wrong = wrong_with(rt.alloc(), MODEL, BOX, LINKS, FINE);
+    assert!(rt; wrong.is_none(), "{wrong:?}");
+}
