@@ -13,7 +13,7 @@ use crate::homes::homes_at;
 use crate::row::{link_in, move_last, unlink_from};
 use nl_fixed::NoMemory;
 use nl_grid::{Point, Shape};
-use nl_records::{Body, Border, Records};
+use nl_records::{Body, PackedBorder, Records};
 use std::alloc::Global;
 
 /// Which chain: of all turtles or all links, in order of birth; of the turtles on a patch or of a breed, in the order in which they came.
@@ -29,21 +29,17 @@ pub enum Chain {
 #[derive(Drop)]
 pub struct Chains {
     shape: Shape,
-    births: Vec<Border>,
-    patches: Vec<Border>,
-    breeds: Vec<Border>,
+    births: Vec<PackedBorder>,
+    patches: Vec<PackedBorder>,
+    breeds: Vec<PackedBorder>,
 }
 
 /// So many empty chains.
-fn empty_row(alloc: Global, number: u32) -> Result<Vec<Border>, NoMemory>
+fn empty_row(alloc: Global, number: u32) -> Result<Vec<PackedBorder>, NoMemory>
     ensures len { IfOk result (λ row. length row.items ≡ number) }
     ensures empty { IfOk result (λ row. (n : ℕ) → borders_in row.items n ≡ no_keys) }
 {
-    let none = Border {
-        first: None,
-        last: None,
-    };
-    Ok(vec![in alloc; none; number as usize]?)
+    Ok(vec![in alloc; PackedBorder::none(); number as usize]?)
 }
 
 /// The patch under a point.
@@ -80,10 +76,10 @@ impl Chains {
             IsIndex self.now at filed lists → result ≡ first_of (keys_of chain lists) }
     {
         match chain {
-            Chain::Turtles => self.births[0].first,
-            Chain::Links => self.births[1].first,
-            Chain::Patch(patch) => self.patches[patch as usize].first,
-            Chain::Breed(breed) => self.breeds[breed as usize].first,
+            Chain::Turtles => self.births[0].first(),
+            Chain::Links => self.births[1].first(),
+            Chain::Patch(patch) => self.patches[patch as usize].first(),
+            Chain::Breed(breed) => self.breeds[breed as usize].first(),
         }
     }
 

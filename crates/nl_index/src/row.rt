@@ -1,40 +1,43 @@
 //! Rows of chains of one kind.
 ghost use Rattle.std.specs.Prelude.{◌≡◌, ◌<◌, ◌==◌, ℕ, List, Option, length, if◌then◌else◌, Some, None, IsSome, IfSome};
 ghost use Rattle.nl_threads.specs.Threads.{at_number};
+ghost use Rattle.nl_records.specs.Packed.{IsSmall};
 ghost use Rattle.nl_records.specs.Records.{record_at};
 ghost use Rattle.nl_records.specs.Filed.{after, before, IsFiled, IsHeld, KeepsOthers, Redirects, Stays};
 ghost use Rattle.nl_index.specs.Rows.{borders_in, put_in, take_from, IsIn};
 
-use nl_records::{Border, Records, place_at, set_next, set_place, set_previous};
+use nl_records::{PackedBorder, Records, place_at, set_next, set_place, set_previous};
 
-fn last_of(row: &Vec<Border>, number: usize) -> Option<usize>
+fn last_of(row: &Vec<PackedBorder>, number: usize) -> Option<usize>
     requires { number < length row.now.items }
     ensures { result ≡ (borders_in row.now.items number).last }
 {
-    row[number].last
+    row[number].last()
 }
 
-fn set_first(row: &mut Vec<Border>, number: usize, to: Option<usize>)
-    requires { number < length row.old.items }
+fn set_first(row: &mut Vec<PackedBorder>, number: usize, to: Option<usize>)
+    requires number { number < length row.old.items }
+    requires small { IsSmall to }
     ensures first { (n : ℕ) → borders_in row.new.items n
         ≡ (if n == number then record { first = to; last = (borders_in row.old.items n).last } else borders_in row.old.items n) }
     ensures length { length row.new.items ≡ length row.old.items }
 {
-    row[number].first = to;
+    row[number].set_first(to);
 }
 
-fn set_last(row: &mut Vec<Border>, number: usize, to: Option<usize>)
-    requires { number < length row.old.items }
+fn set_last(row: &mut Vec<PackedBorder>, number: usize, to: Option<usize>)
+    requires number { number < length row.old.items }
+    requires small { IsSmall to }
     ensures last { (n : ℕ) → borders_in row.new.items n
         ≡ (if n == number then record { first = (borders_in row.old.items n).first; last = to } else borders_in row.old.items n) }
     ensures length { length row.new.items ≡ length row.old.items }
 {
-    row[number].last = to;
+    row[number].set_last(to);
 }
 
 /// What stands after a place of a chain is this.
 fn set_after(
-    row: &mut Vec<Border>,
+    row: &mut Vec<PackedBorder>,
     records: &mut Records,
     chain: u8,
     number: usize,
@@ -54,6 +57,8 @@ fn set_after(
     ensures others { KeepsOthers chain (record_at records.old) (record_at records.new) }
     ensures length { length row.new.items ≡ length row.old.items }
 {
+    // Every key that is held is small.
+    records.keys_are_small();
     match place {
         None => set_first(row, number, to),
         Some(key) => set_next(records, chain, key, to),
@@ -62,7 +67,7 @@ fn set_after(
 
 /// What stands before a place of a chain is this.
 fn set_before(
-    row: &mut Vec<Border>,
+    row: &mut Vec<PackedBorder>,
     records: &mut Records,
     chain: u8,
     number: usize,
@@ -82,6 +87,8 @@ fn set_before(
     ensures others { KeepsOthers chain (record_at records.old) (record_at records.new) }
     ensures length { length row.new.items ≡ length row.old.items }
 {
+    // Every key that is held is small.
+    records.keys_are_small();
     match place {
         None => set_last(row, number, to),
         Some(key) => set_previous(records, chain, key, to),
@@ -89,7 +96,13 @@ fn set_before(
 }
 
 /// Makes the key the last of a chain.
-fn link_last(row: &mut Vec<Border>, records: &mut Records, chain: u8, number: usize, key: usize)
+fn link_last(
+    row: &mut Vec<PackedBorder>,
+    records: &mut Records,
+    chain: u8,
+    number: usize,
+    key: usize,
+)
     requires number { number < length row.old.items }
     requires chain { chain < 5 }
     requires held { IsSome (record_at records.old key) }
@@ -102,13 +115,15 @@ fn link_last(row: &mut Vec<Border>, records: &mut Records, chain: u8, number: us
     ensures length { length row.new.items ≡ length row.old.items }
 {
     let last = last_of(row, number);
+    // Every key that is held is small.
+    records.keys_are_small();
     set_place(records, chain, key, last, None);
     set_after(row, records, chain, number, last, Some(key));
     set_last(row, number, Some(key));
 }
 
 /// Takes the key out of its chain.
-fn unlink(row: &mut Vec<Border>, records: &mut Records, chain: u8, number: usize, key: usize)
+fn unlink(row: &mut Vec<PackedBorder>, records: &mut Records, chain: u8, number: usize, key: usize)
     requires number { number < length row.old.items }
     requires chain { chain < 5 }
     requires listed { IsIn chain row.old.items (record_at records.old) (Some number) key }
@@ -126,7 +141,7 @@ fn unlink(row: &mut Vec<Border>, records: &mut Records, chain: u8, number: usize
 
 /// Makes the key the last of a chain, where it has one.
 pub(crate) fn link_in(
-    row: &mut Vec<Border>,
+    row: &mut Vec<PackedBorder>,
     records: &mut Records,
     chain: u8,
     number: Option<usize>,
@@ -151,7 +166,7 @@ pub(crate) fn link_in(
 
 /// Takes the key out of its chain, where it has one.
 pub(crate) fn unlink_from(
-    row: &mut Vec<Border>,
+    row: &mut Vec<PackedBorder>,
     records: &mut Records,
     chain: u8,
     number: Option<usize>,
@@ -175,7 +190,7 @@ pub(crate) fn unlink_from(
 
 /// Takes the key out of its chain, where it has one, and makes it the last of another one, or of the same.
 pub(crate) fn move_last(
-    row: &mut Vec<Border>,
+    row: &mut Vec<PackedBorder>,
     records: &mut Records,
     chain: u8,
     from: Option<usize>,

@@ -6,6 +6,7 @@ ghost use Rattle.nl_records.specs.Records.{record_at};
 use nl_agents::{Steps, Variables};
 use nl_fixed::Num;
 use nl_grid::Point;
+use nl_records::PackedBorder;
 use nl_records::fields::{Body, Fields};
 use nl_records::record::Record;
 use nl_records::records::Records;
@@ -238,6 +239,21 @@ fn the_least_and_the_greatest_key_are_told_as_they_were_set(rt: HostRuntime) -> 
     places[4] = (Some(4_294_967_294), Some(0));
     assert_eq!(rt; told.places, places);
     Ok(())
+}
+
+#[test]
+fn a_border_keeps_the_least_and_the_greatest_key(rt: HostRuntime) {
+    let mut border = PackedBorder::none();
+    assert_eq!(rt; (border.first(), border.last()), (None, None));
+    border.set_first(Some(4_294_967_294));
+    border.set_last(Some(0));
+    assert_eq!(rt;
+        (border.first(), border.last()),
+        (Some(4_294_967_294), Some(0))
+    );
+    border.set_first(None);
+    let keys = border.border();
+    assert_eq!(rt; (keys.first, keys.last), (None, Some(0)));
 }
 
 /// The serial of the fields that were handed back, and what the record tells after they were set, and after it was settled.

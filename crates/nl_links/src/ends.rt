@@ -2,6 +2,7 @@
 ghost use Rattle.std.specs.Prelude.{◌≡◌, ◌==◌, ℕ, Bool, true, false, [], Option, Some, None, IsSome, IsSomeAnd, OnOk, OnErr};
 ghost use Rattle.std.specs.Option.{option_map};
 ghost use Rattle.nl_threads.specs.Threads.{at_number};
+ghost use Rattle.nl_records.specs.Packed.{IsSmall};
 ghost use Rattle.nl_records.specs.Records.{record_at, fields_at};
 ghost use Rattle.nl_records.specs.declared.fields.Fields.{Fields};
 ghost use Rattle.nl_records.specs.declared.record.Record.{Record};
@@ -113,7 +114,7 @@ impl Ends {
             IsEnded self.now at filed lists → result.1 ≡ first_of (lists.second turtle) }
     {
         let sides = self.sides(turtle);
-        (sides.first.first, sides.second.first)
+        (sides.first.first(), sides.second.first())
     }
 
     /// Makes a link the last of the chains of both of its ends, which are held. It takes no memory, and the same time however many links
@@ -192,7 +193,8 @@ impl Ends {
     }
 
     pub(crate) fn set_first(&mut self, side: Side, turtle: u64, to: Option<usize>)
-        requires { IsSome (sides_at self.old turtle) }
+        requires held { IsSome (sides_at self.old turtle) }
+        requires small { IsSmall to }
         ensures { let changed = option_map (with_first side to) (sides_at self.old turtle) in
             SetsSides (sides_at self.old) (sides_at self.new) turtle changed }
     {
@@ -202,7 +204,8 @@ impl Ends {
     }
 
     pub(crate) fn set_last(&mut self, side: Side, turtle: u64, to: Option<usize>)
-        requires { IsSome (sides_at self.old turtle) }
+        requires held { IsSome (sides_at self.old turtle) }
+        requires small { IsSmall to }
         ensures { let changed = option_map (with_last side to) (sides_at self.old turtle) in
             SetsSides (sides_at self.old) (sides_at self.new) turtle changed }
     {

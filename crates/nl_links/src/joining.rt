@@ -39,6 +39,8 @@ fn set_after(
     ensures others { KeepsOthers (kind_of side) (record_at records.old) (record_at records.new) }
     ensures beside { KeepsBeside side ends.old ends.new }
 {
+    // Every key that is held is small.
+    records.keys_are_small();
     match place {
         None => ends.set_first(side, turtle, to),
         Some(key) => set_next(records, side.kind(), key, to),
@@ -66,6 +68,8 @@ fn set_before(
     ensures others { KeepsOthers (kind_of side) (record_at records.old) (record_at records.new) }
     ensures beside { KeepsBeside side ends.old ends.new }
 {
+    // Every key that is held is small.
+    records.keys_are_small();
     match place {
         None => ends.set_last(side, turtle, to),
         Some(key) => set_previous(records, side.kind(), key, to),
@@ -85,6 +89,8 @@ pub(crate) fn link_last(ends: &mut Ends, records: &mut Records, side: Side, turt
     ensures beside { KeepsBeside side ends.old ends.new }
 {
     let last = last_of(ends, side, turtle);
+    // Every key that is held is small.
+    records.keys_are_small();
     set_place(records, side.kind(), key, last, None);
     set_after(ends, records, side, turtle, last, Some(key));
     ends.set_last(side, turtle, Some(key));

@@ -1,8 +1,9 @@
 //! Where the chains of a turtle's links begin and end.
 ghost use Rattle.std.specs.Prelude.{◌≡◌, ◌<◌};
+ghost use Rattle.nl_records.specs.Packed.{IsSmall};
 ghost use Rattle.nl_links.specs.Sides.{border_of, kind_of, with_first, with_last, no_links};
 
-use nl_records::Border;
+use nl_records::{Border, PackedBorder};
 
 /// By which end of a link.
 #[derive(Clone, Copy, PartialEq, Debug)]
@@ -12,10 +13,10 @@ pub enum Side {
 }
 
 /// The borders of a turtle's two chains: of the links that have it as first end, and of those that have it as second end.
-#[derive(Clone, Copy, Debug)]
+#[derive(Clone, Copy)]
 pub struct Sides {
-    pub first: Border,
-    pub second: Border,
+    pub first: PackedBorder,
+    pub second: PackedBorder,
 }
 
 impl Side {
@@ -36,13 +37,9 @@ impl Sides {
     pub(crate) fn empty() -> Sides
         ensures { result ≡ no_links }
     {
-        let none = Border {
-            first: None,
-            last: None,
-        };
         Sides {
-            first: none,
-            second: none,
+            first: PackedBorder::none(),
+            second: PackedBorder::none(),
         }
     }
 
@@ -51,26 +48,28 @@ impl Sides {
         ensures { result ≡ border_of side self.now }
     {
         match side {
-            Side::First => self.first,
-            Side::Second => self.second,
+            Side::First => self.first.border(),
+            Side::Second => self.second.border(),
         }
     }
 
     pub(crate) fn set_first(&mut self, side: Side, to: Option<usize>)
+        requires { IsSmall to }
         ensures { self.new ≡ with_first side to self.old }
     {
         match side {
-            Side::First => self.first.first = to,
-            Side::Second => self.second.first = to,
+            Side::First => self.first.set_first(to),
+            Side::Second => self.second.set_first(to),
         }
     }
 
     pub(crate) fn set_last(&mut self, side: Side, to: Option<usize>)
+        requires { IsSmall to }
         ensures { self.new ≡ with_last side to self.old }
     {
         match side {
-            Side::First => self.first.last = to,
-            Side::Second => self.second.last = to,
+            Side::First => self.first.set_last(to),
+            Side::Second => self.second.set_last(to),
         }
     }
 }

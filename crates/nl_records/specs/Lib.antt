@@ -1,3 +1,4 @@
 pub mod Filed
 pub mod Packed
 pub mod Records
+pub mod inner

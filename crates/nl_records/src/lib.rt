@@ -2,12 +2,13 @@
 #![tactic(auto)]
 
 pub mod fields;
-mod packed;
+pub mod packed;
 pub mod places;
 pub mod record;
 pub mod records;
 
 pub use fields::{Body, Fields};
+pub use packed::PackedBorder;
 pub use places::{Border, place_at, set_next, set_place, set_previous};
 pub use record::{Place, Record};
 pub use records::Records;

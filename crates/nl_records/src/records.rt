@@ -50,7 +50,8 @@ impl Records {
     }
 
     /// A law: a key that is held may be kept in a place.
-    pub(crate) fn keys_are_small(&self)
+    #[inline(always)]
+    pub fn keys_are_small(&self)
         ensures { AreSmall (record_at self.now) }
     {
         let _ = &self.slab;

@@ -20,8 +20,8 @@ set_after-requires-clause-held c =
     let p = subst (IsPlace o.home c.args.turtle) (sym c.last_of-last.ensures) (o.filed.threaded.back.stays c.args.turtle None tt) in
     IsHeld-kept c.kind.result _ _ _ c.set_place.ensures.others (place-held _ _ _ _ _ c.args.turtle _ o.filed p)
 
-pub set_last-requires : goal.set_last-requires
-set_last-requires c = c.set_after.ensures.beside.held c.args.turtle ∙ c.requires.turtle
+pub set_last-requires-clause-held : goal.set_last-requires-clause-held
+set_last-requires-clause-held c = c.set_after.ensures.beside.held c.args.turtle ∙ c.requires.turtle
 
 pub returns-clause-filed : goal.returns-clause-filed
 returns-clause-filed c home lists d none =

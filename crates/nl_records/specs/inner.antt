@@ -1,0 +1,2 @@
+-- What proofs need and no caller reads. A change here changes no meaning.
+pub mod Packing
