@@ -3,6 +3,7 @@ use Rattle.std.proofs.Common.{◌≡◌, ◌≢◌, ℕ, Bool, true, false, List
 use mathlib.Core.Path.{fun_ext}
 use Rattle.nl_threads.specs.Threads.{has, IsPlace, IsWalk}
 use Rattle.nl_threads.proofs.Threaded.{listed}
+use Rattle.nl_threads.proofs.Threaded.{no_keys as none_threaded}
 use Rattle.nl_records.specs.Records.{fields_at}
 use Rattle.nl_records.specs.Filed.{after, before, no_keys, IsFiled}
 use Rattle.nl_records.specs.declared.fields.Body.{Body}
@@ -25,6 +26,12 @@ pub filed-borders : (chain : ℕ) (old new : ℕ → Border) (at : ℕ → Optio
 filed-borders chain old new at home lists same d = subst (λ b. IsFiled chain b at home lists) (fun_ext (λ t. sym (same t))) d
 
 -- ---- chains that are empty, and first keys
+
+pub none-filed : (chain : ℕ) (borders : ℕ → Border) (at : ℕ → Option Record) → ((n : ℕ) → borders n ≡ no_keys) → IsFiled chain borders at (λ _. None) (λ _. [])
+none-filed chain borders at none = record {
+  threaded = none_threaded (λ _. None) (after chain borders at) (before chain borders at) (λ _. refl) (λ n. ap (λ b. b.first) (none n)) (λ n. ap (λ b. b.last) (none n));
+  held = λ key number e. absurd (cc);
+}
 
 pub first-key : (chain : ℕ) (borders : ℕ → Border) (at : ℕ → Option Record) (home : ℕ → Option ℕ) (lists : ℕ → List ℕ) (n : ℕ) → IsFiled chain borders at home lists → (borders n).first ≡ first_of (lists n)
 first-key chain borders at home lists n d = go (lists n) (d.threaded.walk n)

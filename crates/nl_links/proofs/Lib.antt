@@ -1,4 +1,5 @@
 pub mod Borders
+pub mod Doubled
 pub mod Filters
 pub mod Holding
 pub mod Joins

@@ -1,3 +1,4 @@
 pub mod Ends
+pub mod Hints
 pub mod Laws
 pub mod Sides
