@@ -38,6 +38,13 @@ IsOutcome outcome after most (Err TooMany) now = outcome ≡ Filled now
 IsOutcome outcome after most (Err LinkFault) now = outcome ≡ Refused now
 IsOutcome outcome after most (Err NoMemory) now = IsCutShort after most now
 
+-- A call that makes one at the most, and gives no serials, and came to this outcome. What it leaves where memory is refused is said beside.
+abbrev pub IsOutcomeOfOne : {X : Type 0} → Outcome X → Result (Unit {0}) BirthFail → X → Type 0
+IsOutcomeOfOne outcome (Ok _) now = IsMade outcome now
+IsOutcomeOfOne outcome (Err TooMany) now = outcome ≡ Filled now
+IsOutcomeOfOne outcome (Err LinkFault) now = outcome ≡ Refused now
+IsOutcomeOfOne outcome (Err NoMemory) now = Unit {0}
+
 -- ---- refusals of a store
 
 abbrev pub fail_of_bear : BearFail → BirthFail

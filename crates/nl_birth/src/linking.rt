@@ -10,7 +10,7 @@ ghost use Rattle.nl_layout.specs.Layouts.{is_link_breed};
 ghost use Rattle.nl_agents.specs.Changes.{link_of, TurtleLives, LinkLives};
 ghost use Rattle.nl_agents.specs.Members.{is_listed};
 ghost use Rattle.nl_birth.specs.Links.{AreFree, wanted, is_of_other_kind, first_ties, links_made, link_room, linkings, linked, most_links};
-ghost use Rattle.nl_birth.specs.Outcomes.{IsMade, IsOutcome};
+ghost use Rattle.nl_birth.specs.Outcomes.{IsOutcome, IsOutcomeOfOne};
 ghost use Rattle.nl_birth.specs.Keeping.{Keeps};
 ghost use Rattle.nl_birth.specs.inner.Partners.{other_end, partner, ArePartners};
 
@@ -198,8 +198,8 @@ pub fn link_one<S: Store>(
     requires breed { IsTrue (is_link_breed (S.world store.old).rest.layout breed) }
     requires caller { TurtleLives caller (S.world store.old) }
     requires target { TurtleLives target (S.world store.old) }
-    ensures made { let w = S.world store.old in
-        OnOk result (IsMade (linked way breed caller (target ∷ []) w) (S.world store.new)) }
+    ensures outcome { let w = S.world store.old in
+        IsOutcomeOfOne (linked way breed caller (target ∷ []) w) result (S.world store.new) }
     ensures kept { OnErr result (S.world store.new ≡ S.world store.old) }
     ensures keeps { Keeps (S.world store.old) (S.world store.new) }
 {

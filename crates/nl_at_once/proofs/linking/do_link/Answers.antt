@@ -21,4 +21,4 @@ returns-in-Ok-clause-done g c = λ _ room n some.
     link_goes_on before v (with_world v (state_of code.names before n)) code.names n (evaluator code.program room) t x c.args.runs c.args.way c.in-Turtle.caller one.target set
     (only_part (parts t) x (sym c.count.ensures ∙ c.if-count-ne1.false) c.in-Some.ensures.rest)
     (had room n (omega (arith, some))) (λ next. c.if-not-lives_and_may_run.ensures.stays refl code n next)
-    c.in-Turtle.is kind_is members c.in-Ok.ensures.made c.link_one.ensures.keeps refl
+    c.in-Turtle.is kind_is members c.in-Ok.ensures.outcome c.link_one.ensures.keeps refl
