@@ -8,4 +8,6 @@ mod tests;
 pub use filing::Filing;
 
 #[cfg(test)]
+mod hints;
+#[cfg(test)]
 mod records;
