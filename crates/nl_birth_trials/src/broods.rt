@@ -2,18 +2,21 @@
 //!
 //! Numbers and coordinates are in tenths.
 
-use crate::making::{Act, Answer, Call, NONE, act, acted, go_on, links, links_one};
+use crate::making::{Act, Answer, Call, NONE, act, acted, copies, go_on, links, links_one};
 use nl_agents::Store;
 use nl_birth::{BirthFail, Way};
 use nl_plain::Plain;
 use nl_store::Indexed;
 use nl_trials::Tried;
+use nl_trials::asking::Listed;
 use nl_trials::trial_model::{FOXES, OWLS};
 use nl_trials::trials::{Look, Place, Scene, Step};
 use std::alloc::Global;
 use std::process::Abort;
 
 const MOST_TURTLES: usize = 200_000;
+
+const MOST_LINKS: usize = 400_000;
 
 const HERE: Place = (0, 0);
 
@@ -29,9 +32,20 @@ const FLOOD: &[Act] = &[(
     ],
 )];
 
+// Whether as many turtles as may live stand at the origin, all of no breed, and each list has them all.
+fn lists_everyone<S: Store>(tried: &Tried<S>, alloc: Global) -> bool {
+    let count = MOST_TURTLES as u64;
+    tried.counts_up(alloc, Listed::Turtles, count)
+        && tried.counts_up(alloc, Listed::OfBreed(0), count)
+        && tried.counts_up(alloc, Listed::On(HERE), count)
+}
+
 fn assert_flood<S: Store>(rt: &impl Abort, alloc: Global) {
-    let tried: Tried<S> = acted(rt, alloc, &[], FLOOD);
+    let mut tried: Tried<S> = acted(rt, alloc, &[], FLOOD);
     assert!(rt; tried.store.turtle_count() == MOST_TURTLES);
+    assert!(rt; lists_everyone(&tried, alloc));
+    assert!(rt; copies(&mut tried, alloc));
+    assert!(rt; lists_everyone(&tried, alloc));
 }
 
 #[test]
@@ -138,15 +152,24 @@ fn links_all<S: Store>(tried: &mut Tried<S>, alloc: Global, caller: u64, answer:
     links_among(tried, alloc, MOST_TURTLES as u64, caller, answer)
 }
 
+// Whether as many links as may live are listed, and of the first turtle those with all others.
+fn lists_web<S: Store>(tried: &Tried<S>, alloc: Global) -> bool {
+    tried.counts_up(alloc, Listed::Links, MOST_LINKS as u64)
+        && tried.counts_up(alloc, Listed::LinksOf(0), MOST_TURTLES as u64 - 1)
+}
+
 fn assert_web<S: Store>(rt: &impl Abort, alloc: Global) {
     let mut tried: Tried<S> = acted(rt, alloc, &[], EVERYONE);
     assert!(rt; links_all(&mut tried, alloc, 0, Answer::Many(0, 199_999)));
     assert!(rt; links_all(&mut tried, alloc, 1, Answer::Many(199_999, 199_998)));
     assert!(rt; links_all(&mut tried, alloc, 2, TOO_MANY));
-    assert!(rt; tried.store.link_count() == 400_000);
+    assert!(rt; tried.store.link_count() == MOST_LINKS);
     assert!(rt; links_one(&mut tried, alloc, 0, Way::With, 10, 11, TOO_MANY));
     assert!(rt; links_one(&mut tried, alloc, 0, Way::With, 1, 11, Answer::Done));
-    assert!(rt; tried.store.link_count() == 400_000);
+    assert!(rt; tried.store.link_count() == MOST_LINKS);
+    assert!(rt; lists_web(&tried, alloc));
+    assert!(rt; copies(&mut tried, alloc));
+    assert!(rt; lists_web(&tried, alloc));
     // The three for which there was room.
     assert!(rt; tried.answers(alloc, Look::LinksOf(4, &[3, 200_001, 399_998])));
     assert!(rt; tried.play(alloc, Step::ClearTurtles));

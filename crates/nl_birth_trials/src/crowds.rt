@@ -1,6 +1,6 @@
 //! Stores with as many turtles as may live, with many links of one turtle, and with many patches.
 
-use crate::making::{begun, go_on};
+use crate::making::{begun, copies, go_on};
 use nl_agents::{Owner, Store};
 use nl_grid::Shape;
 use nl_plain::Plain;
@@ -41,11 +41,6 @@ fn lists_foxes<S: Store>(tried: &Tried<S>, alloc: Global, count: u64) -> bool {
     tried.counts_up(alloc, Listed::Turtles, count)
         && tried.counts_up(alloc, Listed::OfBreed(FOXES), count)
         && tried.counts_up(alloc, Listed::On(HERE), count)
-}
-
-// Goes on with a copy.
-fn copies<S: Store>(tried: &mut Tried<S>, alloc: Global) -> bool {
-    tried.play(alloc, Step::Copy) && tried.play(alloc, Step::Swap)
 }
 
 // Whether so many links are made, each from the first turtle to the next one.

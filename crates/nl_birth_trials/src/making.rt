@@ -255,6 +255,11 @@ pub(crate) fn begun<S: Store>(rt: &impl Abort, alloc: Global, scenes: &[Scene]) 
     }
 }
 
+/// Goes on with a copy of the store, and answers whether it was made.
+pub(crate) fn copies<S: Store>(tried: &mut Tried<S>, alloc: Global) -> bool {
+    tried.play(alloc, Step::Copy) && tried.play(alloc, Step::Swap)
+}
+
 /// Makes the calls, one after the other, with what is drawn from the seed 42.
 pub(crate) fn act<S: Store>(rt: &impl Abort, alloc: Global, tried: &mut Tried<S>, acts: &[Act]) {
     let mut stream = Stream::new(42);
