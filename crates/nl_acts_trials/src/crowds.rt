@@ -1,4 +1,4 @@
-//! Acts over thousands of agents, and the longest name of an experiment: that they have memory far past the usual.
+//! Acts over very many agents, and the longest name of an experiment: that they have memory far past the usual.
 
 use crate::deeds::{Deed, ME, NO_ONE, Row, is_done, is_right, staged};
 use crate::given::Given::Agent;
@@ -16,9 +16,9 @@ use nl_trials::trials::{Step, Tried};
 use nl_value::Value;
 use std::alloc::Global;
 
-const CROWD: u64 = 4_000;
+const CROWD: u64 = 100_000;
 
-const SPOKES: u64 = 600;
+const SPOKES: u64 = 2_000;
 
 // Whether so many foxes are born at the origin.
 fn bears<S: Store>(alloc: Global, tried: &mut Tried<S>, count: u64) -> bool {
@@ -58,7 +58,7 @@ const ROWS: &[Row] = &[
         ME,
         NO_ONE,
         &[Agent(Named::Turtles)],
-        Told::Many(4_000),
+        Told::Many(100_000),
         &[],
     ),
     (
@@ -66,7 +66,7 @@ const ROWS: &[Row] = &[
         ME,
         NO_ONE,
         &[Agent(Named::Breed(FOXES))],
-        Told::Many(4_000),
+        Told::Many(100_000),
         &[],
     ),
     (
@@ -74,7 +74,7 @@ const ROWS: &[Row] = &[
         ME,
         NO_ONE,
         &[Agent(Named::Links)],
-        Told::Many(600),
+        Told::Many(2_000),
         &[],
     ),
     (
@@ -95,7 +95,7 @@ fn is_right_of_a_crowd<S: Store>(alloc: Global, row: &Row) -> bool {
 }
 
 #[test]
-fn thousands_of_agents_are_sorted(rt: HostRuntime) {
+fn a_hundred_thousand_agents_are_sorted(rt: HostRuntime) {
     for row in ROWS {
         assert!(rt; is_right_of_a_crowd::<Plain>(rt.alloc(), row));
         assert!(rt; is_right_of_a_crowd::<Indexed>(rt.alloc(), row));

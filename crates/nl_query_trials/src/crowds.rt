@@ -1,4 +1,4 @@
-//! Queries of thousands of agents: that they have memory far past the usual.
+//! Queries of very many agents: that they have memory far past the usual.
 
 use crate::asking::{ONE, Row, Told, tells};
 use crate::giving::Given;
@@ -13,9 +13,9 @@ use nl_words::codes;
 use std::alloc::Global;
 use std::process::Abort;
 
-const CROWD: u64 = 4_000;
+const CROWD: u64 = 100_000;
 
-const SPOKES: u64 = 600;
+const SPOKES: u64 = 5_000;
 
 // Whether so many foxes are born at the origin.
 fn bears<S: Store>(alloc: Global, tried: &mut Tried<S>, count: u64) -> bool {
@@ -40,66 +40,66 @@ fn ties<S: Store>(alloc: Global, tried: &mut Tried<S>, count: u64) -> bool {
 const ALL: Given = Given::Agent(Named::Turtles);
 
 const ROWS: &[Row] = &[
-    (codes::COUNT, None, &[ALL], Told::Number(4_000 * ONE)),
-    (codes::OTHER, None, &[ALL], Told::Many(3_999)),
-    (codes::TURTLES_HERE, None, &[], Told::Many(4_000)),
-    (codes::TURTLES_HERE, Some(FOXES), &[], Told::Many(4_000)),
-    (codes::TURTLES_ON, None, &[ALL], Told::Many(4_000)),
-    (codes::TURTLE_SET, None, &[ALL, ALL], Told::Many(4_000)),
+    (codes::COUNT, None, &[ALL], Told::Number(100_000 * ONE)),
+    (codes::OTHER, None, &[ALL], Told::Many(99_999)),
+    (codes::TURTLES_HERE, None, &[], Told::Many(100_000)),
+    (codes::TURTLES_HERE, Some(FOXES), &[], Told::Many(100_000)),
+    (codes::TURTLES_ON, None, &[ALL], Told::Many(100_000)),
+    (codes::TURTLE_SET, None, &[ALL, ALL], Told::Many(100_000)),
     (
         codes::IN_RADIUS,
         None,
         &[ALL, Given::Number(2 * ONE)],
-        Told::Many(4_000),
+        Told::Many(100_000),
     ),
     (
         codes::IN_CONE,
         None,
         &[ALL, Given::Number(2 * ONE), Given::Number(0)],
-        Told::Many(4_000),
+        Told::Many(100_000),
     ),
     (
         codes::AT_POINTS,
         None,
         &[ALL, Given::Offsets(&[(0, 0), (ONE, ONE)])],
-        Told::Many(4_000),
+        Told::Many(100_000),
     ),
-    (codes::MY_LINKS, None, &[], Told::Many(600)),
-    (codes::LINK_NEIGHBORS, None, &[], Told::Many(600)),
+    (codes::MY_LINKS, None, &[], Told::Many(5_000)),
+    (codes::LINK_NEIGHBORS, None, &[], Told::Many(5_000)),
     (
         codes::LINK_SET,
         None,
         &[Given::Agent(Named::Links)],
-        Told::Many(600),
+        Told::Many(5_000),
     ),
     (
         codes::LINK_WITH,
         None,
-        &[Given::Agent(Named::Turtle(600))],
-        Told::Link(599),
+        &[Given::Agent(Named::Turtle(5_000))],
+        Told::Link(4_999),
     ),
     (
         codes::N_OF,
         None,
-        &[Given::Number(1_500 * ONE), ALL],
-        Told::Many(1_500),
+        &[Given::Number(70_000 * ONE), ALL],
+        Told::Many(70_000),
     ),
     (
         codes::UP_TO_N_OF,
         None,
-        &[Given::Number(9_000 * ONE), ALL],
-        Told::Many(4_000),
+        &[Given::Number(900_000 * ONE), ALL],
+        Told::Many(100_000),
     ),
     (
         codes::N_OF,
         None,
-        &[Given::Number(9_000 * ONE), Given::Filled(7, 10_000)],
-        Told::Many(9_000),
+        &[Given::Number(90_000 * ONE), Given::Filled(7, 200_000)],
+        Told::Many(90_000),
     ),
     (
         codes::ONE_OF,
         None,
-        &[Given::Filled(7, 10_000)],
+        &[Given::Filled(7, 200_000)],
         Told::Number(7),
     ),
 ];
@@ -119,7 +119,7 @@ fn assert_crowded<S: Store>(rt: &impl Abort, alloc: Global) {
 }
 
 #[test]
-fn queries_of_thousands_have_memory(rt: HostRuntime) {
+fn queries_of_very_many_agents_have_memory(rt: HostRuntime) {
     assert_crowded::<Plain>(&rt, rt.alloc());
     assert_crowded::<Indexed>(&rt, rt.alloc());
 }
