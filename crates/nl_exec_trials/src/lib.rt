@@ -10,6 +10,8 @@ mod calling;
 #[cfg(test)]
 mod commands;
 #[cfg(test)]
+mod crowds;
+#[cfg(test)]
 mod deaths;
 #[cfg(test)]
 mod fire;

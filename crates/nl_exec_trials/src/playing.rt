@@ -130,8 +130,8 @@ fn end_in_slices<S: Store>(alloc: Global, machine: &mut Machine<'_, S>, units: u
     None
 }
 
-// The end of the open text, unit by unit, where a copy goes on each time.
-fn end_by_copies<S: Store>(alloc: Global, machine: &mut Machine<'_, S>) -> Option<End>
+// The end of the open text, in slices of so many units, where a copy goes on each time.
+fn end_by_copies<S: Store>(alloc: Global, machine: &mut Machine<'_, S>, units: u64) -> Option<End>
     requires { IsOpen machine.old }
     ensures fits { IfSome result (EndFits (ground_of (world_of machine.new).rest)) }
     ensures closed { OnSome result (IsClosed machine.new) }
@@ -139,7 +139,7 @@ fn end_by_copies<S: Store>(alloc: Global, machine: &mut Machine<'_, S>) -> Optio
     for _ in 0..AMPLE {
         let copied = machine.copy(alloc).ok()?;
         let_go(std::mem::replace(machine, copied));
-        match machine.advance(alloc, 1).ok()? {
+        match machine.advance(alloc, units).ok()? {
             Turn::Ended(end) => return Some(end),
             Turn::More => {}
         }
@@ -156,7 +156,7 @@ pub(crate) fn end_of<S: Store>(alloc: Global, machine: &mut Machine<'_, S>, way:
     match way {
         Way::Whole => machine.finish(alloc).ok(),
         Way::Slices(units) => end_in_slices(alloc, machine, units),
-        Way::Copies => end_by_copies(alloc, machine),
+        Way::Copies(units) => end_by_copies(alloc, machine, units),
     }
 }
 

@@ -57,15 +57,15 @@ pub(crate) enum Way {
     Whole,
     /// In slices of so many units.
     Slices(u64),
-    /// Unit by unit, and each time a copy goes on.
-    Copies,
+    /// In slices of so many units, and behind each a copy goes on.
+    Copies(u64),
 }
 
 /// At once, unit by unit, and in slices of another size.
 pub(crate) const SLICES: &[Way] = &[Way::Whole, Way::Slices(1), Way::Slices(7)];
 
 /// The same, and by copies at each unit.
-pub(crate) const WAYS: &[Way] = &[Way::Whole, Way::Slices(1), Way::Slices(7), Way::Copies];
+pub(crate) const WAYS: &[Way] = &[Way::Whole, Way::Slices(1), Way::Slices(7), Way::Copies(1)];
 
 /// At once, and in slices that end at other statements each time.
 pub(crate) const FINE: &[Way] = &[
