@@ -1,10 +1,12 @@
 //! Inputs far past the usual: none of them is a want of memory.
 
 use crate::tests::calls::{
-    Call, EXPERIMENT, MODEL, assert_done, assert_ended, assert_fault, assert_faultless,
+    Call, EXPERIMENT, HEAD, MODEL, assert_done, assert_ended, assert_fault, assert_faultless,
 };
 use nl_cli::Status;
+use nl_outer::MemSink;
 use std::alloc::Global;
+use std::process::Abort;
 use std::test::Fail;
 
 // A name of 100,000 letters.
@@ -117,4 +119,78 @@ fn long_lists_and_texts_are_read(rt: HostRuntime) -> Result<(), Fail> {
     assert_faultless(&rt, alloc, good.as_str())?;
     let faulty = format!(in alloc; "to a show [ {numbers}]\nshow \"{letters}\"\nfoo end")?;
     assert_fault(&rt, alloc, faulty.as_str(), "3:1: UnknownName")
+}
+
+// Experiments in a world of one patch, over a model without code.
+const ONE_PATCH: &str = "name = \"x\"\nsetup = \"\"\ngo = \"\"\n\
+world = { min-pxcor = 0, max-pxcor = 0, min-pycor = 0, max-pycor = 0 }\n";
+
+const ONE_PATCH_BOUNDS: &str = "\"0\",\"0\",\"0\",\"0\"\n";
+
+// So many runs of one step.
+fn many_runs(alloc: Global, count: u64) -> Result<String, Fail> {
+    let mut lines = String::new(alloc);
+    for before in 0..count {
+        let run = before.saturating_add(1);
+        let line = format!(in alloc; "\"{run}\",\"1\",\"steps\"\n")?;
+        lines.push_str(line.as_str())?;
+    }
+    Ok(lines)
+}
+
+// A run of so many steps, each with its row.
+fn many_steps(alloc: Global, count: u64) -> Result<String, Fail> {
+    let mut lines = String::new(alloc);
+    for step in 0..count {
+        let line = format!(in alloc; "\"1\",\"{step}\",\"\"\n")?;
+        lines.push_str(line.as_str())?;
+    }
+    let last = format!(in alloc; "\"1\",\"{count}\",\"steps\"\n")?;
+    lines.push_str(last.as_str())?;
+    Ok(lines)
+}
+
+// The table of an experiment that goes on so, with these columns between the step and the end, has these lines.
+fn assert_table(
+    rt: &impl Abort,
+    alloc: Global,
+    keys: &str,
+    columns: &str,
+    lines: &str,
+) -> Result<(), Fail> {
+    let experiment = format!(in alloc; "{keys}{ONE_PATCH}")?;
+    let mut call = Call::table(alloc, b"", experiment.as_bytes())?;
+    call.out = MemSink::with_room(alloc, 4_000_000)?;
+    let table = format!(in alloc;
+        "{HEAD}{ONE_PATCH_BOUNDS}\"[run number]\",\"[step]\",{columns}\"[end]\"\n{lines}"
+    )?;
+    assert_done(rt, call, table.as_bytes());
+    Ok(())
+}
+
+#[test]
+fn a_table_has_as_many_runs_as_there_may_be(rt: HostRuntime) -> Result<(), Fail> {
+    let alloc = rt.alloc();
+    let lines = many_runs(alloc, 100_000)?;
+    let keys = "steps = 1\nrepetitions = 100000\n";
+    assert_table(&rt, alloc, keys, "", lines.as_str())
+}
+
+#[test]
+fn a_table_has_a_run_of_many_rows(rt: HostRuntime) -> Result<(), Fail> {
+    let alloc = rt.alloc();
+    let lines = many_steps(alloc, 100_000)?;
+    let keys = "steps = 100000\nevery-step = true\n";
+    assert_table(&rt, alloc, keys, "", lines.as_str())
+}
+
+#[test]
+fn a_table_has_many_columns(rt: HostRuntime) -> Result<(), Fail> {
+    let alloc = rt.alloc();
+    let metrics = "\"1 + 1\", ".repeat(alloc, 20_000)?;
+    let keys = format!(in alloc; "steps = 1\nmetrics = [{metrics}]\n")?;
+    let columns = "\"1 + 1\",".repeat(alloc, 20_000)?;
+    let cells = "\"2\",".repeat(alloc, 20_000)?;
+    let lines = format!(in alloc; "\"1\",\"1\",{cells}\"steps\"\n")?;
+    assert_table(&rt, alloc, keys.as_str(), columns.as_str(), lines.as_str())
 }
