@@ -1,6 +1,8 @@
 # Tests of from-netlogo. Sourced by tools/test.
 # shellcheck shell=bash disable=SC2154
 
+need_program
+
 model=$tools/tests/netlogo/spread.nlogo
 mkdir "$work/netlogo"
 cd -- "$work/netlogo" || exit 1

@@ -1,6 +1,8 @@
 # Tests of package. Sourced by tools/test.
 # shellcheck shell=bash disable=SC2154
 
+need_program
+
 mkdir "$work/package"
 cd -- "$work/package" || exit 1
 

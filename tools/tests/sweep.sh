@@ -1,6 +1,8 @@
 # Tests of sweep, and of what SWEEPS.md says. Sourced by tools/test.
 # shellcheck shell=bash disable=SC2154
 
+need_program
+
 page=$tools/../docs/SWEEPS.md
 sweep=$tools/sweep
 mkdir "$work/sweep"

@@ -2,6 +2,7 @@
 ghost use Rattle.std.specs.Prelude.{IfOk, ◌<◌};
 ghost use Rattle.nl_grid.specs.Geometry.{IsPointOf, patches_of};
 
+use World::{Even, Narrow, Single, SmallTorus, SmallWalls, Square, Torus, Tube, Walls};
 use nl_fixed::{Num, NumFault};
 use nl_grid::patch_box::PatchBox;
 use nl_grid::point::{Point, SamePoint};
@@ -18,6 +19,45 @@ fn point(shape: &Shape, x: i64, y: i64) -> Result<Point, &'static str>
     shape.wrap(x, y).ok_or("outside")
 }
 
+/// The worlds of the rows.
+#[derive(Clone, Copy)]
+enum World {
+    /// Five patches a side, that go on behind their sides.
+    Torus,
+    /// Five patches a side, between walls.
+    Walls,
+    /// Four patches in a row that goes on behind its ends.
+    Even,
+    /// Three patches a side, that go on behind their sides.
+    SmallTorus,
+    /// Three patches a side, between walls.
+    SmallWalls,
+    /// Three patches a side, that go on behind the sides at the left and the right.
+    Tube,
+    /// A column of three patches, that goes on behind its sides.
+    Narrow,
+    /// Two patches a side, that go on behind their sides.
+    Square,
+    /// One patch, that goes on behind its sides.
+    Single,
+}
+
+/// The shape of the world.
+fn shape_of(world: World) -> Result<Shape, &'static str> {
+    let shape = match world {
+        World::Torus => Shape::new(-2, 2, -2, 2, true, true),
+        World::Walls => Shape::new(-2, 2, -2, 2, false, false),
+        World::Even => Shape::new(-2, 1, 0, 0, true, false),
+        World::SmallTorus => Shape::new(-1, 1, -1, 1, true, true),
+        World::SmallWalls => Shape::new(-1, 1, -1, 1, false, false),
+        World::Tube => Shape::new(-1, 1, -1, 1, true, false),
+        World::Narrow => Shape::new(0, 0, -1, 1, true, true),
+        World::Square => Shape::new(0, 1, 0, 1, true, true),
+        World::Single => Shape::new(0, 0, 0, 0, true, true),
+    };
+    shape.ok_or("refused")
+}
+
 /// Whether the answer is there and is yes. A test asks so, and has one way out the less for each row.
 fn holds(answer: Result<bool, &'static str>) -> bool {
     matches!(answer, Ok(true))
@@ -31,23 +71,25 @@ fn has_patches(x: (i32, i32), y: (i32, i32), patches: Option<u32>) -> bool {
     }
 }
 
+// The least and the greatest of each coordinate, and how many patches that makes.
+const LIMITS: &[(i32, i32, i32, i32, Option<u32>)] = &[
+    (0, 0, 0, 0, Some(1)),
+    (-500, 500, 0, 0, Some(1_001)),
+    (0, 0, -1_000, 0, Some(1_001)),
+    (-500, 501, 0, 0, None),
+    (0, 0, 0, 1_001, None),
+    (0, 511, -511, 0, Some(262_144)),
+    (0, 480, 0, 544, None),
+    (1, 2, 0, 0, None),
+    (-2, -1, 0, 0, None),
+    (0, 0, 1, 1, None),
+    (0, 0, -3, -1, None),
+    (i32::MIN, i32::MAX, 0, 0, None),
+];
+
 #[test]
 fn shapes_keep_to_the_limits(rt: HostRuntime) {
-    let rows = [
-        (0, 0, 0, 0, Some(1)),
-        (-500, 500, 0, 0, Some(1_001)),
-        (0, 0, -1_000, 0, Some(1_001)),
-        (-500, 501, 0, 0, None),
-        (0, 0, 0, 1_001, None),
-        (0, 511, -511, 0, Some(262_144)),
-        (0, 480, 0, 544, None),
-        (1, 2, 0, 0, None),
-        (-2, -1, 0, 0, None),
-        (0, 0, 1, 1, None),
-        (0, 0, -3, -1, None),
-        (i32::MIN, i32::MAX, 0, 0, None),
-    ];
-    for (min_x, max_x, min_y, max_y, patches) in rows {
+    for &(min_x, max_x, min_y, max_y, patches) in LIMITS {
         assert!(rt; has_patches((min_x, max_x), (min_y, max_y), patches));
     }
 }
@@ -94,38 +136,40 @@ fn wraps_to(
     Ok(wrapped && lies && has_center(shape, patch))
 }
 
+// A point as it is given and as it is wrapped, and its patch.
+const WRAPPED: &[(i64, i64, i64, i64, u32)] = &[
+    (-2_000_000, 2_000_000, -2_000_000, 2_000_000, 0),
+    (2_000_000, 2_000_000, 2_000_000, 2_000_000, 4),
+    (-2_000_000, 1_000_000, -2_000_000, 1_000_000, 5),
+    (0, 0, 0, 0, 12),
+    (500_000, 0, 500_000, 0, 13),
+    (-500_000, 0, -500_000, 0, 12),
+    (0, 500_000, 0, 500_000, 7),
+    (0, 499_999, 0, 499_999, 12),
+    (-2_500_000, 0, -2_500_000, 0, 10),
+    (2_499_999, 0, 2_499_999, 0, 14),
+    (2_500_000, 0, -2_500_000, 0, 10),
+    (-2_500_001, 0, 2_499_999, 0, 14),
+    (
+        9_000_000_000_000_000_000,
+        -9_000_000_000_000_000_000,
+        0,
+        0,
+        12,
+    ),
+    (
+        8_999_999_999_998_000_001,
+        7_500_000,
+        -1_999_999,
+        -2_500_000,
+        20,
+    ),
+];
+
 #[test]
 fn points_wrap_and_lie_on_patches(rt: HostRuntime) -> Result<(), Fail> {
-    let torus = Shape::new(-2, 2, -2, 2, true, true).ok_or("refused")?;
-    let rows = [
-        (-2_000_000, 2_000_000, -2_000_000, 2_000_000, 0),
-        (2_000_000, 2_000_000, 2_000_000, 2_000_000, 4),
-        (-2_000_000, 1_000_000, -2_000_000, 1_000_000, 5),
-        (0, 0, 0, 0, 12),
-        (500_000, 0, 500_000, 0, 13),
-        (-500_000, 0, -500_000, 0, 12),
-        (0, 500_000, 0, 500_000, 7),
-        (0, 499_999, 0, 499_999, 12),
-        (-2_500_000, 0, -2_500_000, 0, 10),
-        (2_499_999, 0, 2_499_999, 0, 14),
-        (2_500_000, 0, -2_500_000, 0, 10),
-        (-2_500_001, 0, 2_499_999, 0, 14),
-        (
-            9_000_000_000_000_000_000,
-            -9_000_000_000_000_000_000,
-            0,
-            0,
-            12,
-        ),
-        (
-            8_999_999_999_998_000_001,
-            7_500_000,
-            -1_999_999,
-            -2_500_000,
-            20,
-        ),
-    ];
-    for (x, y, wrapped_x, wrapped_y, patch) in rows {
+    let torus = shape_of(Torus)?;
+    for &(x, y, wrapped_x, wrapped_y, patch) in WRAPPED {
         assert!(rt; holds(wraps_to(&torus, (x, y), (wrapped_x, wrapped_y), patch)));
     }
     assert!(rt; torus.patch_at(-2, 2) == Some(0));
@@ -150,17 +194,19 @@ fn is_inside(shape: &Shape, coordinate: i64, inside: bool) -> Result<bool, &'sta
     Ok(by_x && by_y && shape.is_inside(Point { x: number, y: zero }) == inside)
 }
 
+// A coordinate, and whether a point there is inside.
+const ENDS: &[(i64, bool)] = &[
+    (-2_500_000, true),
+    (-2_500_001, false),
+    (2_499_999, true),
+    (2_500_000, false),
+    (9_000_000_000_000_000_000, false),
+];
+
 #[test]
 fn nothing_is_outside_of_a_box_but_beyond_its_ends(rt: HostRuntime) -> Result<(), Fail> {
-    let walls = Shape::new(-2, 2, -2, 2, false, false).ok_or("refused")?;
-    let rows = [
-        (-2_500_000, true),
-        (-2_500_001, false),
-        (2_499_999, true),
-        (2_500_000, false),
-        (9_000_000_000_000_000_000, false),
-    ];
-    for (coordinate, inside) in rows {
+    let walls = shape_of(Walls)?;
+    for &(coordinate, inside) in ENDS {
         assert!(rt; holds(is_inside(&walls, coordinate, inside)));
     }
     assert!(rt; walls.patch_at(3, 0).is_none());
@@ -180,13 +226,17 @@ fn found(point: Result<Option<Point>, NumFault>) -> Result<Option<(i64, i64)>, N
 /// What a row wants to be found.
 type Wanted = Result<Option<(i64, i64)>, NumFault>;
 
+// The greatest number, in millionths.
+const MOST: i64 = 9_000_000_000_000_000_000;
+
 /// Whether the point beside is this one.
 fn is_beside(
-    shape: Shape,
+    world: World,
     from: (i64, i64),
     by: (i64, i64),
     wanted: Wanted,
 ) -> Result<bool, &'static str> {
+    let shape = shape_of(world)?;
     let at = point(&shape, from.0, from.1)?;
     let dx = Num::new(by.0).ok_or("out of range")?;
     let dy = Num::new(by.1).ok_or("out of range")?;
@@ -195,76 +245,73 @@ fn is_beside(
 
 /// Whether the point ahead, by a heading in degrees, is this one.
 fn is_ahead(
-    shape: Shape,
+    world: World,
     from: (i64, i64),
     heading: i64,
     distance: i64,
     wanted: Wanted,
 ) -> Result<bool, &'static str> {
+    let shape = shape_of(world)?;
     let at = point(&shape, from.0, from.1)?;
     let heading = Num::whole(heading).ok_or("out of range")?;
     let distance = Num::new(distance).ok_or("out of range")?;
     Ok(found(shape.ahead(at, heading, distance)) == wanted)
 }
 
+const BESIDE: &[(World, (i64, i64), (i64, i64), Wanted)] = &[
+    (
+        Torus,
+        (1_000_000, 1_000_000),
+        (2_000_000, -5_000_000),
+        Ok(Some((-2_000_000, 1_000_000))),
+    ),
+    (
+        Walls,
+        (1_000_000, 1_000_000),
+        (-2_000_000, 500_000),
+        Ok(Some((-1_000_000, 1_500_000))),
+    ),
+    (Walls, (1_000_000, 1_000_000), (2_000_000, 0), Ok(None)),
+    (Walls, (1_000_000, 1_000_000), (0, -4_000_000), Ok(None)),
+    (Torus, (-1_000_000, 0), (MOST, 0), Ok(Some((-1_000_000, 0)))),
+    (Torus, (1, 0), (MOST, 0), Err(NumFault::Overflow)),
+    (Torus, (0, -1), (0, -MOST), Err(NumFault::Overflow)),
+    (
+        Walls,
+        (2_000_000, 1),
+        (1_000_000, MOST),
+        Err(NumFault::Overflow),
+    ),
+];
+
 #[test]
 fn a_point_beside_is_wrapped_or_outside_or_out_of_range(rt: HostRuntime) -> Result<(), Fail> {
-    let torus = Shape::new(-2, 2, -2, 2, true, true).ok_or("refused")?;
-    let walls = Shape::new(-2, 2, -2, 2, false, false).ok_or("refused")?;
-    let most = 9_000_000_000_000_000_000;
-    let rows = [
-        (
-            torus,
-            (1_000_000, 1_000_000),
-            (2_000_000, -5_000_000),
-            Ok(Some((-2_000_000, 1_000_000))),
-        ),
-        (
-            walls,
-            (1_000_000, 1_000_000),
-            (-2_000_000, 500_000),
-            Ok(Some((-1_000_000, 1_500_000))),
-        ),
-        (walls, (1_000_000, 1_000_000), (2_000_000, 0), Ok(None)),
-        (walls, (1_000_000, 1_000_000), (0, -4_000_000), Ok(None)),
-        (torus, (-1_000_000, 0), (most, 0), Ok(Some((-1_000_000, 0)))),
-        (torus, (1, 0), (most, 0), Err(NumFault::Overflow)),
-        (torus, (0, -1), (0, -most), Err(NumFault::Overflow)),
-        (
-            walls,
-            (2_000_000, 1),
-            (1_000_000, most),
-            Err(NumFault::Overflow),
-        ),
-    ];
-    for (shape, from, by, expected) in rows {
-        assert!(rt; holds(is_beside(shape, from, by, expected)));
+    for &(world, from, by, expected) in BESIDE {
+        assert!(rt; holds(is_beside(world, from, by, expected)));
     }
     Ok(())
 }
 
+const AHEAD: &[(World, (i64, i64), i64, i64, Wanted)] = &[
+    (Walls, (0, 0), 0, 1_000_000, Ok(Some((0, 1_000_000)))),
+    (Walls, (0, 0), 90, 1_000_000, Ok(Some((1_000_000, 0)))),
+    (Walls, (0, 0), 45, 1_000_000, Ok(Some((707_107, 707_107)))),
+    (Walls, (0, 0), 90, -1_000_000, Ok(Some((-1_000_000, 0)))),
+    (Walls, (0, 0), 30, 1, Ok(Some((1, 1)))),
+    (Walls, (0, 0), 30, -1, Ok(Some((0, -1)))),
+    (Torus, (0, 0), 180, 3_000_000, Ok(Some((0, 2_000_000)))),
+    (Walls, (0, 0), 180, 3_000_000, Ok(None)),
+    (Torus, (-1_000_000, 0), 90, MOST, Ok(Some((-1_000_000, 0)))),
+    (Walls, (-1_000_000, 0), 90, MOST, Ok(None)),
+    (Walls, (1_000_000, 0), 90, MOST, Err(NumFault::Overflow)),
+    (Torus, (0, 1_000_000), 0, MOST, Err(NumFault::Overflow)),
+];
+
 // The sine of 30 degrees is 0.5 and their cosine 0.866025, so that products of a millionth are rounded.
 #[test]
 fn a_point_ahead_goes_by_the_heading(rt: HostRuntime) -> Result<(), Fail> {
-    let torus = Shape::new(-2, 2, -2, 2, true, true).ok_or("refused")?;
-    let walls = Shape::new(-2, 2, -2, 2, false, false).ok_or("refused")?;
-    let most = 9_000_000_000_000_000_000;
-    let rows = [
-        (walls, (0, 0), 0, 1_000_000, Ok(Some((0, 1_000_000)))),
-        (walls, (0, 0), 90, 1_000_000, Ok(Some((1_000_000, 0)))),
-        (walls, (0, 0), 45, 1_000_000, Ok(Some((707_107, 707_107)))),
-        (walls, (0, 0), 90, -1_000_000, Ok(Some((-1_000_000, 0)))),
-        (walls, (0, 0), 30, 1, Ok(Some((1, 1)))),
-        (walls, (0, 0), 30, -1, Ok(Some((0, -1)))),
-        (torus, (0, 0), 180, 3_000_000, Ok(Some((0, 2_000_000)))),
-        (walls, (0, 0), 180, 3_000_000, Ok(None)),
-        (torus, (-1_000_000, 0), 90, most, Ok(Some((-1_000_000, 0)))),
-        (walls, (-1_000_000, 0), 90, most, Ok(None)),
-        (walls, (1_000_000, 0), 90, most, Err(NumFault::Overflow)),
-        (torus, (0, 1_000_000), 0, most, Err(NumFault::Overflow)),
-    ];
-    for (shape, from, heading, distance, expected) in rows {
-        assert!(rt; holds(is_ahead(shape, from, heading, distance, expected)));
+    for &(world, from, heading, distance, expected) in AHEAD {
+        assert!(rt; holds(is_ahead(world, from, heading, distance, expected)));
     }
     Ok(())
 }
@@ -299,13 +346,14 @@ fn lies_at(shape: &Shape, from: Point, to: Point, heading: Option<i64>) -> bool
 
 /// Whether the offset, the distance there and back, and the heading of two points are these.
 fn measures(
-    shape: Shape,
+    world: World,
     from: (i64, i64),
     to: (i64, i64),
     offset: (i64, i64),
     distance: i64,
     heading: Option<i64>,
 ) -> Result<bool, &'static str> {
+    let shape = shape_of(world)?;
     let start = point(&shape, from.0, from.1)?;
     let end = point(&shape, to.0, to.1)?;
     let by = has_offset(&shape, start, end, offset);
@@ -314,80 +362,78 @@ fn measures(
     Ok(by && there && back && lies_at(&shape, start, end, heading))
 }
 
+// The world, the two points, the offset, the distance and the heading in degrees.
+const OFFSETS: &[(World, (i64, i64), (i64, i64), (i64, i64), i64, Option<i64>)] = &[
+    (
+        Torus,
+        (-2_000_000, 0),
+        (2_000_000, 0),
+        (-1_000_000, 0),
+        1_000_000,
+        Some(270),
+    ),
+    (
+        Walls,
+        (-2_000_000, 0),
+        (2_000_000, 0),
+        (4_000_000, 0),
+        4_000_000,
+        Some(90),
+    ),
+    (
+        Even,
+        (0, 0),
+        (-2_000_000, 0),
+        (2_000_000, 0),
+        2_000_000,
+        Some(90),
+    ),
+    (
+        Even,
+        (-2_000_000, 0),
+        (0, 0),
+        (2_000_000, 0),
+        2_000_000,
+        Some(90),
+    ),
+    (
+        Torus,
+        (0, 0),
+        (1_000_000, 1_000_000),
+        (1_000_000, 1_000_000),
+        1_414_213,
+        Some(45),
+    ),
+    (
+        Torus,
+        (0, 2_000_000),
+        (0, -2_000_000),
+        (0, 1_000_000),
+        1_000_000,
+        Some(0),
+    ),
+    (
+        Single,
+        (-400_000, 0),
+        (400_000, 0),
+        (-200_000, 0),
+        200_000,
+        Some(270),
+    ),
+    (
+        Torus,
+        (1_000_000, 1_000_000),
+        (1_000_000, 1_000_000),
+        (0, 0),
+        0,
+        None,
+    ),
+];
+
 #[test]
 fn offsets_take_the_shorter_way(rt: HostRuntime) -> Result<(), Fail> {
-    let torus = Shape::new(-2, 2, -2, 2, true, true).ok_or("refused")?;
-    let walls = Shape::new(-2, 2, -2, 2, false, false).ok_or("refused")?;
-    let even = Shape::new(-2, 1, 0, 0, true, false).ok_or("refused")?;
-    let single = Shape::new(0, 0, 0, 0, true, true).ok_or("refused")?;
-    let rows = [
-        (
-            torus,
-            (-2_000_000, 0),
-            (2_000_000, 0),
-            (-1_000_000, 0),
-            1_000_000,
-            Some(270),
-        ),
-        (
-            walls,
-            (-2_000_000, 0),
-            (2_000_000, 0),
-            (4_000_000, 0),
-            4_000_000,
-            Some(90),
-        ),
-        (
-            even,
-            (0, 0),
-            (-2_000_000, 0),
-            (2_000_000, 0),
-            2_000_000,
-            Some(90),
-        ),
-        (
-            even,
-            (-2_000_000, 0),
-            (0, 0),
-            (2_000_000, 0),
-            2_000_000,
-            Some(90),
-        ),
-        (
-            torus,
-            (0, 0),
-            (1_000_000, 1_000_000),
-            (1_000_000, 1_000_000),
-            1_414_213,
-            Some(45),
-        ),
-        (
-            torus,
-            (0, 2_000_000),
-            (0, -2_000_000),
-            (0, 1_000_000),
-            1_000_000,
-            Some(0),
-        ),
-        (
-            single,
-            (-400_000, 0),
-            (400_000, 0),
-            (-200_000, 0),
-            200_000,
-            Some(270),
-        ),
-        (
-            torus,
-            (1_000_000, 1_000_000),
-            (1_000_000, 1_000_000),
-            (0, 0),
-            0,
-            None,
-        ),
-    ];
-    for (shape, from, to, offset, distance, heading) in rows {
-        assert!(rt; holds(measures(shape, from, to, offset, distance, heading)));
+    for &(world, from, to, offset, distance, heading) in OFFSETS {
+        assert!(rt; holds(measures(world, from, to, offset, distance, heading)));
     }
     Ok(())
 }
@@ -408,25 +454,22 @@ fn has_straight(shape: &Shape, patch: u32, straight: [u32; 4], count: usize) -> 
     shape.neighbors4(patch, &mut found) == count && found == straight
 }
 
+// The patch with its neighbors and how many they are, and with its straight ones.
+const NEIGHBORS: &[(World, u32, [u32; 8], usize, [u32; 4], usize)] = &[
+    (SmallWalls, 0, [1, 3, 4, 9, 9, 9, 9, 9], 3, [1, 3, 9, 9], 2),
+    (SmallWalls, 4, [0, 1, 2, 3, 5, 6, 7, 8], 8, [1, 3, 5, 7], 4),
+    (SmallWalls, 5, [1, 2, 4, 7, 8, 9, 9, 9], 5, [2, 4, 8, 9], 3),
+    (SmallTorus, 0, [1, 2, 3, 4, 5, 6, 7, 8], 8, [1, 2, 3, 6], 4),
+    (Tube, 0, [1, 2, 3, 4, 5, 9, 9, 9], 5, [1, 2, 3, 9], 3),
+    (Narrow, 1, [0, 2, 9, 9, 9, 9, 9, 9], 2, [0, 2, 9, 9], 2),
+    (Square, 0, [1, 2, 3, 9, 9, 9, 9, 9], 3, [1, 2, 9, 9], 2),
+    (Single, 0, [9, 9, 9, 9, 9, 9, 9, 9], 0, [9, 9, 9, 9], 0),
+];
+
 #[test]
 fn neighbors_are_each_named_once(rt: HostRuntime) -> Result<(), Fail> {
-    let walls = Shape::new(-1, 1, -1, 1, false, false).ok_or("refused")?;
-    let torus = Shape::new(-1, 1, -1, 1, true, true).ok_or("refused")?;
-    let tube = Shape::new(-1, 1, -1, 1, true, false).ok_or("refused")?;
-    let narrow = Shape::new(0, 0, -1, 1, true, true).ok_or("refused")?;
-    let small = Shape::new(0, 1, 0, 1, true, true).ok_or("refused")?;
-    let single = Shape::new(0, 0, 0, 0, true, true).ok_or("refused")?;
-    let rows = [
-        (walls, 0, [1, 3, 4, 9, 9, 9, 9, 9], 3, [1, 3, 9, 9], 2),
-        (walls, 4, [0, 1, 2, 3, 5, 6, 7, 8], 8, [1, 3, 5, 7], 4),
-        (walls, 5, [1, 2, 4, 7, 8, 9, 9, 9], 5, [2, 4, 8, 9], 3),
-        (torus, 0, [1, 2, 3, 4, 5, 6, 7, 8], 8, [1, 2, 3, 6], 4),
-        (tube, 0, [1, 2, 3, 4, 5, 9, 9, 9], 5, [1, 2, 3, 9], 3),
-        (narrow, 1, [0, 2, 9, 9, 9, 9, 9, 9], 2, [0, 2, 9, 9], 2),
-        (small, 0, [1, 2, 3, 9, 9, 9, 9, 9], 3, [1, 2, 9, 9], 2),
-        (single, 0, [9, 9, 9, 9, 9, 9, 9, 9], 0, [9, 9, 9, 9], 0),
-    ];
-    for (shape, patch, all, count, straight, straight_count) in rows {
+    for &(world, patch, all, count, straight, straight_count) in NEIGHBORS {
+        let shape = shape_of(world)?;
         let patch = of_world(&rt, &shape, patch);
         assert!(rt; has_neighbors(&shape, patch, all, count));
         assert!(rt; has_straight(&shape, patch, straight, straight_count));

@@ -2,7 +2,7 @@
 use Input::{Commands, Expression, Fresh, MaybeCommands, Value};
 use nl_words::base::{ROWS, base_words};
 use nl_words::codes;
-use nl_words::entry::{Input, Kinds, Leaving, Manner, Role, Runner};
+use nl_words::entry::{Entry, Input, Kinds, Leaving, Manner, Role, Runner};
 
 const TEST: Input = Input::Reporter;
 
@@ -78,8 +78,10 @@ const NOT_OBSERVER: Kinds = Kinds {
     link: true,
 };
 
-// name, role, inputs, who runs it, what it gives
-static KNOWN: [(&str, Role, &[Input], Kinds, Kinds); 36] = [
+/// A name with its role, its inputs, who runs it, and what it gives.
+type Known = (&'static str, Role, &'static [Input], Kinds, Kinds);
+
+const KNOWN: &[Known] = &[
     ("gray", Role::Constant, &[], ALL, NONE),
     ("nobody", Role::Constant, &[], ALL, NONE),
     ("pi", Role::Reporter, &[], ALL, NONE),
@@ -178,149 +180,187 @@ static KNOWN: [(&str, Role, &[Input], Kinds, Kinds); 36] = [
     ("other-end", Role::Reporter, &[], TURTLE_LINK, TURTLE),
 ];
 
+/// The row of a word.
+fn row_of(name: &str) -> Option<Entry> {
+    let words = base_words();
+    let row = words.find(name.as_bytes())?;
+    Some(*row)
+}
+
+/// Whether the row of the word says this.
+fn says(known: &Known) -> bool {
+    let (name, role, inputs, runs, gives) = *known;
+    match row_of(name) {
+        Some(row) => {
+            row.role == role && row.inputs == inputs && row.runs == runs && row.gives == gives
+        }
+        None => false,
+    }
+}
+
 #[test]
 fn rows_say_what_the_dictionary_says(rt: HostRuntime) {
-    let words = base_words();
-    for (name, role, inputs, runs, gives) in &KNOWN {
-        let found = words.find(name.as_bytes());
-        assert!(rt; found.is_some(), "{name}");
-        if let Some(entry) = found {
-            assert_eq!(rt; entry.role, *role, "{name}");
-            assert_eq!(rt; entry.inputs, *inputs, "{name}");
-            assert_eq!(rt; entry.runs, *runs, "{name}");
-            assert_eq!(rt; entry.gives, *gives, "{name}");
-        }
+    for known in KNOWN {
+        assert!(rt; says(known), "{}", known.0);
+    }
+}
+
+const BLOCKS: &[(&str, Runner)] = &[
+    ("ask", Runner::Given),
+    ("of", Runner::Given),
+    ("with-max", Runner::Given),
+    ("sort-on", Runner::Given),
+    ("all?", Runner::Given),
+    ("while", Runner::Same),
+    ("ifelse-value", Runner::Same),
+    ("loop", Runner::Same),
+    ("hatch", Runner::Turtles),
+    ("sprout", Runner::Turtles),
+    ("cro", Runner::Turtles),
+    ("create-link-with", Runner::Links),
+    ("create-links-from", Runner::Links),
+    ("fd", Runner::NoBlock),
+    ("who", Runner::NoBlock),
+];
+
+fn has_blocks(name: &str, blocks: Runner) -> bool {
+    match row_of(name) {
+        Some(row) => row.blocks == blocks,
+        None => false,
     }
 }
 
 #[test]
 fn blocks_are_run_by_whom_the_guide_says(rt: HostRuntime) {
-    let words = base_words();
-    for (name, blocks) in [
-        ("ask", Runner::Given),
-        ("of", Runner::Given),
-        ("with-max", Runner::Given),
-        ("sort-on", Runner::Given),
-        ("all?", Runner::Given),
-        ("while", Runner::Same),
-        ("ifelse-value", Runner::Same),
-        ("loop", Runner::Same),
-        ("hatch", Runner::Turtles),
-        ("sprout", Runner::Turtles),
-        ("cro", Runner::Turtles),
-        ("create-link-with", Runner::Links),
-        ("create-links-from", Runner::Links),
-        ("fd", Runner::NoBlock),
-        ("who", Runner::NoBlock),
-    ] {
-        assert_eq!(rt;
-            words.find(name.as_bytes()).map(|entry| entry.blocks),
-            Some(blocks),
-            "{name}"
-        );
+    for &(name, blocks) in BLOCKS {
+        assert!(rt; has_blocks(name, blocks), "{name}");
+    }
+}
+
+const MANNERS: &[(&str, Manner, bool)] = &[
+    ("set", Manner::Set, false),
+    ("diffuse", Manner::Spread, false),
+    ("diffuse4", Manner::Spread, false),
+    ("uphill", Manner::Spread, false),
+    ("downhill4", Manner::Spread, false),
+    ("let", Manner::Run, false),
+    ("who", Manner::Run, true),
+    ("pxcor", Manner::Run, true),
+    ("pycor", Manner::Run, true),
+    ("end1", Manner::Run, true),
+    ("end2", Manner::Run, true),
+    ("xcor", Manner::Run, false),
+    ("breed", Manner::Run, false),
+];
+
+fn has_manner(name: &str, manner: Manner, fixed: bool) -> bool {
+    match row_of(name) {
+        Some(row) => row.manner == manner && row.fixed == fixed,
+        None => false,
     }
 }
 
 #[test]
 fn variables_are_set_spread_or_fixed(rt: HostRuntime) {
-    let words = base_words();
-    for (name, manner, fixed) in [
-        ("set", Manner::Set, false),
-        ("diffuse", Manner::Spread, false),
-        ("diffuse4", Manner::Spread, false),
-        ("uphill", Manner::Spread, false),
-        ("downhill4", Manner::Spread, false),
-        ("let", Manner::Run, false),
-        ("who", Manner::Run, true),
-        ("pxcor", Manner::Run, true),
-        ("pycor", Manner::Run, true),
-        ("end1", Manner::Run, true),
-        ("end2", Manner::Run, true),
-        ("xcor", Manner::Run, false),
-        ("breed", Manner::Run, false),
-    ] {
-        let found = words.find(name.as_bytes());
-        assert_eq!(rt; found.map(|entry| entry.manner), Some(manner), "{name}");
-        assert_eq!(rt; found.map(|entry| entry.fixed), Some(fixed), "{name}");
+    for &(name, manner, fixed) in MANNERS {
+        assert!(rt; has_manner(name, manner, fixed), "{name}");
+    }
+}
+
+const LEAVING: &[(&str, Leaving)] = &[
+    ("report", Leaving::Reports),
+    ("stop", Leaving::Stops),
+    ("die", Leaving::Stays),
+    ("loop", Leaving::Stays),
+];
+
+fn has_leaving(name: &str, leaving: Leaving) -> bool {
+    match row_of(name) {
+        Some(row) => row.leaving == leaving,
+        None => false,
     }
 }
 
 #[test]
 fn two_words_leave_a_procedure(rt: HostRuntime) {
-    let words = base_words();
-    for (name, leaving) in [
-        ("report", Leaving::Reports),
-        ("stop", Leaving::Stops),
-        ("die", Leaving::Stays),
-        ("loop", Leaving::Stays),
-    ] {
-        assert_eq!(rt;
-            words.find(name.as_bytes()).map(|entry| entry.leaving),
-            Some(leaving),
-            "{name}"
-        );
+    for &(name, leaving) in LEAVING {
+        assert!(rt; has_leaving(name, leaving), "{name}");
+    }
+}
+
+const MANY: &[(&str, bool)] = &[
+    ("list", true),
+    ("se", true),
+    ("range", true),
+    ("link-set", true),
+    ("sum", false),
+    ("item", false),
+];
+
+fn takes_many(name: &str, many: bool) -> bool {
+    match row_of(name) {
+        Some(row) => row.many == many,
+        None => false,
     }
 }
 
 #[test]
 fn some_words_take_any_number_of_inputs_in_parentheses(rt: HostRuntime) {
-    let words = base_words();
-    for (name, many) in [
-        ("list", true),
-        ("se", true),
-        ("range", true),
-        ("link-set", true),
-        ("sum", false),
-        ("item", false),
-    ] {
-        assert_eq!(rt;
-            words.find(name.as_bytes()).map(|entry| entry.many),
-            Some(many),
-            "{name}"
-        );
+    for &(name, many) in MANY {
+        assert!(rt; takes_many(name, many), "{name}");
     }
 }
 
+const NO_WORDS: &[&str] = &[
+    "", "as", "asks", "ASK", " ask", "!", "yello", "yellowy", "->", "foreach", "n-values", "run",
+    "z",
+];
+
 #[test]
 fn other_names_have_no_row(rt: HostRuntime) {
-    let words = base_words();
-    for name in [
-        "", "as", "asks", "ASK", " ask", "!", "yello", "yellowy", "->", "foreach", "n-values",
-        "run", "z",
-    ] {
-        assert!(rt; words.find(name.as_bytes()).is_none(), "{name}");
+    for name in NO_WORDS {
+        assert!(rt; row_of(name).is_none(), "{name}");
+    }
+}
+
+const CODES: &[(u16, &str)] = &[
+    (codes::NOT_EQUAL, "!="),
+    (codes::MINUS, "-"),
+    (codes::POWER, "^"),
+    (codes::ALL, "all?"),
+    (codes::BF, "bf"),
+    (codes::IS_LINK_SET, "is-link-set?"),
+    (codes::LT, "lt"),
+    (codes::MAGENTA, "magenta"),
+    (codes::SELF, "self"),
+    (codes::YELLOW, "yellow"),
+];
+
+/// Whether there are so many rows, and the first, the last and one between have the codes of their places.
+fn are_places() -> bool {
+    ROWS == 334 && codes::NOT_EQUAL == 0 && codes::ABS == 11 && codes::YELLOW == 333
+}
+
+fn has_code(name: &str, code: u16) -> bool {
+    match row_of(name) {
+        Some(row) => row.code == code,
+        None => false,
+    }
+}
+
+fn has_name(code: u16, name: &str) -> bool {
+    match base_words().row(code) {
+        Some(row) => row.name == name,
+        None => false,
     }
 }
 
 #[test]
 fn codes_are_places_and_have_names(rt: HostRuntime) {
-    let words = base_words();
-    assert_eq!(rt; ROWS, 334);
-    assert_eq!(rt; codes::NOT_EQUAL, 0);
-    assert_eq!(rt; codes::ABS, 11);
-    assert_eq!(rt; codes::YELLOW, 333);
-    for (code, name) in [
-        (codes::NOT_EQUAL, "!="),
-        (codes::MINUS, "-"),
-        (codes::POWER, "^"),
-        (codes::ALL, "all?"),
-        (codes::BF, "bf"),
-        (codes::IS_LINK_SET, "is-link-set?"),
-        (codes::LT, "lt"),
-        (codes::MAGENTA, "magenta"),
-        (codes::SELF, "self"),
-        (codes::YELLOW, "yellow"),
-    ] {
-        assert_eq!(rt;
-            words.find(name.as_bytes()).map(|entry| entry.code),
-            Some(code),
-            "{name}"
-        );
-        assert_eq!(rt;
-            words.row(code).map(|entry| entry.name),
-            Some(name),
-            "{code}"
-        );
+    assert!(rt; are_places());
+    for &(code, name) in CODES {
+        assert!(rt; has_code(name, code), "{name}");
+        assert!(rt; has_name(code, name), "{code}");
     }
-    assert!(rt; words.row(334).is_none());
+    assert!(rt; base_words().row(334).is_none());
 }

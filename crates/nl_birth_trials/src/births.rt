@@ -100,12 +100,16 @@ fn is_number<S: Store>(tried: &Tried<S>, turtle: u64, name: &str, millionths: i6
     }
 }
 
+fn assert_looks<S: Store>(rt: &impl Abort, tried: &Tried<S>) {
+    for (turtle, color, heading) in SEVEN_LOOKS {
+        assert!(rt; is_number(tried, *turtle, "color", *color), "{turtle}");
+        assert!(rt; is_number(tried, *turtle, "heading", *heading), "{turtle}");
+    }
+}
+
 fn assert_seven<S: Store>(rt: &impl Abort, alloc: Global) {
     let tried: Tried<S> = acted(rt, alloc, &[], SEVEN);
-    for (turtle, color, heading) in SEVEN_LOOKS {
-        assert!(rt; is_number(&tried, *turtle, "color", *color), "{turtle}");
-        assert!(rt; is_number(&tried, *turtle, "heading", *heading), "{turtle}");
-    }
+    assert_looks(rt, &tried);
 }
 
 #[test]

@@ -40,12 +40,16 @@ fn lists_everyone<S: Store>(tried: &Tried<S>, alloc: Global) -> bool {
         && tried.counts_up(alloc, Listed::On(HERE), count)
 }
 
+fn assert_flooded<S: Store>(rt: &impl Abort, alloc: Global, tried: &mut Tried<S>) {
+    assert!(rt; tried.store.turtle_count() == MOST_TURTLES);
+    assert!(rt; lists_everyone(tried, alloc));
+    assert!(rt; copies(tried, alloc));
+    assert!(rt; lists_everyone(tried, alloc));
+}
+
 fn assert_flood<S: Store>(rt: &impl Abort, alloc: Global) {
     let mut tried: Tried<S> = acted(rt, alloc, &[], FLOOD);
-    assert!(rt; tried.store.turtle_count() == MOST_TURTLES);
-    assert!(rt; lists_everyone(&tried, alloc));
-    assert!(rt; copies(&mut tried, alloc));
-    assert!(rt; lists_everyone(&tried, alloc));
+    assert_flooded(rt, alloc, &mut tried);
 }
 
 #[test]
@@ -102,12 +106,16 @@ const TWO_SPROUT: &[Act] = &[(
     ],
 )];
 
+fn assert_most_live<S: Store>(rt: &impl Abort, tried: &Tried<S>) {
+    assert!(rt; tried.store.turtle_count() == MOST_TURTLES);
+}
+
 fn assert_full<S: Store>(rt: &impl Abort, alloc: Global) {
     let mut tried: Tried<S> = acted(rt, alloc, &[], FULL);
-    assert!(rt; tried.store.turtle_count() == MOST_TURTLES);
+    assert_most_live(rt, &tried);
     go_on(rt, alloc, &mut tried, TWO_DIE);
     act(rt, alloc, &mut tried, TWO_SPROUT);
-    assert!(rt; tried.store.turtle_count() == MOST_TURTLES);
+    assert_most_live(rt, &tried);
 }
 
 #[test]
@@ -158,23 +166,37 @@ fn lists_web<S: Store>(tried: &Tried<S>, alloc: Global) -> bool {
         && tried.counts_up(alloc, Listed::LinksOf(0), MOST_TURTLES as u64 - 1)
 }
 
-fn assert_web<S: Store>(rt: &impl Abort, alloc: Global) {
-    let mut tried: Tried<S> = acted(rt, alloc, &[], EVERYONE);
-    assert!(rt; links_all(&mut tried, alloc, 0, Answer::Many(0, 199_999)));
-    assert!(rt; links_all(&mut tried, alloc, 1, Answer::Many(199_999, 199_998)));
-    assert!(rt; links_all(&mut tried, alloc, 2, TOO_MANY));
+// As many links are made as may live, and no more.
+fn assert_linked<S: Store>(rt: &impl Abort, alloc: Global, tried: &mut Tried<S>) {
+    assert!(rt; links_all(tried, alloc, 0, Answer::Many(0, 199_999)));
+    assert!(rt; links_all(tried, alloc, 1, Answer::Many(199_999, 199_998)));
+    assert!(rt; links_all(tried, alloc, 2, TOO_MANY));
     assert!(rt; tried.store.link_count() == MOST_LINKS);
-    assert!(rt; links_one(&mut tried, alloc, 0, Way::With, 10, 11, TOO_MANY));
-    assert!(rt; links_one(&mut tried, alloc, 0, Way::With, 1, 11, Answer::Done));
+    assert!(rt; links_one(tried, alloc, 0, Way::With, 10, 11, TOO_MANY));
+    assert!(rt; links_one(tried, alloc, 0, Way::With, 1, 11, Answer::Done));
     assert!(rt; tried.store.link_count() == MOST_LINKS);
-    assert!(rt; lists_web(&tried, alloc));
-    assert!(rt; copies(&mut tried, alloc));
-    assert!(rt; lists_web(&tried, alloc));
+}
+
+// The links are listed and copied.
+fn assert_listed<S: Store>(rt: &impl Abort, alloc: Global, tried: &mut Tried<S>) {
+    assert!(rt; lists_web(tried, alloc));
+    assert!(rt; copies(tried, alloc));
+    assert!(rt; lists_web(tried, alloc));
     // The three for which there was room.
     assert!(rt; tried.answers(alloc, Look::LinksOf(4, &[3, 200_001, 399_998])));
+}
+
+fn assert_cleared<S: Store>(rt: &impl Abort, alloc: Global, tried: &mut Tried<S>) {
     assert!(rt; tried.play(alloc, Step::ClearTurtles));
     assert!(rt; tried.store.turtle_count() == 0 && tried.store.link_count() == 0);
     assert!(rt; tried.store.base() == 200_000);
+}
+
+fn assert_web<S: Store>(rt: &impl Abort, alloc: Global) {
+    let mut tried: Tried<S> = acted(rt, alloc, &[], EVERYONE);
+    assert_linked(rt, alloc, &mut tried);
+    assert_listed(rt, alloc, &mut tried);
+    assert_cleared(rt, alloc, &mut tried);
 }
 
 #[test]
@@ -204,11 +226,15 @@ const HUB_DIES: &[Scene] = &[(
     ],
 )];
 
+fn assert_hub_dies<S: Store>(rt: &impl Abort, alloc: Global, tried: &mut Tried<S>) {
+    assert!(rt; links_among(tried, alloc, CROWD, 0, Answer::Many(0, 1_000)));
+    go_on(rt, alloc, tried, HUB_DIES);
+    assert!(rt; tried.store.turtle_count() == 1_000);
+}
+
 fn assert_star<S: Store>(rt: &impl Abort, alloc: Global) {
     let mut tried: Tried<S> = acted(rt, alloc, &[], CROWD_IS_BORN);
-    assert!(rt; links_among(&mut tried, alloc, CROWD, 0, Answer::Many(0, 1_000)));
-    go_on(rt, alloc, &mut tried, HUB_DIES);
-    assert!(rt; tried.store.turtle_count() == 1_000);
+    assert_hub_dies(rt, alloc, &mut tried);
 }
 
 #[test]

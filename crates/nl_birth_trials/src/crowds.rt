@@ -88,11 +88,15 @@ const FULL: &[Scene] = &[
     ),
 ];
 
+fn assert_filled<S: Store>(rt: &impl Abort, alloc: Global, tried: &mut Tried<S>) {
+    assert!(rt; bears(tried, alloc, MOST_TURTLES - 1));
+    assert!(rt; finds(tried, alloc, MOST_TURTLES - 1));
+    go_on(rt, alloc, tried, FULL);
+}
+
 fn assert_full<S: Store>(rt: &impl Abort, alloc: Global) {
     let mut tried: Tried<S> = begun(rt, alloc, &[]);
-    assert!(rt; bears(&mut tried, alloc, MOST_TURTLES - 1));
-    assert!(rt; finds(&tried, alloc, MOST_TURTLES - 1));
-    go_on(rt, alloc, &mut tried, FULL);
+    assert_filled(rt, alloc, &mut tried);
 }
 
 #[test]
@@ -103,12 +107,16 @@ fn two_hundred_thousand_turtles_may_live(rt: HostRuntime) {
 
 const CROWD: u64 = 10_000;
 
+fn assert_listed<S: Store>(rt: &impl Abort, alloc: Global, tried: &mut Tried<S>) {
+    assert!(rt; bears(tried, alloc, CROWD));
+    assert!(rt; lists_foxes(tried, alloc, CROWD));
+    assert!(rt; copies(tried, alloc));
+    assert!(rt; lists_foxes(tried, alloc, CROWD));
+}
+
 fn assert_copied<S: Store>(rt: &impl Abort, alloc: Global) {
     let mut tried: Tried<S> = begun(rt, alloc, &[]);
-    assert!(rt; bears(&mut tried, alloc, CROWD));
-    assert!(rt; lists_foxes(&tried, alloc, CROWD));
-    assert!(rt; copies(&mut tried, alloc));
-    assert!(rt; lists_foxes(&tried, alloc, CROWD));
+    assert_listed(rt, alloc, &mut tried);
 }
 
 #[test]
@@ -128,14 +136,18 @@ const HUB_DIES: &[Scene] = &[(
     ],
 )];
 
+fn assert_spokes<S: Store>(rt: &impl Abort, alloc: Global, tried: &mut Tried<S>) {
+    assert!(rt; bears(tried, alloc, SPOKES + 1));
+    assert!(rt; ties(tried, alloc, SPOKES));
+    assert!(rt; lists_spokes(tried, alloc, SPOKES));
+    assert!(rt; copies(tried, alloc));
+    assert!(rt; lists_spokes(tried, alloc, SPOKES));
+    go_on(rt, alloc, tried, HUB_DIES);
+}
+
 fn assert_star<S: Store>(rt: &impl Abort, alloc: Global) {
     let mut tried: Tried<S> = begun(rt, alloc, &[]);
-    assert!(rt; bears(&mut tried, alloc, SPOKES + 1));
-    assert!(rt; ties(&mut tried, alloc, SPOKES));
-    assert!(rt; lists_spokes(&tried, alloc, SPOKES));
-    assert!(rt; copies(&mut tried, alloc));
-    assert!(rt; lists_spokes(&tried, alloc, SPOKES));
-    go_on(rt, alloc, &mut tried, HUB_DIES);
+    assert_spokes(rt, alloc, &mut tried);
 }
 
 #[test]
@@ -161,14 +173,14 @@ const FAR: &[Scene] = &[(
     ],
 )];
 
+// A store of 201 by 201 patches. None at want of memory.
+fn wide<S: Store>(alloc: Global) -> Option<Tried<S>> {
+    let shape = Shape::new(-100, 100, -100, 100, true, true)?;
+    Tried::<S>::of(alloc, program(alloc)?, shape)
+}
+
 fn assert_wide<S: Store>(rt: &impl Abort, alloc: Global) {
-    let Some(model) = program(alloc) else {
-        panic!(rt);
-    };
-    let Some(shape) = Shape::new(-100, 100, -100, 100, true, true) else {
-        panic!(rt);
-    };
-    let Some(mut tried) = Tried::<S>::of(alloc, model, shape) else {
+    let Some(mut tried) = wide::<S>(alloc) else {
         panic!(rt);
     };
     go_on(rt, alloc, &mut tried, FAR);

@@ -2,7 +2,7 @@
 //!
 //! Coordinates are in tenths.
 
-use crate::making::{Act, Answer, Call, NONE, acted, assert_acts, links};
+use crate::making::{Act, Answer, Call, NONE, acted, assert_acts, let_go, links};
 use nl_agents::Store;
 use nl_birth::{BirthFail, Way};
 use nl_plain::Plain;
@@ -49,29 +49,27 @@ const CLIQUE: &[(u64, &[u64], &[u64])] = &[
     (9, &[0, 1, 2, 3, 4, 5, 6, 7, 8], &[]),
 ];
 
+// Makes links of each member with all others, all that are missing or none.
+fn assert_linked<S: Store>(rt: &impl Abort, alloc: Global, tried: &mut Tried<S>, missing: bool) {
+    for (caller, others, made) in CLIQUE {
+        let answer = if missing { Answer::Made(made) } else { NONE };
+        assert!(rt;
+            links(tried, alloc, 0, Way::With, *caller, others, answer),
+            "{caller}"
+        );
+    }
+    assert!(rt; tried.store.link_count() == 45);
+}
+
+const OF_THE_LAST: Look = Look::LinksOf(9, &[8, 16, 23, 29, 34, 38, 41, 43, 44]);
+
 fn assert_clique<S: Store>(rt: &impl Abort, alloc: Global) {
     let mut tried: Tried<S> = acted(rt, alloc, &[], TEN);
-    for (caller, others, made) in CLIQUE {
-        let answer = Answer::Made(made);
-        assert!(rt;
-            links(&mut tried, alloc, 0, Way::With, *caller, others, answer),
-            "{caller}"
-        );
-    }
-    assert_eq!(rt; tried.store.link_count(), 45);
-    for (caller, others, _made) in CLIQUE {
-        assert!(rt;
-            links(&mut tried, alloc, 0, Way::With, *caller, others, NONE),
-            "{caller}"
-        );
-    }
-    assert_eq!(rt; tried.store.link_count(), 45);
-    assert!(rt;
-        tried.answers(
-            alloc,
-            Look::LinksOf(9, &[8, 16, 23, 29, 34, 38, 41, 43, 44])
-        )
-    );
+    assert_linked(rt, alloc, &mut tried, true);
+    assert_linked(rt, alloc, &mut tried, false);
+    let last = tried.answers(alloc, OF_THE_LAST);
+    let_go(tried);
+    assert!(rt; last);
 }
 
 #[test]

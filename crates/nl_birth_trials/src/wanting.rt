@@ -119,12 +119,10 @@ fn is_count(count: usize, before: usize, more: usize, all: bool) -> bool {
     }
 }
 
-fn assert_kept<S: Store>(rt: &impl Abort, alloc: Global, trial: &Trial) {
-    let Some(mut tried) = begun::<S>(alloc) else {
-        return;
-    };
+// Makes the call, after which all that it makes live, or the first ones.
+fn assert_made<S: Store>(rt: &impl Abort, alloc: Global, tried: &mut Tried<S>, trial: &Trial) {
     let (call, answer, turtles, links) = *trial;
-    let all = makes(&mut tried, alloc, &mut Stream::new(42), call, answer);
+    let all = makes(tried, alloc, &mut Stream::new(42), call, answer);
     assert!(rt;
         is_count(tried.store.turtle_count(), TURTLES, turtles, all),
         "{call:?}"
@@ -134,22 +132,39 @@ fn assert_kept<S: Store>(rt: &impl Abort, alloc: Global, trial: &Trial) {
         "{call:?}"
     );
     assert!(rt; are_first(&tried.store), "{call:?}");
+}
+
+// Asks what is true before a call and after it.
+fn assert_unchanged<S: Store>(rt: &impl Abort, alloc: Global, tried: &Tried<S>, call: Call) {
     for look in ALWAYS {
         assert!(rt; tried.answers(alloc, *look), "{call:?}: {look:?}");
     }
+}
+
+fn assert_kept<S: Store>(rt: &impl Abort, alloc: Global, trial: &Trial) {
+    let Some(mut tried) = begun::<S>(alloc) else {
+        return;
+    };
+    assert_made(rt, alloc, &mut tried, trial);
+    assert_unchanged(rt, alloc, &tried, trial.0);
+}
+
+// Makes the call, after which the link that it makes lives, or none but those from before.
+fn assert_one_made<S: Store>(rt: &impl Abort, alloc: Global, tried: &mut Tried<S>, trial: &Trial) {
+    let (call, answer, _, links) = *trial;
+    let done = makes(tried, alloc, &mut Stream::new(42), call, answer);
+    let more = if done { links } else { 0 };
+    assert!(rt;
+        is_count(tried.store.link_count(), LINKS, more, true),
+        "{call:?}"
+    );
 }
 
 fn assert_one<S: Store>(rt: &impl Abort, alloc: Global, trial: &Trial) {
     let Some(mut tried) = begun::<S>(alloc) else {
         return;
     };
-    let (call, answer, _, links) = *trial;
-    let done = makes(&mut tried, alloc, &mut Stream::new(42), call, answer);
-    let more = if done { links } else { 0 };
-    assert!(rt;
-        is_count(tried.store.link_count(), LINKS, more, true),
-        "{call:?}"
-    );
+    assert_one_made(rt, alloc, &mut tried, trial);
 }
 
 #[test]

@@ -68,6 +68,36 @@ const BIRTHS: &[Row] = &[
             ("sort owls", Ends::Says("[(owl 1)]")),
         ],
     },
+    // A breed's tests are true of its own alone.
+    Row {
+        text: "create-ordered-foxes 1 create-ordered-owls 1 cro 1 ask fox 0 [ create-rope-with owl 1 ]",
+        ends: Ends::Done,
+        spent: 6,
+        looks: &[
+            (
+                "(list is-fox? turtle 0 is-fox? turtle 1 is-fox? turtle 2 is-owl? turtle 1 is-turtle? turtle 2)",
+                Ends::Says("[true false false true true]"),
+            ),
+            (
+                "(list is-fox? nobody is-fox? 5 is-fox? patch 0 0 is-fox? foxes)",
+                Ends::Says("[false false false false]"),
+            ),
+            (
+                "(list is-rope? one-of links is-link? one-of ropes is-rope? turtle 0 is-rope? nobody)",
+                Ends::Says("[true true false false]"),
+            ),
+            ("is-fox? turtle 1 or is-owl? turtle 0", Ends::Says("false")),
+        ],
+    },
+    Row {
+        text: "cro 2 ask turtle 0 [ create-link-with turtle 1 ]",
+        ends: Ends::Done,
+        spent: 4,
+        looks: &[(
+            "(list is-rope? one-of links is-link? one-of links is-link? turtle 0 is-turtle? one-of links)",
+            Ends::Says("[false true false false]"),
+        )],
+    },
     Row {
         text: "cro 2 ask turtle 0 [ create-link-to turtle 1 create-link-with turtle 1 ]",
         ends: Ends::Fails(ErrorKind::LinkFault, 45, 0),

@@ -1,11 +1,12 @@
 -- The box of a radius holds each patch on which one within the radius can stand.
-use Rattle.std.proofs.Common.{ℕ, zero, suc, ◌+◌, ◌-◌, ◌*◌, ◌<◌, ◌≤◌, ◌≡◌, min, nat_lt, true, false, int_le, ℤ, pos, ◌+ℤ◌, ◌-ℤ◌, neg_ℤ, ◌≤ℤ◌, ◌<ℤ◌, unsigned_abs, Contains, ◌⊎◌, inl, inr, arith, refl, sym, ap, ◌∙◌}
+use Rattle.std.proofs.Common.{ℕ, zero, suc, ◌+◌, ◌-◌, ◌*◌, ◌<◌, ◌≤◌, ◌≡◌, min, nat_lt, true, false, int_le, ℤ, pos, ◌+ℤ◌, ◌-ℤ◌, neg_ℤ, ◌≤ℤ◌, ◌<ℤ◌, unsigned_abs, Contains, to_z, of_z, ◌⊎◌, inl, inr, arith, refl, sym, ap, ◌∙◌}
+use Rattle.std.specs.Int.{w64, int_div_euclid}
 use lib.Signed.{lt_z}
 use Rattle.std.proofs.Math.Nat.{add_comm}
 use Rattle.std.proofs.lemmas.Nat.{mul-add-lt, div-mul-add, mod-mul-add}
 use Rattle.std.proofs.lemmas.Int.{ints}
-use Rattle.nl_fixed.specs.Numbers.{one, whole_root}
-use Rattle.nl_fixed.proofs.Integers.{floor_low, rounded_low, rounded_high, rounded_only}
+use Rattle.nl_fixed.specs.Numbers.{one, IsInRange, whole_root}
+use Rattle.nl_fixed.proofs.Integers.{floor_low, floor_high, rounded_low, rounded_high, rounded_only}
 use Rattle.nl_fixed.proofs.RootLemmas.{root_greatest}
 use Rattle.nl_grid.specs.declared.axis.Axis.{Axis}
 use Rattle.nl_grid.specs.declared.point.Point.{Point}
@@ -159,3 +160,11 @@ box_covers plane at to radius limits from_point to_point near =
 pub box_is : (plane : Plane) (at : Point) (radius : ℤ) → patches_near plane (reach_of radius) (patch_at plane at) ≡ box_patches plane at radius
 unfolding box_patches
 box_is plane at radius = refl
+
+-- the reach of a radius as the code works it out
+pub reach_is : (radius count quotient : ℤ) → IsInRange count → count ≡ radius → quotient ≡ int_div_euclid (to_z w64 (of_z w64 (pos 0 -ℤ to_z w64 (of_z w64 count)))) (pos 1000000) → to_z w64 (of_z w64 (pos 1 -ℤ to_z w64 (of_z w64 quotient))) ≡ reach_of radius
+reach_is radius count quotient range is is_quotient =
+    let some : 0 < 1000000 = omega arith in
+    let opposite : to_z w64 (of_z w64 (pos 0 -ℤ to_z w64 (of_z w64 count))) ≡ neg_ℤ radius = omega (arith, ints) in
+    let floor = is_quotient ∙ ap (λ z. int_div_euclid z (pos 1000000)) opposite in
+    omega (arith, ints, floor, floor_low (neg_ℤ radius) 1000000 some, floor_high (neg_ℤ radius) 1000000 some)

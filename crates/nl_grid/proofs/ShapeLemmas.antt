@@ -1,14 +1,14 @@
 -- Points and patches of a plane.
-use Rattle.std.proofs.Common.{ℕ, ◌+◌, ◌-◌, ◌*◌, ◌/◌, ◌<◌, ◌≤◌, ◌≡◌, ℤ, pos, ◌-ℤ◌, ◌*ℤ◌, unsigned_abs, to_z, of_z, Some, inl, inr, subst, arith, refl, sym, ap, ◌∙◌}
+use Rattle.std.proofs.Common.{ℕ, Bool, FitsSigned, ◌+◌, ◌-◌, ◌*◌, ◌/◌, ◌<◌, ◌≤◌, ◌≡◌, ℤ, pos, ◌-ℤ◌, ◌*ℤ◌, unsigned_abs, to_z, of_z, Some, inl, inr, subst, arith, refl, sym, ap, ap₂, ◌∙◌}
 use Rattle.std.specs.Int.{w64}
 use Rattle.std.proofs.lemmas.Int.{ints}
 use Rattle.std.proofs.lemmas.Bool.{cases_lt}
 use Rattle.std.proofs.lemmas.Nat.{mul-add-lt, mul-le, mod_below, row-Below}
-use Rattle.nl_fixed.specs.Numbers.{one, number_at, whole_root}
+use Rattle.nl_fixed.specs.Numbers.{limit, one, IsInRange, number_at, whole_root}
 use Rattle.nl_fixed.proofs.RootLemmas.{root_square}
 use Rattle.nl_grid.specs.declared.axis.Axis.{Axis}
 use Rattle.nl_grid.specs.declared.point.Point.{Point}
-use Rattle.nl_grid.specs.Geometry.{Plane, IsAxis, IsWithinLimits, IsInside, side, patches_of, patch_coordinate, number_of_patch, patch_at, wrapped_point, patch_by_coordinates, axis_offset, x_offset, y_offset, distance_of, column, row, pxcor_of, pycor_of, center_of}
+use Rattle.nl_grid.specs.Geometry.{Plane, IsAxis, IsWithinLimits, IsInside, IsPointOf, side, patches_of, patch_coordinate, number_of_patch, patch_at, plane_of, wrapped_point, patch_by_coordinates, axis_offset, x_offset, y_offset, distance_of, column, row, pxcor_of, pycor_of, center_of}
 use Rattle.nl_grid.proofs.WayLemmas.{offset_small}
 
 -- the patch by its indices on the axes
@@ -67,6 +67,25 @@ pub distance_is : (plane : Plane) (from to : Point) (a b root : ℕ) → a ≡ u
 unfolding distance_of
 distance_is plane from to a b root is_a is_b is = is ∙ rw (is_a, is_b) refl
 
+-- the same as the code counts it
+pub part_is : (part count : ℤ) (size wide : ℕ) → IsInRange count → count ≡ part → size ≡ unsigned_abs (to_z w64 (of_z w64 count)) → wide ≡ size → wide ≡ unsigned_abs part
+part_is part count size wide range is is_size is_wide = omega (arith, ints)
+
+pub distance_small : (plane : Plane) (from to : Point) (a b root : ℕ) → IsWithinLimits plane → IsPointOf plane from → IsPointOf plane to → a ≡ unsigned_abs (x_offset plane from to) → b ≡ unsigned_abs (y_offset plane from to) → root ≡ whole_root (a * a + b * b) → root ≤ 2000000000
+distance_small plane from to a b root limits of_from of_to is_a is_b is =
+    let small_a = offset_within plane.x from.x to.x limits.x of_from.x of_to.x in
+    let small_b = offset_within plane.y from.y to.y limits.y of_from.y of_to.y in
+    root_small a b root (subst (λ (n : ℕ). n ≤ 1001000000) (sym is_a) small_a) (subst (λ (n : ℕ). n ≤ 1001000000) (sym is_b) small_b) is
+
+pub cast_is : (root : ℕ) → root ≤ 2000000000 → to_z w64 root ≡ pos root
+cast_is root small = omega (arith, ints)
+
+pub cast_fits : (root : ℕ) → root ≤ 2000000000 → FitsSigned w64 (pos root)
+cast_fits root small = omega (arith, ints)
+
+pub cast_in_range : (root : ℕ) → root ≤ 2000000000 → unsigned_abs (to_z w64 root) ≤ limit
+cast_in_range root small = omega (arith, ints)
+
 -- ---- a patch by whole coordinates
 
 pub number_is : (count number : ℤ) → number_at count ≡ Some number → number ≡ count
@@ -77,3 +96,10 @@ unfolding patch_by_coordinates
 by_coordinates plane pxcor pycor x y at patch is_x is_y is_at is =
     let here : wrapped_point plane (pxcor *ℤ pos one) (pycor *ℤ pos one) ≡ Some at = rw (← is_x, ← is_y) is_at in
     rw (here, is) refl
+
+-- ---- a plane by its coordinates as the code holds them
+
+pub plane_fits : (least_x greatest_x least_y greatest_y a b c d : ℤ) (wraps_x wraps_y : Bool) (width height : ℕ) → a ≡ least_x → b ≡ greatest_x → c ≡ least_y → d ≡ greatest_y → IsAxis (record { least = a; greatest = b; wraps = wraps_x }) → IsAxis (record { least = c; greatest = d; wraps = wraps_y }) → width ≡ side (record { least = a; greatest = b; wraps = wraps_x }) → height ≡ side (record { least = c; greatest = d; wraps = wraps_y }) → width * height ≤ 262144 → IsWithinLimits (plane_of least_x greatest_x least_y greatest_y wraps_x wraps_y)
+plane_fits least_x greatest_x least_y greatest_y a b c d wraps_x wraps_y width height is_a is_b is_c is_d x y is_width is_height few =
+    let fits : IsWithinLimits (plane_of a b c d wraps_x wraps_y) = record { x = x; y = y; few = subst (λ (n : ℕ). n ≤ 262144) (ap₂ (λ (w h : ℕ). w * h) is_width is_height) few } in
+    rw (is_a, is_b, is_c, is_d) at fits

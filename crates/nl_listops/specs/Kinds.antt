@@ -6,7 +6,7 @@ use Rattle.nl_value.specs.Plain.{Plain, PlainNumber, PlainTruth, PlainWords, Pla
 use Rattle.nl_value.specs.Living.{Living, same_kind}
 use Rattle.nl_value.specs.Sets.{set_kind}
 use Rattle.nl_listops.specs.declared.words.KindTest.{KindTest}
-use Rattle.nl_listops.specs.declared.words.KindTest.TheVariants.{Number, Boolean, Text, List, Agent, Turtle, Patch, Link, Agentset, TurtleSet, PatchSet, LinkSet}
+use Rattle.nl_listops.specs.declared.words.KindTest.TheVariants.{Number, Boolean, Text, List, Agent, Patch, Agentset, TurtleSet, PatchSet, LinkSet}
 
 abbrev pub is_agent : Living → Plain → Bool
 is_agent w (PlainTurtle turtle) = w.turtle_lives turtle
@@ -28,12 +28,8 @@ is_kind w Text value = false
 is_kind w List (PlainItems items) = true
 is_kind w List value = false
 is_kind w Agent value = is_agent w value
-is_kind w Turtle (PlainTurtle turtle) = w.turtle_lives turtle
-is_kind w Turtle value = false
 is_kind w Patch (PlainPatch patch) = true
 is_kind w Patch value = false
-is_kind w Link (PlainLink link) = w.link_lives link
-is_kind w Link value = false
 is_kind w Agentset (PlainSet set) = true
 is_kind w Agentset value = false
 is_kind w TurtleSet value = is_set_of agents.Turtle value

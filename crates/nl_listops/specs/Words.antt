@@ -69,14 +69,12 @@ kind_word n =
     else (if n == code.IS_STRING then Some (word.IsKind kind.Text)
     else (if n == code.IS_LIST then Some (word.IsKind kind.List)
     else (if n == code.IS_AGENT then Some (word.IsKind kind.Agent)
-    else (if n == code.IS_TURTLE then Some (word.IsKind kind.Turtle)
     else (if n == code.IS_PATCH then Some (word.IsKind kind.Patch)
-    else (if n == code.IS_LINK then Some (word.IsKind kind.Link)
     else (if n == code.IS_AGENTSET then Some (word.IsKind kind.Agentset)
     else (if n == code.IS_TURTLE_SET then Some (word.IsKind kind.TurtleSet)
     else (if n == code.IS_PATCH_SET then Some (word.IsKind kind.PatchSet)
     else (if n == code.IS_LINK_SET then Some (word.IsKind kind.LinkSet)
-    else None)))))))))))
+    else None)))))))))
 
 -- lists, and what makes them
 abbrev pub list_word : Code → Option ValueWord

@@ -66,7 +66,7 @@ pub enum Comparison {
     GreaterEqual,
 }
 
-/// Tests of a value's kind.
+/// Tests of a value's kind. Those of turtles and links, which a breed may have of its own, are queries.
 #[derive(Clone, Copy)]
 pub enum KindTest {
     Number,
@@ -74,9 +74,7 @@ pub enum KindTest {
     Text,
     List,
     Agent,
-    Turtle,
     Patch,
-    Link,
     Agentset,
     TurtleSet,
     PatchSet,
@@ -244,9 +242,7 @@ fn kind_word(code: u16) -> Option<ValueWord>
         codes::IS_STRING => Some(ValueWord::IsKind(KindTest::Text)),
         codes::IS_LIST => Some(ValueWord::IsKind(KindTest::List)),
         codes::IS_AGENT => Some(ValueWord::IsKind(KindTest::Agent)),
-        codes::IS_TURTLE => Some(ValueWord::IsKind(KindTest::Turtle)),
         codes::IS_PATCH => Some(ValueWord::IsKind(KindTest::Patch)),
-        codes::IS_LINK => Some(ValueWord::IsKind(KindTest::Link)),
         codes::IS_AGENTSET => Some(ValueWord::IsKind(KindTest::Agentset)),
         codes::IS_TURTLE_SET => Some(ValueWord::IsKind(KindTest::TurtleSet)),
         codes::IS_PATCH_SET => Some(ValueWord::IsKind(KindTest::PatchSet)),

@@ -9,3 +9,4 @@ pub mod Ends
 pub mod Ground
 pub mod BirthsGround
 pub mod Thrift
+pub mod Families

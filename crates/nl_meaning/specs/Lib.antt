@@ -9,3 +9,4 @@ pub mod Walks
 pub mod Makings
 pub mod Meaning
 pub mod Laws
+pub mod Families

@@ -1,4 +1,4 @@
-//! Trials of models, lone texts and experiments, each with what it is and with each kind of its faults.
+//! Trials of models, lone texts and experiments, each with what it is and with each kind of its faults; and of the trees of texts.
 #![tactic(auto)]
 
 #[cfg(test)]
@@ -8,4 +8,8 @@ mod lone;
 #[cfg(test)]
 mod models;
 #[cfg(test)]
+mod readings;
+#[cfg(test)]
 mod texts;
+#[cfg(test)]
+mod trees;

@@ -90,14 +90,20 @@ fn all_say(alloc: Global, program: &Program, form: Form, texts: &[(&[u8], Said)]
     true
 }
 
+// Whether the texts say these things beside a program without procedures.
+fn all_say_alone(alloc: Global, form: Form, texts: &[(&[u8], Said)]) -> bool {
+    let Ok(program) = empty_program(alloc) else {
+        return false;
+    };
+    let answer = all_say(alloc, &program, form, texts);
+    let_go(program);
+    answer
+}
+
 #[test]
 fn texts_have_trees_or_faults_at_their_place(rt: HostRuntime) {
-    let Ok(program) = empty_program(rt.alloc()) else {
-        panic!(rt);
-    };
-    assert!(rt; all_say(rt.alloc(), &program, Form::Commands, COMMANDS));
-    assert!(rt; all_say(rt.alloc(), &program, Form::Reporter, REPORTERS));
-    let_go(program);
+    assert!(rt; all_say_alone(rt.alloc(), Form::Commands, COMMANDS));
+    assert!(rt; all_say_alone(rt.alloc(), Form::Reporter, REPORTERS));
 }
 
 // So many times one text, and another behind it.
@@ -110,15 +116,13 @@ fn repeated(alloc: Global, text: &[u8], times: usize, last: &[u8]) -> Result<Str
     Ok(whole)
 }
 
-fn long_said(
-    alloc: Global,
-    program: &Program,
-    text: &[u8],
-    times: usize,
-    last: &[u8],
-) -> Option<Said> {
+// What the commands say that are so many times one text, and another behind it.
+fn long_said(alloc: Global, text: &[u8], times: usize, last: &[u8]) -> Option<Said> {
     let text = repeated(alloc, text, times, last).ok()?;
-    said(alloc, program, Form::Commands, text.as_bytes())
+    let program = empty_program(alloc).ok()?;
+    let found = said(alloc, &program, Form::Commands, text.as_bytes());
+    let_go(program);
+    found
 }
 
 // A line of 100 characters.
@@ -127,30 +131,16 @@ const LINE: &[u8] =
 
 #[test]
 fn long_texts_are_read_to_their_end(rt: HostRuntime) {
-    let Ok(program) = empty_program(rt.alloc()) else {
-        panic!(rt);
-    };
     let alloc = rt.alloc();
-    assert_eq!(rt;
-        long_said(alloc, &program, LINE, 1_000, b"stop"),
-        Some(None)
-    );
+    assert!(rt; long_said(alloc, LINE, 1_000, b"stop") == Some(None));
     let unknown = Some((InnerKind::UnknownName, 1_001, 3));
-    assert_eq!(rt;
-        long_said(alloc, &program, LINE, 1_000, b"  foo"),
-        Some(unknown)
-    );
-    let_go(program);
+    assert!(rt; long_said(alloc, LINE, 1_000, b"  foo") == Some(unknown));
 }
 
 #[test]
 fn texts_nest_up_to_the_limit(rt: HostRuntime) {
-    let Ok(program) = empty_program(rt.alloc()) else {
-        panic!(rt);
-    };
     let deep = Some((InnerKind::TooDeep, 1, 199));
-    assert_eq!(rt; long_said(rt.alloc(), &program, b"(", 300, b""), Some(deep));
-    let_go(program);
+    assert!(rt; long_said(rt.alloc(), b"(", 300, b"") == Some(deep));
 }
 
 // 64 bytes, which go 65,536 times into the limit.
@@ -158,15 +148,8 @@ const SPACES: &[u8] = b"                                                        
 
 #[test]
 fn too_long_texts_are_refused(rt: HostRuntime) {
-    let Ok(program) = empty_program(rt.alloc()) else {
-        panic!(rt);
-    };
     let long = Some((InnerKind::TooLong, 1, 4_194_305));
-    assert_eq!(rt;
-        long_said(rt.alloc(), &program, SPACES, 65_536, b" "),
-        Some(long)
-    );
-    let_go(program);
+    assert!(rt; long_said(rt.alloc(), SPACES, 65_536, b" ") == Some(long));
 }
 
 #[test]

@@ -188,19 +188,26 @@ fn first_other(alloc: Global, program: &Program, at: usize, bads: &[Bad]) -> Opt
     None
 }
 
+// The same beside a program that declares nothing; None at want of memory.
+fn first_untold(alloc: Global, at: usize, bads: &[Bad]) -> Option<Option<&'static str>>
+    requires { at < 5 }
+{
+    let program = empty_program(alloc).ok()?;
+    let first = first_other(alloc, &program, at, bads);
+    let_go(program);
+    Some(first)
+}
+
 #[test]
 fn each_text_has_its_faults_before_those_of_later_keys(rt: HostRuntime) {
-    let alloc = rt.alloc();
-    let Ok(program) = empty_program(alloc) else {
-        panic!(rt);
-    };
     for at in 0..2 {
-        assert_eq!(rt; first_other(alloc, &program, at, COMMANDS), None, "{at}");
+        let other = first_untold(rt.alloc(), at, COMMANDS);
+        assert!(rt; other == Some(None), "{at}: {other:?}");
     }
     for at in 2..5 {
-        assert_eq!(rt; first_other(alloc, &program, at, REPORTERS), None, "{at}");
+        let other = first_untold(rt.alloc(), at, REPORTERS);
+        assert!(rt; other == Some(None), "{at}: {other:?}");
     }
-    let_go(program);
 }
 
 // Documents whose texts are good, and how many trees they have.
@@ -222,28 +229,44 @@ const USUAL: &[(&[u8], &str)] = &[
     (b"name = \"x\"\nsetup = \"\"", "go"),
 ];
 
+// Whether the texts of the document have so many trees.
+fn is_good(alloc: Global, document: &[u8], count: usize) -> bool {
+    let Ok(program) = empty_program(alloc) else {
+        return false;
+    };
+    let answer = has_trees(texts_of(alloc, &program, document), count);
+    let_go(program);
+    answer
+}
+
+// Whether this is the first fault of the document's texts.
+fn is_bad(alloc: Global, document: &[u8], wanted: Told) -> bool {
+    let Ok(program) = empty_program(alloc) else {
+        return false;
+    };
+    let answer = has_fault(texts_of(alloc, &program, document), wanted);
+    let_go(program);
+    answer
+}
+
+// An unknown name in the first line of a key's text.
+fn unknown_at(key: &'static str, column: u64) -> Told {
+    Told {
+        key,
+        kind: InnerKind::UnknownName,
+        line: 1,
+        column,
+    }
+}
+
 #[test]
 fn good_texts_have_trees_and_usual_ones_want_procedures(rt: HostRuntime) {
-    let alloc = rt.alloc();
-    let Ok(program) = empty_program(alloc) else {
-        panic!(rt);
-    };
     for (document, count) in GOOD {
-        assert!(rt; has_trees(texts_of(alloc, &program, document), *count));
+        assert!(rt; is_good(rt.alloc(), document, *count), "{count}");
     }
     for (document, key) in USUAL {
-        let unknown = Told {
-            key: *key,
-            kind: InnerKind::UnknownName,
-            line: 1,
-            column: 1,
-        };
-        assert!(rt;
-            has_fault(texts_of(alloc, &program, document), unknown),
-            "{key}"
-        );
+        assert!(rt; is_bad(rt.alloc(), document, unknown_at(key, 1)), "{key}");
     }
-    let_go(program);
 }
 
 // A document of a long text and many metrics, with one behind them.
@@ -265,29 +288,26 @@ fn long_document(
     Ok(document)
 }
 
+// Whether a long document has so many trees.
+fn is_long_and_good(alloc: Global, last: &[u8], count: usize) -> bool {
+    match long_document(alloc, 5_000, 3_000, last) {
+        Ok(document) => is_good(alloc, document.as_bytes(), count),
+        Err(_) => false,
+    }
+}
+
+// Whether this is the first fault of a long document.
+fn is_long_and_bad(alloc: Global, last: &[u8], wanted: Told) -> bool {
+    match long_document(alloc, 5_000, 3_000, last) {
+        Ok(document) => is_bad(alloc, document.as_bytes(), wanted),
+        Err(_) => false,
+    }
+}
+
 #[test]
 fn long_texts_and_many_metrics_are_read_to_their_end(rt: HostRuntime) {
     let alloc = rt.alloc();
-    let Ok(program) = empty_program(alloc) else {
-        panic!(rt);
-    };
-    let late = Told {
-        key: "metric 3001",
-        kind: InnerKind::UnknownName,
-        line: 1,
-        column: 3,
-    };
-    match long_document(alloc, 5_000, 3_000, b"\"ticks\"]\n") {
-        Ok(document) => assert!(rt;
-            has_trees(texts_of(alloc, &program, document.as_bytes()), 3_003)
-        ),
-        Err(_) => assert!(rt; false),
-    }
-    match long_document(alloc, 5_000, 3_000, b"\"  foo\"]\n") {
-        Ok(document) => assert!(rt;
-            has_fault(texts_of(alloc, &program, document.as_bytes()), late)
-        ),
-        Err(_) => assert!(rt; false),
-    }
-    let_go(program);
+    assert!(rt; is_long_and_good(alloc, b"\"ticks\"]\n", 3_003));
+    let late = unknown_at("metric 3001", 3);
+    assert!(rt; is_long_and_bad(alloc, b"\"  foo\"]\n", late));
 }

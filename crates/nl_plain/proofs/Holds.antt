@@ -116,3 +116,10 @@ pub globals_written : (w : World) (slot : Slot) (value : Plain) (globals run : L
     → run ≡ (if nat_lt slot (length w.globals) then w.rest.run else slice_set w.rest.run (slot - length w.globals) value)
     → with_observed w globals run ≡ global_set slot value w
 globals_written w slot value globals run g r = observed (nat_lt slot (length w.globals)) w slot value globals run g r
+
+-- ---- copies
+
+-- what is put together of the same parts is the same world
+pub of_same_parts : (w : World) (layout : Layout) (globals run : List Plain) (turtles : List Turtle) (patches : List Vars) (links : List Link) → layout ≡ w.rest.layout → globals ≡ w.globals → run ≡ w.rest.run → turtles ≡ w.rest.turtles → patches ≡ w.rest.patches → links ≡ w.rest.links → world_of w.rest.shape layout globals run turtles patches links w.rest.turtles_given w.rest.links_given w.rest.base ≡ w
+of_same_parts w layout globals run turtles patches links is_layout are_globals is_run are_turtles are_patches are_links =
+    rw (is_layout, are_globals, is_run, are_turtles, are_patches, are_links) refl

@@ -315,15 +315,21 @@ impl Store for Plain {
     }
 
     fn copy(&self, alloc: Global) -> Result<Self, NoMemory> {
+        let layout = self.layout.copy(alloc)?;
+        let globals = self.globals.copy(alloc)?;
+        let run = self.run.copy(alloc)?;
+        let turtles = copy_turtles(alloc, &self.turtles)?;
+        let patches = copy_patches(alloc, &self.patches)?;
+        let links = self.links.copy(alloc)?;
         Ok(Plain {
             alloc,
             shape: self.shape,
-            layout: self.layout.copy(alloc)?,
-            globals: self.globals.copy(alloc)?,
-            run: self.run.copy(alloc)?,
-            turtles: copy_turtles(alloc, &self.turtles)?,
-            patches: copy_patches(alloc, &self.patches)?,
-            links: self.links.copy(alloc)?,
+            layout,
+            globals,
+            run,
+            turtles,
+            patches,
+            links,
             turtles_given: self.turtles_given,
             links_given: self.links_given,
             base: self.base,

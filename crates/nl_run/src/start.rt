@@ -63,10 +63,7 @@ fn number_of(number: u64) -> Value
     requires { number ≤ 100000 }
     ensures { plain result ≡ spec.whole number }
 {
-    match Num::whole(number as i64) {
-        Some(number) => Value::Number(number),
-        None => unreachable!(),
-    }
+    Value::Number(Num::whole(number as i64).unwrap())
 }
 
 // The variables of a run have the run's number and the experiment's name.

@@ -165,20 +165,42 @@ const THREE: Order = Order {
     sequential: true,
 };
 
+// The seed that is given, a run, and the seed that it has.
+type Seeded = (u64, u64, u64);
+
+const COUNTED_UP: &[Seeded] = &[
+    (42, 1, 42),
+    (42, 3, 44),
+    (9_223_372_036_854_775_807, 2, 9_223_372_036_854_775_808),
+    (u64::MAX, 2, 0),
+];
+
+const VARIED: &[Seeded] = &[(42, 3, 7), (42, 4, 0)];
+
+// Whether each of these runs has its seed.
+fn have_seeds(varies: &Varies, rows: &[Seeded]) -> bool {
+    for (first, run, wanted) in rows {
+        if seed_at(THREE, varies, *first, *run) != Some(*wanted) {
+            return false;
+        }
+    }
+    true
+}
+
+fn are_counted_up(alloc: Global) -> bool {
+    have_seeds(&Varies::empty(alloc), COUNTED_UP)
+}
+
+fn are_varied(alloc: Global) -> bool {
+    let mut seeds = Varies::empty(alloc);
+    listed(alloc, &mut seeds, "random-seed", &[7_000_000, 0]).is_some()
+        && have_seeds(&seeds, VARIED)
+}
+
 #[test]
 fn seeds_count_up_unless_they_are_varied(rt: HostRuntime) {
-    let nothing = Varies::empty(rt.alloc());
-    assert_eq!(rt; seed_at(THREE, &nothing, 42, 1), Some(42));
-    assert_eq!(rt; seed_at(THREE, &nothing, 42, 3), Some(44));
-    assert_eq!(rt;
-        seed_at(THREE, &nothing, 9_223_372_036_854_775_807, 2),
-        Some(9_223_372_036_854_775_808)
-    );
-    assert_eq!(rt; seed_at(THREE, &nothing, u64::MAX, 2), Some(0));
-    let mut seeds = Varies::empty(rt.alloc());
-    assert!(rt; listed(rt.alloc(), &mut seeds, "random-seed", &[7_000_000, 0]).is_some());
-    assert_eq!(rt; seed_at(THREE, &seeds, 42, 3), Some(7));
-    assert_eq!(rt; seed_at(THREE, &seeds, 42, 4), Some(0));
+    assert!(rt; are_counted_up(rt.alloc()));
+    assert!(rt; are_varied(rt.alloc()));
 }
 
 const PLAIN: World = World {
@@ -213,84 +235,111 @@ fn patches_of(world: World, varies: &Varies, run: u64) -> Option<u32> {
     Some(shape.patches())
 }
 
+// Another variable of a thousand values, and the least x of two.
+fn varied_bound(alloc: Global) -> Option<Varies> {
+    let mut varies = Varies::empty(alloc);
+    stepped(alloc, &mut varies, "other", 0, 1, 1_000)?;
+    stepped(alloc, &mut varies, "min-pxcor", -1_000_000, 1_000_000, 2)?;
+    Some(varies)
+}
+
+// The least y of three values, of which the last makes no world.
+fn broken_bound(alloc: Global) -> Option<Varies> {
+    let mut varies = Varies::empty(alloc);
+    stepped(alloc, &mut varies, "min-pycor", -1_000_000, 1_000_000, 3)?;
+    Some(varies)
+}
+
+// Whether all runs have a world or not, as is told, and each of these so many patches.
+fn have_patches(varies: Option<Varies>, all: bool, rows: &[(u64, Option<u32>)]) -> bool {
+    let Some(varies) = varies else {
+        return false;
+    };
+    for (run, patches) in rows {
+        if patches_of(PLAIN, &varies, *run) != *patches {
+            return false;
+        }
+    }
+    have_worlds(PLAIN, &varies) == Some(all)
+}
+
+const WIDE: &[(u64, Option<u32>)] = &[(1, Some(18 * 33)), (2_000, Some(17 * 33))];
+
+const HIGH: &[(u64, Option<u32>)] = &[(2, Some(33 * 17)), (3, None)];
+
 #[test]
 fn worlds_follow_the_bounds_that_are_varied(rt: HostRuntime) {
-    let mut varies = Varies::empty(rt.alloc());
-    assert_eq!(rt; patches_of(PLAIN, &varies, 1), Some(33 * 33));
-    assert!(rt; stepped(rt.alloc(), &mut varies, "other", 0, 1, 1_000).is_some());
-    assert!(rt;
-        stepped(
-            rt.alloc(),
-            &mut varies,
-            "min-pxcor",
-            -1_000_000,
-            1_000_000,
-            2
-        )
-        .is_some()
-    );
-    assert_eq!(rt; have_worlds(PLAIN, &varies), Some(true));
-    assert_eq!(rt; patches_of(PLAIN, &varies, 1), Some(18 * 33));
-    assert_eq!(rt; patches_of(PLAIN, &varies, 2_000), Some(17 * 33));
+    let nothing = Varies::empty(rt.alloc());
+    assert!(rt; patches_of(PLAIN, &nothing, 1) == Some(33 * 33));
+    assert!(rt; have_patches(varied_bound(rt.alloc()), true, WIDE));
 }
 
 #[test]
 fn the_last_value_of_a_bound_may_break_the_world(rt: HostRuntime) {
-    let mut varies = Varies::empty(rt.alloc());
-    assert!(rt;
-        stepped(
-            rt.alloc(),
-            &mut varies,
-            "min-pycor",
-            -1_000_000,
-            1_000_000,
-            3
-        )
-        .is_some()
-    );
-    assert_eq!(rt; have_worlds(PLAIN, &varies), Some(false));
-    assert_eq!(rt; patches_of(PLAIN, &varies, 2), Some(33 * 17));
-    assert_eq!(rt; patches_of(PLAIN, &varies, 3), None);
+    assert!(rt; have_patches(broken_bound(rt.alloc()), false, HIGH));
 }
+
+const SQUARE: World = World {
+    min_x: -255,
+    max_x: 256,
+    min_y: -255,
+    max_y: 256,
+    wrap_x: true,
+    wrap_y: true,
+};
+
+// 481 times 545 patches are one more than there may be.
+const TOO_LARGE: World = World {
+    min_x: -480,
+    max_x: 0,
+    min_y: 0,
+    max_y: 544,
+    wrap_x: true,
+    wrap_y: true,
+};
 
 #[test]
 fn worlds_have_at_most_so_many_patches(rt: HostRuntime) {
     let nothing = Varies::empty(rt.alloc());
-    let square = World {
-        min_x: -255,
-        max_x: 256,
-        min_y: -255,
-        max_y: 256,
-        wrap_x: true,
-        wrap_y: true,
+    assert!(rt; patches_of(SQUARE, &nothing, 1) == Some(262_144));
+    assert!(rt; have_worlds(TOO_LARGE, &nothing) == Some(false));
+}
+
+// One variable of a hundred thousand values.
+fn long(alloc: Global, step: i64) -> Option<Varies> {
+    let mut varies = Varies::empty(alloc);
+    stepped(alloc, &mut varies, "a", 0, step, 100_000)?;
+    Some(varies)
+}
+
+// Beside it one of two values.
+fn too_long(alloc: Global) -> Option<Varies> {
+    let mut varies = long(alloc, 1)?;
+    listed(alloc, &mut varies, "b", &[0, 0])?;
+    Some(varies)
+}
+
+// Whether there are as many runs as there may be, and with three repetitions none.
+fn are_at_the_limit(alloc: Global) -> bool {
+    let Some(varies) = long(alloc, 1_000_000) else {
+        return false;
     };
-    assert_eq!(rt; patches_of(square, &nothing, 1), Some(262_144));
-    // 481 times 545 patches are one more
-    let more = World {
-        min_x: -480,
-        max_x: 0,
-        min_y: 0,
-        max_y: 544,
-        wrap_x: true,
-        wrap_y: true,
-    };
-    assert_eq!(rt; have_worlds(more, &nothing), Some(false));
+    run_count(ONCE, &varies) == Some(100_000)
+        && joined(alloc, ONCE, &varies, 100_000) == Some(99_999_000_000)
+        && run_count(THREE, &varies).is_none()
+}
+
+fn are_too_many(alloc: Global) -> bool {
+    match too_long(alloc) {
+        Some(varies) => run_count(ONCE, &varies).is_none(),
+        None => false,
+    }
 }
 
 #[test]
 fn runs_are_counted_up_to_the_limit(rt: HostRuntime) {
-    let mut varies = Varies::empty(rt.alloc());
-    assert!(rt; stepped(rt.alloc(), &mut varies, "a", 0, 1_000_000, 100_000).is_some());
-    assert_eq!(rt; run_count(ONCE, &varies), Some(100_000));
-    assert_eq!(rt;
-        joined(rt.alloc(), ONCE, &varies, 100_000),
-        Some(99_999_000_000)
-    );
-    assert_eq!(rt; run_count(THREE, &varies), None);
-    let mut long = Varies::empty(rt.alloc());
-    assert!(rt; stepped(rt.alloc(), &mut long, "a", 0, 1, 100_000).is_some());
-    assert!(rt; listed(rt.alloc(), &mut long, "b", &[0, 0]).is_some());
-    assert_eq!(rt; run_count(ONCE, &long), None);
+    assert!(rt; are_at_the_limit(rt.alloc()));
+    assert!(rt; are_too_many(rt.alloc()));
 }
 
 // So many variables of one value, and one of three.
@@ -308,8 +357,8 @@ fn thousands_of_variables_are_set(rt: HostRuntime) {
     let Some(varies) = many(rt.alloc(), 20_000) else {
         panic!(rt; "want of memory");
     };
-    assert_eq!(rt; joined(rt.alloc(), THREE, &varies, 4), Some(6));
-    assert_eq!(rt; joined(rt.alloc(), THREE, &varies, 9), Some(7));
+    assert!(rt; joined(rt.alloc(), THREE, &varies, 4) == Some(6));
+    assert!(rt; joined(rt.alloc(), THREE, &varies, 9) == Some(7));
 }
 
 // One variable whose one value is a text of so many letters.
@@ -347,7 +396,7 @@ fn long_values_are_set(rt: HostRuntime) {
     let Some(varies) = worded(rt.alloc(), 500_000) else {
         panic!(rt; "want of memory");
     };
-    assert_eq!(rt; word_length(rt.alloc(), &varies), Some(500_000));
+    assert!(rt; word_length(rt.alloc(), &varies) == Some(500_000));
 }
 
 #[test]

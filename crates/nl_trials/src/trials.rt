@@ -1,7 +1,7 @@
 //! Stores under trial: calls and questions as plain data, and the conditions of the calls.
 //!
 //! Numbers and coordinates are in tenths.
-ghost use Rattle.std.specs.Prelude.{◌≡◌, false, IfSome, IsTrue};
+ghost use Rattle.std.specs.Prelude.{◌≡◌, false, IfOk, IfSome, IsTrue};
 ghost use Rattle.std.specs.List.{list_any};
 ghost use Rattle.nl_grid.specs.Geometry.{IsPointOf};
 ghost use Rattle.nl_agents.specs.Changes.{TurtleLives, OwnerLives, joins, link_of};
@@ -9,7 +9,7 @@ ghost use Rattle.nl_agents.specs.Members.{all_links};
 ghost use Rattle.nl_trials.specs.Trials.{joined};
 
 use nl_agents::{Layout, Owner, Steps, Store};
-use nl_fixed::Num;
+use nl_fixed::{NoMemory, Num};
 use nl_grid::{Point, Shape};
 use nl_tree::Program;
 use nl_value::Serials;
@@ -78,6 +78,9 @@ pub enum Wanted {
     Nothing,
 }
 
+// Lets go of a thing by one call: what ends inside of a function is walked there, once on each way out.
+fn let_go<T: Drop>(_thing: T) {}
+
 /// The number of so many tenths.
 pub fn tenths(count: i64) -> Option<Num> {
     Num::new(count.checked_mul(100_000)?)
@@ -102,15 +105,38 @@ impl<S: Store> Tried<S> {
 
     /// Stores of a shape. None at want of memory.
     pub fn of(alloc: Global, program: Program, shape: Shape) -> Option<Tried<S>> {
-        let layout = Layout::of(alloc, &program).ok()?;
-        let store = S::new(alloc, &layout, shape).ok()?;
-        let aside = S::new(alloc, &layout, shape).ok()?;
-        Some(Tried {
-            store,
-            aside,
-            layout,
-            program,
-        })
+        let Ok(layout) = Layout::of(alloc, &program) else {
+            let_go(program);
+            return None;
+        };
+        match Tried::<S>::pair(alloc, &layout, shape) {
+            Ok((store, aside)) => Some(Tried {
+                store,
+                aside,
+                layout,
+                program,
+            }),
+            Err(_) => {
+                let_go(layout);
+                let_go(program);
+                None
+            }
+        }
+    }
+
+    // Two stores of a layout and a shape.
+    fn pair(alloc: Global, layout: &Layout, shape: Shape) -> Result<(S, S), NoMemory>
+        ensures first { IfOk result (λ made. layout.now ≡ (S.world made.0).rest.layout) }
+        ensures second { IfOk result (λ made. layout.now ≡ (S.world made.1).rest.layout) }
+    {
+        let store = S::new(alloc, layout, shape)?;
+        match S::new(alloc, layout, shape) {
+            Ok(aside) => Ok((store, aside)),
+            Err(want) => {
+                let_go(store);
+                Err(want)
+            }
+        }
     }
 
     // The slot of a variable.

@@ -14,6 +14,7 @@ use nl_value::sets::{AgentSet, Serials};
 use nl_value::texts::{TextFail, text};
 use nl_value::values::{Items, Value};
 use std::alloc::Global;
+use std::process::Abort;
 use std::test::Fail;
 
 /// What a list of the tests holds.
@@ -178,39 +179,41 @@ fn all_print(alloc: Global, rows: &[Printed]) -> Result<bool, TextFail> {
     Ok(true)
 }
 
+const PRINTED: &[Printed] = &[
+    (One(Number(1_500_000)), true, "1.5"),
+    (One(Truth(true)), true, "true"),
+    (One(Truth(false)), false, "false"),
+    (One(Words(b"a\tb")), false, "a\tb"),
+    (One(Words(b"a\tb\n\\\"")), true, "\"a\\tb\\n\\\\\\\"\""),
+    (One(Nobody), true, "nobody"),
+    (List(&[]), false, "[]"),
+    (List(&[Number(1_000_000), Words(b"a")]), false, "[1 \"a\"]"),
+    (
+        Nested(&[Words(b"say \"no\"\n\tto \\"), Number(-2_500_000)], Nobody),
+        false,
+        "[[\"say \\\"no\\\"\\n\\tto \\\\\" -2.5] nobody]",
+    ),
+];
+
 #[test]
 fn values_without_agents_have_these_texts(rt: HostRuntime) {
-    let rows = [
-        (One(Number(1_500_000)), true, "1.5"),
-        (One(Truth(true)), true, "true"),
-        (One(Truth(false)), false, "false"),
-        (One(Words(b"a\tb")), false, "a\tb"),
-        (One(Words(b"a\tb\n\\\"")), true, "\"a\\tb\\n\\\\\\\"\""),
-        (One(Nobody), true, "nobody"),
-        (List(&[]), false, "[]"),
-        (List(&[Number(1_000_000), Words(b"a")]), false, "[1 \"a\"]"),
-        (
-            Nested(&[Words(b"say \"no\"\n\tto \\"), Number(-2_500_000)], Nobody),
-            false,
-            "[[\"say \\\"no\\\"\\n\\tto \\\\\" -2.5] nobody]",
-        ),
-    ];
-    assert!(rt; holds(all_print(rt.alloc(), rows.as_slice())));
+    assert!(rt; holds(all_print(rt.alloc(), PRINTED)));
 }
+
+const PRINTED_OF_A_WORLD: &[Printed] = &[
+    (One(Turtle(1)), false, "(turtle 1)"),
+    (One(Turtle(2)), true, "(fox 2)"),
+    (One(Turtle(7)), false, "nobody"),
+    (One(Patch(0)), false, "(patch 1 -2)"),
+    (One(Link(2)), false, "(link 0 1)"),
+    (One(Link(9)), false, "nobody"),
+    (Set(Breed(1)), false, "(agentset, 1 foxes)"),
+    (Set(SomeTurtles(1, 7)), false, "(agentset, 2 turtles)"),
+];
 
 #[test]
 fn agents_and_sets_have_these_texts(rt: HostRuntime) {
-    let rows = [
-        (One(Turtle(1)), false, "(turtle 1)"),
-        (One(Turtle(2)), true, "(fox 2)"),
-        (One(Turtle(7)), false, "nobody"),
-        (One(Patch(0)), false, "(patch 1 -2)"),
-        (One(Link(2)), false, "(link 0 1)"),
-        (One(Link(9)), false, "nobody"),
-        (Set(Breed(1)), false, "(agentset, 1 foxes)"),
-        (Set(SomeTurtles(1, 7)), false, "(agentset, 2 turtles)"),
-    ];
-    assert!(rt; holds(all_print(rt.alloc(), rows.as_slice())));
+    assert!(rt; holds(all_print(rt.alloc(), PRINTED_OF_A_WORLD)));
 }
 
 /// Whether the text of the value is this one where there is no world.
@@ -306,34 +309,35 @@ fn is_same_as_its_kind(alloc: Global, row: &Kind, rows: &[Kind]) -> Result<bool,
     answer
 }
 
+const KINDS: &[Kind] = &[
+    (1, One(Number(1_000_000))),
+    (2, One(Number(2_000_000))),
+    (3, One(Truth(true))),
+    (4, One(Words(b"1"))),
+    (5, List(&[Number(1), Nobody])),
+    (5, List(&[Number(1), Link(8)])),
+    (6, List(&[Nobody, Number(1)])),
+    (7, One(Turtle(1))),
+    (8, One(Turtle(2))),
+    (9, One(Patch(1))),
+    (10, One(Link(1))),
+    (11, One(Nobody)),
+    (11, One(Turtle(7))),
+    (11, One(Link(7))),
+    (12, Set(Turtles)),
+    (12, Set(SomeTurtles(1, 2))),
+    (13, Set(Breed(1))),
+    (13, Set(SomeTurtles(2, 7))),
+    (14, Set(SomeLinks(1, 2))),
+    (15, Set(SomePatches(1, 2))),
+];
+
 // Of the agents some are dead, and some sets list dead members.
 #[test]
 fn values_are_the_same_as_these(rt: HostRuntime) {
-    let rows = [
-        (1, One(Number(1_000_000))),
-        (2, One(Number(2_000_000))),
-        (3, One(Truth(true))),
-        (4, One(Words(b"1"))),
-        (5, List(&[Number(1), Nobody])),
-        (5, List(&[Number(1), Link(8)])),
-        (6, List(&[Nobody, Number(1)])),
-        (7, One(Turtle(1))),
-        (8, One(Turtle(2))),
-        (9, One(Patch(1))),
-        (10, One(Link(1))),
-        (11, One(Nobody)),
-        (11, One(Turtle(7))),
-        (11, One(Link(7))),
-        (12, Set(Turtles)),
-        (12, Set(SomeTurtles(1, 2))),
-        (13, Set(Breed(1))),
-        (13, Set(SomeTurtles(2, 7))),
-        (14, Set(SomeLinks(1, 2))),
-        (15, Set(SomePatches(1, 2))),
-    ];
-    for row in rows.iter() {
+    for row in KINDS {
         assert!(rt;
-            holds(is_same_as_its_kind(rt.alloc(), row, rows.as_slice())),
+            holds(is_same_as_its_kind(rt.alloc(), row, KINDS)),
             "{}",
             row.0
         );
@@ -407,39 +411,40 @@ fn compares_with_all(alloc: Global, row: &Row, rows: &[Row]) -> Result<bool, NoM
     answer
 }
 
+const ORDER: &[Row] = &[
+    (One(Number(-1_500_000)), OrderKind::Numbers, 0),
+    (One(Number(0)), OrderKind::Numbers, 1),
+    (One(Number(1)), OrderKind::Numbers, 2),
+    (One(Words(b"")), OrderKind::Texts, 3),
+    (One(Words(b"Z")), OrderKind::Texts, 4),
+    (One(Words(b"a")), OrderKind::Texts, 5),
+    (One(Words(b"ab")), OrderKind::Texts, 6),
+    (One(Words(b"b")), OrderKind::Texts, 7),
+    (One(Turtle(1)), OrderKind::Turtles, 8),
+    (One(Turtle(2)), OrderKind::Turtles, 9),
+    (One(Patch(0)), OrderKind::Patches, 10),
+    (One(Patch(5)), OrderKind::Patches, 11),
+    (One(Link(2)), OrderKind::Links, 12),
+    (One(Link(4)), OrderKind::Links, 13),
+    (One(Link(3)), OrderKind::Links, 14),
+    (One(Link(1)), OrderKind::Links, 15),
+    (One(Truth(false)), OrderKind::Unordered, 16),
+    (One(Truth(true)), OrderKind::Unordered, 16),
+    (List(&[]), OrderKind::Unordered, 16),
+    (List(&[Number(1), Number(2)]), OrderKind::Unordered, 16),
+    (One(Turtle(7)), OrderKind::Unordered, 16),
+    (One(Link(9)), OrderKind::Unordered, 16),
+    (One(Nobody), OrderKind::Unordered, 16),
+    (Set(Links), OrderKind::Unordered, 16),
+];
+
 // Texts compare by their bytes, so that capital letters come before small ones. Of living agents turtles and patches come by number,
 // links by their ends, then their breeds and then their serials.
 #[test]
 fn values_of_all_kinds_come_in_this_order(rt: HostRuntime) {
-    let rows = [
-        (One(Number(-1_500_000)), OrderKind::Numbers, 0),
-        (One(Number(0)), OrderKind::Numbers, 1),
-        (One(Number(1)), OrderKind::Numbers, 2),
-        (One(Words(b"")), OrderKind::Texts, 3),
-        (One(Words(b"Z")), OrderKind::Texts, 4),
-        (One(Words(b"a")), OrderKind::Texts, 5),
-        (One(Words(b"ab")), OrderKind::Texts, 6),
-        (One(Words(b"b")), OrderKind::Texts, 7),
-        (One(Turtle(1)), OrderKind::Turtles, 8),
-        (One(Turtle(2)), OrderKind::Turtles, 9),
-        (One(Patch(0)), OrderKind::Patches, 10),
-        (One(Patch(5)), OrderKind::Patches, 11),
-        (One(Link(2)), OrderKind::Links, 12),
-        (One(Link(4)), OrderKind::Links, 13),
-        (One(Link(3)), OrderKind::Links, 14),
-        (One(Link(1)), OrderKind::Links, 15),
-        (One(Truth(false)), OrderKind::Unordered, 16),
-        (One(Truth(true)), OrderKind::Unordered, 16),
-        (List(&[]), OrderKind::Unordered, 16),
-        (List(&[Number(1), Number(2)]), OrderKind::Unordered, 16),
-        (One(Turtle(7)), OrderKind::Unordered, 16),
-        (One(Link(9)), OrderKind::Unordered, 16),
-        (One(Nobody), OrderKind::Unordered, 16),
-        (Set(Links), OrderKind::Unordered, 16),
-    ];
-    for row in rows.iter() {
+    for row in ORDER {
         assert!(rt;
-            holds(compares_with_all(rt.alloc(), row, rows.as_slice())),
+            holds(compares_with_all(rt.alloc(), row, ORDER)),
             "{}",
             row.2
         );
@@ -583,20 +588,27 @@ fn items_are_taken_away_from_the_end(rt: HostRuntime) {
     }
 }
 
+// Numbers, and whether they are among 1, 4 and 9.
+const FOUND: &[(u64, bool)] = &[
+    (1, true),
+    (4, true),
+    (9, true),
+    (0, false),
+    (5, false),
+    (10, false),
+];
+
+fn assert_found(rt: &impl Abort, numbers: &Serials) {
+    for &(number, found) in FOUND {
+        assert!(rt; numbers.contains(number) == found, "{number}");
+    }
+}
+
 #[test]
 fn numbers_of_agents_are_found(rt: HostRuntime) -> Result<(), Fail> {
-    let numbers = Serials::of_vec([1, 4, 9].to_vec(rt.alloc())?);
-    for (number, found) in [
-        (1, true),
-        (4, true),
-        (9, true),
-        (0, false),
-        (5, false),
-        (10, false),
-    ] {
-        assert!(rt; numbers.contains(number) == found);
-    }
     assert!(rt; !Serials::empty(rt.alloc()).contains(0));
+    let numbers = Serials::of_vec([1, 4, 9].to_vec(rt.alloc())?);
+    assert_found(&rt, &numbers);
     Ok(())
 }
 
@@ -615,16 +627,19 @@ fn is_within(alloc: Global, sample: Sample, alone: bool, inside: bool) -> Result
     Ok(is_alone == alone && is_inside == inside)
 }
 
+// A sample, and whether its value is within the limits alone, and as the one item of a list.
+const LIMITS: &[(Sample, bool, bool)] = &[
+    (Letters(999_998), true, true),
+    (Letters(999_999), true, false),
+    (Letters(1_000_000), false, false),
+    (Deep(198), true, true),
+    (Deep(199), true, false),
+    (Deep(200), false, false),
+];
+
 #[test]
 fn values_are_within_a_size_of_a_million_and_a_depth_of_200(rt: HostRuntime) {
-    for (sample, alone, inside) in [
-        (Letters(999_998), true, true),
-        (Letters(999_999), true, false),
-        (Letters(1_000_000), false, false),
-        (Deep(198), true, true),
-        (Deep(199), true, false),
-        (Deep(200), false, false),
-    ] {
+    for &(sample, alone, inside) in LIMITS {
         assert!(rt; holds(is_within(rt.alloc(), sample, alone, inside)));
     }
 }
@@ -637,28 +652,29 @@ fn is_color(name: &str, tenths: i64) -> bool {
     }
 }
 
+const COLORS: &[(&str, i64)] = &[
+    ("gray", 50),
+    ("red", 150),
+    ("orange", 250),
+    ("brown", 350),
+    ("yellow", 450),
+    ("green", 550),
+    ("lime", 650),
+    ("turquoise", 750),
+    ("cyan", 850),
+    ("sky", 950),
+    ("blue", 1050),
+    ("violet", 1150),
+    ("magenta", 1250),
+    ("pink", 1350),
+    ("grey", 50),
+    ("black", 0),
+    ("white", 99),
+];
+
 /// Whether each color that has a name has its number.
 fn all_are_colors() -> bool {
-    let named = [
-        ("gray", 50),
-        ("red", 150),
-        ("orange", 250),
-        ("brown", 350),
-        ("yellow", 450),
-        ("green", 550),
-        ("lime", 650),
-        ("turquoise", 750),
-        ("cyan", 850),
-        ("sky", 950),
-        ("blue", 1050),
-        ("violet", 1150),
-        ("magenta", 1250),
-        ("pink", 1350),
-        ("grey", 50),
-        ("black", 0),
-        ("white", 99),
-    ];
-    named.iter().all(|(name, tenths)| is_color(name, *tenths))
+    COLORS.iter().all(|(name, tenths)| is_color(name, *tenths))
 }
 
 /// Whether the list of the primary colors has this text.
@@ -699,14 +715,16 @@ fn measures(alloc: Global, sample: Sample, size: u64, depth: u32) -> Result<bool
     answer
 }
 
+const MEASURES: &[(Sample, u64, u32)] = &[
+    (One(Number(7)), 1, 1),
+    (List(&[]), 1, 1),
+    (Nested(&[Words(b"four"), Nobody], Truth(true)), 9, 3),
+    (Set(SomeLinks(3, 4)), 3, 1),
+];
+
 #[test]
 fn values_have_these_sizes_and_depths(rt: HostRuntime) {
-    for (sample, size, depth) in [
-        (One(Number(7)), 1, 1),
-        (List(&[]), 1, 1),
-        (Nested(&[Words(b"four"), Nobody], Truth(true)), 9, 3),
-        (Set(SomeLinks(3, 4)), 3, 1),
-    ] {
+    for &(sample, size, depth) in MEASURES {
         assert!(rt; holds(measures(rt.alloc(), sample, size, depth)));
     }
 }

@@ -7,9 +7,6 @@ use std::env;
 use std::process::ExitCode;
 use std::rt::Env;
 
-#[cfg(test)]
-mod tests;
-
 /// What the process ends with where its words could not be got or kept. `run` never gives it.
 const NO_WORDS: u8 = 9;
 
