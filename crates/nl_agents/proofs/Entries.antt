@@ -7,10 +7,10 @@ use Rattle.std.proofs.lemmas.Option.{same_Some, none-some, get_or_from_slice_get
 use Rattle.std.proofs.lemmas.List.Elements.{All-head, All-tail}
 use Rattle.std.proofs.lemmas.List.Folds.{list_any_at}
 use Rattle.nl_value.specs.Plain.{Plain}
-use Rattle.nl_layout.specs.Nouns.{Slot, Slots}
+use Rattle.nl_agents_layout.specs.Nouns.{Slot, Slots}
 use Rattle.nl_agents.specs.Nouns.{Vars}
 use Rattle.nl_agents.specs.Changes.{value_in, value_set, set_entry, changed_at}
-use Rattle.nl_layout.specs.Layouts.{has_slot}
+use Rattle.nl_agents_layout.specs.Layouts.{has_slot}
 use Rattle.nl_agents.proofs.Keyed.{ascend_tail, ascend_head}
 
 -- a slot that stands at an index is among these

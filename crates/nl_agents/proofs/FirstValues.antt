@@ -8,13 +8,13 @@ use Rattle.std.proofs.lemmas.List.{length-replicate}
 use Rattle.std.proofs.lemmas.List.Elements.{All-replicate}
 use Rattle.nl_value.specs.Plain.{Plain}
 use Rattle.nl_grid.specs.Geometry.{Plane, patches_of}
-use Rattle.nl_layout.specs.Nouns.{Slot, BreedNumber}
-use Rattle.nl_layout.specs.BuiltIn.{BuiltIn, built_in, zero_value, heading_slot, value_or_zero, first_of_turtle, first_of_patch, first_of_link}
-use Rattle.nl_layout.specs.Layouts.{turtle_owns, link_owns}
+use Rattle.nl_agents_layout.specs.Nouns.{Slot, BreedNumber}
+use Rattle.nl_agents_layout.specs.BuiltIn.{BuiltIn, built_in, zero_value, heading_slot, value_or_zero, first_of_turtle, first_of_patch, first_of_link}
+use Rattle.nl_agents_layout.specs.Layouts.{turtle_owns, link_owns}
 use Rattle.nl_agents.specs.World.{Rest, first_turtle_vars, first_link_vars, first_patch_vars, first_patches}
 use Rattle.nl_agents.specs.Changes.{value_in}
 use Rattle.nl_agents.specs.Standing.{AreVars, ArePatchVars, entry_fits, fits_rest, IsNumber}
-use Rattle.nl_layout.specs.declared.layout.Layout.{Layout}
+use Rattle.nl_agents_layout.specs.declared.layout.Layout.{Layout}
 use Rattle.nl_agents.proofs.Vars.{first_are_vars, first_under}
 
 entry_or_zero : (fits : Plain → Bool) (o : Option Plain) → fits zero_value ≡ true → entry_fits fits o ≡ true → fits (value_or_zero o) ≡ true

@@ -6,9 +6,9 @@ use Rattle.std.proofs.lemmas.Bool.{and_parts, and_from, eqb-true, false≢true}
 use Rattle.std.proofs.lemmas.List.Elements.{All-head, All-tail}
 use Rattle.std.proofs.lemmas.List.Folds.{list_all-append}
 use Rattle.nl_value.specs.Plain.{Plain}
-use Rattle.nl_layout.specs.Nouns.{Slot}
+use Rattle.nl_agents_layout.specs.Nouns.{Slot}
 use Rattle.nl_agents.specs.Nouns.{Vars}
-use Rattle.nl_layout.specs.BuiltIn.{heading_slot}
+use Rattle.nl_agents_layout.specs.BuiltIn.{heading_slot}
 use Rattle.nl_agents.specs.World.{Rest, World}
 use Rattle.nl_agents.specs.Changes.{is_turtle, is_link, turtle_of, link_of, patch_vars, in_turtle, in_link, in_patch, value_in, value_of}
 use Rattle.nl_agents.specs.Standing.{IsWorld, IsTurtleOf, IsLinkOf, ArePatchVars, MayHold, fits_rest, is_heading, IsNumber}

@@ -3,7 +3,7 @@ use Rattle.std.specs.Prelude.{◌≡◌, ℕ, ◌<◌, ◌==◌, Bool, true, not
 use Rattle.std.proofs.Common.{arith, ap, ◌∙◌, sym, refl}
 use Rattle.std.proofs.lemmas.Bool.{cond-true, cond-false, cond_both, false≢true, eqb-true, ne_eqb}
 use Rattle.nl_value.specs.Plain.{Plain}
-use Rattle.nl_layout.specs.Nouns.{Slot}
+use Rattle.nl_agents_layout.specs.Nouns.{Slot}
 use Rattle.nl_agents.specs.World.{World}
 use Rattle.nl_agents.specs.Changes.{is_turtle, is_link, turtle_of, link_of, TurtleLives, LinkLives, patch_vars, global_value, newborn, new_link, has_end, bred_vars, value_set, revalued}
 use Rattle.nl_agents.specs.Standing.{IsWorld}

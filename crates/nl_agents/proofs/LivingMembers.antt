@@ -14,7 +14,7 @@ use Rattle.nl_value.specs.Nouns.{Serials}
 use Rattle.nl_value.specs.declared.sets.AgentSet.{AgentSet}
 use Rattle.nl_value.specs.declared.sets.AgentSet.TheVariants.{Turtles, Breed, Patches, Links, LinkBreed, SomeTurtles, SomePatches, SomeLinks}
 use Rattle.nl_grid.specs.Geometry.{all_patches, patches_of}
-use Rattle.nl_layout.specs.Nouns.{BreedNumber}
+use Rattle.nl_agents_layout.specs.Nouns.{BreedNumber}
 use Rattle.nl_agents.specs.World.{Rest, World}
 use Rattle.nl_agents.specs.Changes.{turtle_of, link_of, turtle_lives, link_lives, TurtleLives, LinkLives}
 use Rattle.nl_agents.specs.Members.{links_where, all_links, is_of_breed, is_link_of_breed, is_listed, members_of}
@@ -23,7 +23,7 @@ use Rattle.nl_agents.specs.Standing.{IsTurtleOf, IsWorld}
 use Rattle.nl_agents.specs.inner.Views.{link_is_of}
 use Rattle.nl_agents.specs.declared.agents.Turtle.{Turtle}
 use Rattle.nl_agents.specs.declared.agents.Link.{Link}
-use Rattle.nl_layout.proofs.Ascending.{has, rest_ascends, first_is_below, same_ascending, has_filter, range_ascends, ranged}
+use Rattle.nl_agents_layout.proofs.Ascending.{has, rest_ascends, first_is_below, same_ascending, has_filter, range_ascends, ranged}
 
 -- ---- agents of one kind, by their serials
 

@@ -9,8 +9,8 @@ use Rattle.nl_fixed.specs.Numbers.{one, limit, number_at}
 use Rattle.nl_fixed.specs.Spelling.{number_text}
 use Rattle.nl_grid.specs.Geometry.{center_of}
 use Rattle.nl_grid.specs.declared.point.Point.{Point}
-use Rattle.nl_layout.specs.Nouns.{BreedNumber}
-use Rattle.nl_layout.specs.Layouts.{breed_of}
+use Rattle.nl_agents_layout.specs.Nouns.{BreedNumber}
+use Rattle.nl_agents_layout.specs.Layouts.{breed_of}
 use Rattle.nl_agents.specs.World.{Rest, World}
 use Rattle.nl_agents.specs.Members.{members_of}
 use Rattle.nl_value.specs.declared.sets.AgentSet.{AgentSet}

@@ -4,7 +4,7 @@ use Rattle.std.proofs.Common.{arith, ap, ◌∙◌, refl}
 use Rattle.std.proofs.lemmas.Bool.{cond-false, cond_both, ne_eqb}
 use Rattle.std.proofs.lemmas.List.Elements.{All-map, All-weaker}
 use Rattle.nl_value.specs.Plain.{Plain}
-use Rattle.nl_layout.specs.Nouns.{Slot}
+use Rattle.nl_agents_layout.specs.Nouns.{Slot}
 use Rattle.nl_agents.specs.World.{World}
 use Rattle.nl_agents.specs.Changes.{is_turtle, is_link, turtle_of, link_of, turtle_lives, link_lives, newborn, has_end, new_link, bred_vars, value_set, revalued}
 use Rattle.nl_agents.specs.Standing.{IsWorld, IsTurtleOf, IsLinkOf}

@@ -4,16 +4,16 @@ use Rattle.std.proofs.Common.{arith, false, ap, ◌∙◌, sym, refl, subst, ⊎
 use Rattle.std.proofs.lemmas.Bool.{eq-eqb, cond-true, cond_both, ltb-true, ltb-false, eqb-true, ne_eqb, cases_eq}
 use Rattle.std.proofs.lemmas.List.Elements.{All-weaker}
 use Rattle.nl_grid.specs.declared.point.Point.{Point}
-use Rattle.nl_layout.specs.BuiltIn.{first_of_turtle}
+use Rattle.nl_agents_layout.specs.BuiltIn.{first_of_turtle}
 use Rattle.std.proofs.lemmas.List.{set-append_left, set-append_right}
 use Rattle.nl_value.specs.Plain.{Plain}
-use Rattle.nl_layout.specs.Nouns.{Slot, BreedNumber}
+use Rattle.nl_agents_layout.specs.Nouns.{Slot, BreedNumber}
 use Rattle.nl_agents.specs.Nouns.{Vars}
-use Rattle.nl_layout.specs.Layouts.{turtle_owns, has_slot}
+use Rattle.nl_agents_layout.specs.Layouts.{turtle_owns, has_slot}
 use Rattle.nl_agents.specs.World.{World}
 use Rattle.nl_agents.specs.Changes.{is_turtle, is_link, turtle_of, link_of, patch_vars, in_turtle, in_link, in_patch, value_in, value_set, set_entry, value_of, global_set, changed_at, bred_vars, rebred, revalued, TurtleLives, bred_entry, birth_vars, newborn, born}
 use Rattle.nl_agents.specs.Standing.{IsWorld, IsTurtleOf}
-use Rattle.nl_layout.specs.declared.layout.Layout.{Layout}
+use Rattle.nl_agents_layout.specs.declared.layout.Layout.{Layout}
 use Rattle.nl_agents.specs.declared.agents.Turtle.{Turtle}
 use Rattle.nl_agents.specs.declared.agents.Link.{Link}
 use Rattle.nl_agents.specs.declared.agents.Owner.{Owner}

@@ -4,7 +4,7 @@ use Rattle.std.proofs.Common.{arith, ap, ap₂, ◌∙◌, sym, refl}
 use Rattle.std.proofs.lemmas.Option.{same_Some, none-some}
 use native.Mathlib.Numerals.{unary_clauses}
 use Rattle.nl_value.specs.Plain.{Plain}
-use Rattle.nl_layout.specs.Nouns.{Slot, Slots}
+use Rattle.nl_agents_layout.specs.Nouns.{Slot, Slots}
 use Rattle.nl_agents.specs.Nouns.{Vars}
 use Rattle.nl_agents.specs.Changes.{bred_entry, bred_entries}
 

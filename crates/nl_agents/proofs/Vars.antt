@@ -5,10 +5,10 @@ use Rattle.std.specs.List.{list_all}
 use Rattle.std.proofs.Common.{ap, ap₂, ◌∙◌, sym, refl, subst}
 use Rattle.std.proofs.lemmas.Bool.{cond-true, cond-false, cond_both, ne_eqb, eqb-true, eqb-false, and_parts, and_from, true≢false, false≢true}
 use Rattle.nl_value.specs.Plain.{Plain}
-use Rattle.nl_layout.specs.Nouns.{Slot, Slots}
+use Rattle.nl_agents_layout.specs.Nouns.{Slot, Slots}
 use Rattle.nl_agents.specs.Nouns.{Vars}
-use Rattle.nl_layout.specs.BuiltIn.{zero_value}
-use Rattle.nl_layout.specs.Layouts.{has_slot}
+use Rattle.nl_agents_layout.specs.BuiltIn.{zero_value}
+use Rattle.nl_agents_layout.specs.Layouts.{has_slot}
 use Rattle.nl_agents.specs.World.{first_vars}
 use Rattle.nl_agents.specs.Changes.{value_in, value_set, set_entry, bred_entry, bred_entries}
 use Rattle.nl_agents.specs.Standing.{AreVars, entry_fits}

@@ -9,14 +9,14 @@ use Rattle.std.proofs.lemmas.List.Elements.{All-nil, All-push, All-filter, All-m
 use Rattle.nl_value.specs.Plain.{Plain}
 use Rattle.nl_grid.specs.Geometry.{Plane, IsPointOf, IsWithinLimits}
 use Rattle.nl_grid.specs.declared.point.Point.{Point}
-use Rattle.nl_layout.specs.Nouns.{Slot, Slots, BreedNumber}
+use Rattle.nl_agents_layout.specs.Nouns.{Slot, Slots, BreedNumber}
 use Rattle.nl_agents.specs.Nouns.{Vars}
-use Rattle.nl_layout.specs.BuiltIn.{zero_value, heading_slot}
-use Rattle.nl_layout.specs.Layouts.{turtle_owns, link_owns, is_turtle_breed, is_link_breed, has_slot}
+use Rattle.nl_agents_layout.specs.BuiltIn.{zero_value, heading_slot}
+use Rattle.nl_agents_layout.specs.Layouts.{turtle_owns, link_owns, is_turtle_breed, is_link_breed, has_slot}
 use Rattle.nl_agents.specs.World.{Rest, World, first_world, first_patches}
 use Rattle.nl_agents.specs.Changes.{is_turtle, is_link, turtle_of, TurtleLives, value_in, value_set, set_entry, turtle_changed, link_changed, moved, bred_vars, rebred, birth_vars, parent_of, newborn, born, AreTurtlesFull, has_end, killed, cut, joins, new_link, tied, AreLinksFull, changed_at, revalued, global_set, turtles_cleared, links_cleared, patches_cleared, cleared_from, globals_cleared}
 use Rattle.nl_agents.specs.Standing.{AreVars, IsNumber, IsTurtleOf, IsLinkOf, ArePatchVars, IsWorld, MayHold, fits_rest}
-use Rattle.nl_layout.specs.declared.layout.Layout.{Layout}
+use Rattle.nl_agents_layout.specs.declared.layout.Layout.{Layout}
 use Rattle.nl_agents.specs.declared.agents.Turtle.{Turtle}
 use Rattle.nl_agents.specs.declared.agents.Link.{Link}
 use Rattle.nl_agents.specs.declared.agents.Owner.{Owner}

@@ -4,8 +4,8 @@ use Rattle.std.specs.List.{list_any}
 use Rattle.nl_value.specs.Plain.{Plain}
 use Rattle.nl_grid.specs.Geometry.{IsPointOf}
 use Rattle.nl_grid.specs.declared.point.Point.{Point}
-use Rattle.nl_layout.specs.Nouns.{Slot, BreedNumber}
-use Rattle.nl_layout.specs.Layouts.{is_turtle_breed, is_link_breed}
+use Rattle.nl_agents_layout.specs.Nouns.{Slot, BreedNumber}
+use Rattle.nl_agents_layout.specs.Layouts.{is_turtle_breed, is_link_breed}
 use Rattle.nl_agents.specs.World.{World}
 use Rattle.nl_agents.specs.Changes.{TurtleLives, LinkLives, OwnerLives, moved, rebred, born, AreTurtlesFull, killed, cut, joins, tied, AreLinksFull, revalued, turtles_cleared, links_cleared, patches_cleared, globals_cleared}
 use Rattle.nl_agents.specs.Standing.{MayHold}

@@ -3,12 +3,12 @@ use Rattle.std.specs.Prelude.{◌⊎◌, ℕ, zero, suc, ◌+◌, ◌-◌, ◌<�
 use Rattle.nl_value.specs.Plain.{Plain}
 use Rattle.nl_grid.specs.Geometry.{patches_of}
 use Rattle.nl_grid.specs.declared.point.Point.{Point}
-use Rattle.nl_layout.specs.Nouns.{Slot, Slots, BreedNumber}
+use Rattle.nl_agents_layout.specs.Nouns.{Slot, Slots, BreedNumber}
 use Rattle.nl_agents.specs.Nouns.{Vars}
-use Rattle.nl_layout.specs.BuiltIn.{zero_value}
-use Rattle.nl_layout.specs.Layouts.{turtle_owns, has_slot}
+use Rattle.nl_agents_layout.specs.BuiltIn.{zero_value}
+use Rattle.nl_agents_layout.specs.Layouts.{turtle_owns, has_slot}
 use Rattle.nl_agents.specs.World.{Rest, World, first_turtle_vars, first_link_vars, first_patches}
-use Rattle.nl_layout.specs.declared.layout.Layout.{Layout}
+use Rattle.nl_agents_layout.specs.declared.layout.Layout.{Layout}
 use Rattle.nl_agents.specs.declared.agents.Turtle.{Turtle}
 use Rattle.nl_agents.specs.declared.agents.Link.{Link}
 use Rattle.nl_agents.specs.declared.agents.Owner.{Owner}

@@ -4,15 +4,15 @@ use Rattle.std.specs.List.Sorted.{IsStrictlyIncreasing}
 use Rattle.nl_value.specs.Plain.{Plain}
 use Rattle.nl_grid.specs.Geometry.{Plane, IsWithinLimits}
 use Rattle.nl_grid.specs.declared.point.Point.{Point}
-use Rattle.nl_layout.specs.Nouns.{Slot, BreedNumber}
-use Rattle.nl_layout.specs.BuiltIn.{first_of_turtle}
-use Rattle.nl_layout.specs.Layouts.{turtle_owns, has_slot}
+use Rattle.nl_agents_layout.specs.Nouns.{Slot, BreedNumber}
+use Rattle.nl_agents_layout.specs.BuiltIn.{first_of_turtle}
+use Rattle.nl_agents_layout.specs.Layouts.{turtle_owns, has_slot}
 use Rattle.nl_agents.specs.World.{World, first_world}
 use Rattle.nl_agents.specs.Changes.{turtle_of, link_of, turtle_lives, link_lives, TurtleLives, LinkLives, patch_vars, global_value, joins, value_of, set_entry, bred_entry, rebred, born, revalued}
 use Rattle.nl_agents.specs.Members.{all_turtles, all_links}
 use Rattle.nl_agents.specs.Standing.{IsWorld, MayHold}
 use Rattle.nl_agents.specs.Calls.{Call, after, IsAllowed, after_all, AreAllowed, Touches}
-use Rattle.nl_layout.specs.declared.layout.Layout.{Layout}
+use Rattle.nl_agents_layout.specs.declared.layout.Layout.{Layout}
 use Rattle.nl_agents.specs.declared.agents.Turtle.{Turtle}
 use Rattle.nl_agents.specs.declared.agents.Link.{Link}
 use Rattle.nl_agents.specs.declared.agents.Owner.{Owner}

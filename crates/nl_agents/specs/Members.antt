@@ -5,7 +5,7 @@ use Rattle.nl_value.specs.Nouns.{Serials}
 use Rattle.nl_value.specs.declared.sets.AgentSet.{AgentSet}
 use Rattle.nl_value.specs.declared.sets.AgentSet.TheVariants.{Turtles, Breed, Patches, Links, LinkBreed, SomeTurtles, SomePatches, SomeLinks}
 use Rattle.nl_grid.specs.Geometry.{patch_at, all_patches}
-use Rattle.nl_layout.specs.Nouns.{BreedNumber}
+use Rattle.nl_agents_layout.specs.Nouns.{BreedNumber}
 use Rattle.nl_agents.specs.Changes.{has_end}
 use Rattle.nl_agents.specs.World.{Rest}
 use Rattle.nl_agents.specs.declared.agents.Turtle.{Turtle}

@@ -11,12 +11,12 @@ use Rattle.nl_value.specs.Plain.{Plain, PlainNumber, PlainTruth, PlainWords, Pla
 use Rattle.nl_value.specs.Living.{Living, LinkPlace}
 use Rattle.nl_value.specs.Fit.{set_fits_by}
 use Rattle.nl_grid.specs.Geometry.{patches_of, pxcor_of, pycor_of}
-use Rattle.nl_layout.specs.Layouts.{breed_of, is_turtle_breed, is_link_breed}
+use Rattle.nl_agents_layout.specs.Layouts.{breed_of, is_turtle_breed, is_link_breed}
 use Rattle.nl_agents.specs.World.{Rest}
 use Rattle.nl_agents.specs.Changes.{turtle_of, link_of, turtle_lives, link_lives}
 use Rattle.nl_agents.specs.Members.{members_of}
-use Rattle.nl_layout.specs.declared.layout.BreedLayout.{BreedLayout}
-use Rattle.nl_layout.specs.declared.layout.Layout.{Layout}
+use Rattle.nl_agents_layout.specs.declared.layout.BreedLayout.{BreedLayout}
+use Rattle.nl_agents_layout.specs.declared.layout.Layout.{Layout}
 use Rattle.nl_agents.specs.declared.agents.Turtle.{Turtle}
 use Rattle.nl_agents.specs.declared.agents.Link.{Link}
 

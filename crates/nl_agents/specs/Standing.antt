@@ -5,10 +5,10 @@ use Rattle.std.specs.List.Sorted.{IsStrictlyIncreasing}
 use Rattle.nl_value.specs.Plain.{Plain, PlainNumber, PlainTruth, PlainWords, PlainItems, PlainTurtle, PlainPatch, PlainLink, PlainNobody, PlainSet}
 use Rattle.nl_value.specs.Fit.{value_fits}
 use Rattle.nl_grid.specs.Geometry.{IsPointOf, IsWithinLimits, patches_of}
-use Rattle.nl_layout.specs.Nouns.{Slot, Slots}
+use Rattle.nl_agents_layout.specs.Nouns.{Slot, Slots}
 use Rattle.nl_agents.specs.Nouns.{Vars}
-use Rattle.nl_layout.specs.BuiltIn.{heading_slot}
-use Rattle.nl_layout.specs.Layouts.{turtle_owns, link_owns, is_turtle_breed, is_link_breed}
+use Rattle.nl_agents_layout.specs.BuiltIn.{heading_slot}
+use Rattle.nl_agents_layout.specs.Layouts.{turtle_owns, link_owns, is_turtle_breed, is_link_breed}
 use Rattle.nl_agents.specs.World.{Rest, World}
 use Rattle.nl_agents.specs.Changes.{turtle_of, joins, value_in}
 use Rattle.nl_agents.specs.Members.{all_turtles, all_links}

@@ -6,11 +6,11 @@
 use Rattle.std.specs.Prelude.{ℕ, Bool, List, [], map, replicate, Some, None, if◌then◌else◌}
 use Rattle.nl_value.specs.Plain.{Plain}
 use Rattle.nl_grid.specs.Geometry.{Plane, patches_of}
-use Rattle.nl_layout.specs.Nouns.{Slot, Slots, BreedNumber}
+use Rattle.nl_agents_layout.specs.Nouns.{Slot, Slots, BreedNumber}
 use Rattle.nl_agents.specs.Nouns.{Vars}
-use Rattle.nl_layout.specs.BuiltIn.{zero_value, first_of_turtle, first_of_patch, first_of_link}
-use Rattle.nl_layout.specs.Layouts.{turtle_owns, link_owns}
-use Rattle.nl_layout.specs.declared.layout.Layout.{Layout}
+use Rattle.nl_agents_layout.specs.BuiltIn.{zero_value, first_of_turtle, first_of_patch, first_of_link}
+use Rattle.nl_agents_layout.specs.Layouts.{turtle_owns, link_owns}
+use Rattle.nl_agents_layout.specs.declared.layout.Layout.{Layout}
 use Rattle.nl_agents.specs.declared.agents.Turtle.{Turtle}
 use Rattle.nl_agents.specs.declared.agents.Link.{Link}
 

@@ -1,14 +1,14 @@
 //! What agents of a layout keep: at first, and after a change of breed.
 ghost use Rattle.std.specs.Prelude.{◌≡◌, true, IfOk, IsTrue, length, option_map};
 ghost use Rattle.nl_value.specs.Views.{plain};
-ghost use Rattle.nl_layout.specs.Layouts.{has_slot, turtle_owns, link_owns};
+ghost use Rattle.nl_agents_layout.specs.Layouts.{has_slot, turtle_owns, link_owns};
 ghost use Rattle.nl_agents.specs.World.{first_turtle_vars, first_link_vars, first_patch_vars};
 ghost use Rattle.nl_agents.specs.Changes.{bred_vars, bred_entry};
 
 use crate::variables::Variables;
+use nl_agents_layout::built_in::{first_of_link, first_of_patch, first_of_turtle};
+use nl_agents_layout::{Layout, Slots};
 use nl_fixed::{NoMemory, Num};
-use nl_layout::built_in::{first_of_link, first_of_patch, first_of_turtle};
-use nl_layout::{Layout, Slots};
 use nl_value::Value;
 use std::alloc::Global;
 

@@ -11,7 +11,9 @@ pub mod variables;
 pub mod view;
 
 pub use agents::{Link, Owner, Turtle};
-pub use nl_layout::{BreedLayout, BreedLayouts, COLOR, HEADING, Layout, Rule, Slots, rule_of};
+pub use nl_agents_layout::{
+    BreedLayout, BreedLayouts, COLOR, HEADING, Layout, Rule, Slots, rule_of,
+};
 pub use refusals::{BearFail, TieFail};
 pub use steps::Steps;
 pub use store::Store;

@@ -4,8 +4,8 @@ ghost use Rattle.std.specs.Option.{option_copied};
 ghost use Rattle.nl_value.specs.Views.{plain};
 ghost use Rattle.nl_agents.specs.Changes.{value_in, value_set, set_entry};
 
+use nl_agents_layout::Slots;
 use nl_fixed::NoMemory;
-use nl_layout::Slots;
 use nl_value::Value;
 use std::alloc::Global;
 use std::marker::Model;

@@ -4,7 +4,7 @@ ghost use Rattle.nl_fixed.specs.Numbers.{one};
 ghost use Rattle.nl_value.specs.Living.{link_key};
 ghost use Rattle.nl_value.specs.Plain.{PlainTurtle, PlainLink};
 ghost use Rattle.nl_grid.specs.Geometry.{patches_of, all_patches};
-ghost use Rattle.nl_layout.specs.Layouts.{breed_of};
+ghost use Rattle.nl_agents_layout.specs.Layouts.{breed_of};
 ghost use Rattle.nl_agents.specs.Changes.{link_of, TurtleLives, LinkLives};
 ghost use Rattle.nl_agents.specs.Members.{all_links, members_of, most_reads, links_where, is_link_of_breed};
 ghost use Rattle.nl_agents.specs.Names.{living_of, set_fits, name_of, patch_text, set_text, members_word, singular_or, plural_or, who_of};
@@ -12,8 +12,8 @@ ghost use Rattle.nl_agents.specs.inner.Views.{counts_text, link_is_of};
 
 use crate::steps::Steps;
 use crate::store::Store;
+use nl_agents_layout::Layout;
 use nl_fixed::{NoMemory, Num, Str};
-use nl_layout::Layout;
 use nl_value::{AgentSet, Life, Serials, Value};
 use std::alloc::Global;
 use std::marker::Brand;

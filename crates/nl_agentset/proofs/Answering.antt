@@ -4,14 +4,14 @@ use Rattle.std.proofs.Common.{ap, subst}
 use Rattle.nl_value.specs.Plain.{Plain}
 use Rattle.nl_value.specs.Views.{plain}
 use Rattle.nl_value.specs.declared.values.Value.{Value}
-use Rattle.nl_layout.specs.Nouns.{BreedNumber}
+use Rattle.nl_agents_layout.specs.Nouns.{BreedNumber}
 use Rattle.nl_agents.specs.World.{Rest}
 use Rattle.nl_agents.specs.Standing.{fits_rest}
 use Rattle.nl_agents.specs.declared.agents.Owner.{Owner}
-use Rattle.nl_query.specs.Outcomes.{Outcome, outcome_map, Gives, Answers}
-use Rattle.nl_query.specs.declared.words.Choice.{Choice}
-use Rattle.nl_query.specs.declared.words.QueryWord.{QueryWord}
-use Rattle.nl_query.specs.declared.words.QueryWord.TheVariants as word
+use Rattle.nl_agentset_query.specs.Outcomes.{Outcome, outcome_map, Gives, Answers}
+use Rattle.nl_agentset_query.specs.declared.words.Choice.{Choice}
+use Rattle.nl_agentset_query.specs.declared.words.QueryWord.{QueryWord}
+use Rattle.nl_agentset_query.specs.declared.words.QueryWord.TheVariants as word
 use Rattle.nl_agentset.specs.Queries.{told, query_answer}
 
 pub given_so : {X : Type 0} (P : X → Type 0) (o : Outcome X) (x : X) → IfOk o P → o ≡ Ok x → P x

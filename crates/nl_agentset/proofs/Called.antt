@@ -10,18 +10,18 @@ use Rattle.std.proofs.lemmas.Bool.Decides.{Decides-int_eq, Decides-eqb, same_fro
 use Rattle.std.proofs.lemmas.List.Elements.{All-head, All-tail}
 use Rattle.nl_fixed.specs.Numbers.{one, whole_part, is_whole}
 use Rattle.nl_value.specs.Plain.{PlainTurtle}
-use Rattle.nl_layout.specs.Nouns.{BreedNumber}
+use Rattle.nl_agents_layout.specs.Nouns.{BreedNumber}
 use Rattle.nl_agents.specs.World.{Rest, World}
 use Rattle.nl_agents.specs.Changes.{is_turtle, turtle_of, turtle_lives}
 use Rattle.nl_agents.specs.Members.{is_listed}
 use Rattle.nl_agents.specs.Names.{who_of}
 use Rattle.nl_agents.specs.Standing.{IsWorld}
 use Rattle.nl_agents.specs.declared.agents.Turtle.{Turtle}
-use Rattle.nl_layout.proofs.Ascending.{rest_ascends, first_is_below}
+use Rattle.nl_agents_layout.proofs.Ascending.{rest_ascends, first_is_below}
 use Rattle.nl_agents.proofs.LivingMembers.{turtle_found}
-use Rattle.nl_query.specs.declared.fail.QueryFail.TheVariants.{WrongType}
-use Rattle.nl_query.specs.Outcomes.{and_then}
-use Rattle.nl_query.specs.Agents.{is_of}
+use Rattle.nl_agentset_query.specs.declared.fail.QueryFail.TheVariants.{WrongType}
+use Rattle.nl_agentset_query.specs.Outcomes.{and_then}
+use Rattle.nl_agentset_query.specs.Agents.{is_of}
 use Rattle.nl_agentset.specs.Sets.{is_called, turtle_named, bred_or_wrong, turtle_called}
 
 module _ (r : Rest) (number : ℤ) where

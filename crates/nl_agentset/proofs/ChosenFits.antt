@@ -17,15 +17,15 @@ use Rattle.nl_agents.specs.World.{Rest}
 use Rattle.nl_agents.specs.Members.{members_of}
 use Rattle.nl_agents.specs.Names.{patch_fits}
 use Rattle.nl_agents.specs.Standing.{fits_rest}
-use Rattle.nl_choice.specs.Choices.{item_or_few, one_among, places_drawn, kept_from, wanted_of, several_among, chosen_by}
-use Rattle.nl_choice.proofs.Places.{kept_each}
-use Rattle.nl_query.specs.Agents.{agent_or_nobody, listed_value}
-use Rattle.nl_query.specs.Inputs.{inputs_fit, value_at, number_at}
-use Rattle.nl_query.specs.Outcomes.{Outcome, and_then, outcome_map}
-use Rattle.nl_query.specs.declared.words.Choice.{Choice}
-use Rattle.nl_query.specs.declared.words.Choice.TheVariants as choice
-use Rattle.nl_query.proofs.Fitting.{input_fits, list_fits_as_items}
-use Rattle.nl_choice.proofs.Inside.{patch_members}
+use Rattle.nl_agentset_query.specs.Choices.{item_or_few, one_among, places_drawn, kept_from, wanted_of, several_among, chosen_by}
+use Rattle.nl_agentset_query.proofs.Places.{kept_each}
+use Rattle.nl_agentset_query.specs.Agents.{agent_or_nobody, listed_value}
+use Rattle.nl_agentset_query.specs.Inputs.{inputs_fit, value_at, number_at}
+use Rattle.nl_agentset_query.specs.Outcomes.{Outcome, and_then, outcome_map}
+use Rattle.nl_agentset_query.specs.declared.words.Choice.{Choice}
+use Rattle.nl_agentset_query.specs.declared.words.Choice.TheVariants as choice
+use Rattle.nl_agentset_query.proofs.Fitting.{input_fits, list_fits_as_items}
+use Rattle.nl_agentset_query.proofs.Inside.{patch_members}
 
 then_given : {X Y : Type 0} (P : Y → Type 0) (o : Outcome X) (f : X → Outcome Y) → ((x : X) → o ≡ Ok x → IfOk (f x) P) → IfOk (and_then o f) P
 then_given P (Ok x) f each = each x refl

@@ -11,15 +11,15 @@ use Rattle.nl_grid.specs.declared.point.Point.{Point}
 use Rattle.nl_draw.specs.Stream.{first_state, next_state, word_of, state_after, words_from, drawn, shuffled, shuffled_from, chosen}
 use Rattle.nl_words.specs.declared.codes.TheConstants as code
 use Rattle.nl_words.specs.Row.{Code}
-use Rattle.nl_layout.specs.Nouns.{BreedNumber}
+use Rattle.nl_agents_layout.specs.Nouns.{BreedNumber}
 use Rattle.nl_agents.specs.World.{Rest}
-use Rattle.nl_layout.specs.declared.layout.Layout.{Layout}
+use Rattle.nl_agents_layout.specs.declared.layout.Layout.{Layout}
 use Rattle.nl_agents.specs.declared.agents.Turtle as the_turtle
 use Rattle.nl_agents.specs.declared.agents.Link as the_link
 use Rattle.nl_agents.specs.declared.agents.Owner.{Owner}
 use Rattle.nl_agents.specs.declared.agents.Owner.TheVariants as owner
-use Rattle.nl_query.specs.declared.fail.QueryFail.TheVariants.{WrongType, NoAgent, OutOfWorld, SamePoint, Overflow, Domain, TooFew}
-use Rattle.nl_query.specs.Outcomes.{Outcome, outcome_map}
+use Rattle.nl_agentset_query.specs.declared.fail.QueryFail.TheVariants.{WrongType, NoAgent, OutOfWorld, SamePoint, Overflow, Domain, TooFew}
+use Rattle.nl_agentset_query.specs.Outcomes.{Outcome, outcome_map}
 use Rattle.nl_agentset.specs.Queries.{queried}
 
 -- ---- the world

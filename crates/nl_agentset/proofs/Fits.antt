@@ -20,7 +20,7 @@ use Rattle.nl_grid.specs.declared.point.Point.{Point}
 use Rattle.nl_grid.proofs.AxisLemmas.{wrapped_lies_inside}
 use Rattle.nl_grid.proofs.CoverLemmas.{patch_at_below}
 use Rattle.nl_grid.proofs.LawLemmas.{neighbors_are_others}
-use Rattle.nl_layout.specs.Nouns.{BreedNumber}
+use Rattle.nl_agents_layout.specs.Nouns.{BreedNumber}
 use Rattle.nl_agents.specs.World.{Rest, World}
 use Rattle.nl_agents.specs.Changes.{OwnerLives, turtle_of, link_of}
 use Rattle.nl_agents.specs.Members.{members_of, is_listed}
@@ -31,38 +31,38 @@ use Rattle.nl_agents.specs.declared.agents.Link as the_link
 use Rattle.nl_agents.specs.declared.agents.Owner.{Owner}
 use Rattle.nl_agents.specs.declared.agents.Owner.TheVariants as owner
 use Rattle.nl_agents.proofs.LivingMembers.{turtle_found}
-use Rattle.nl_query.specs.Agents.{agent_or_nobody, listed_value, is_of, own_patch, place_of, heading_in, origin, point_of}
-use Rattle.nl_query.specs.Inputs.{value_at, number_at, set_at, list_at, agent_at, standing_set_at, point_at}
-use Rattle.nl_query.specs.Outcomes.{Outcome, and_then, outcome_map, summed, or_fail}
-use Rattle.nl_query.specs.declared.fail.QueryFail.{QueryFail}
-use Rattle.nl_query.specs.declared.fail.QueryFail.TheVariants.{WrongType, Domain, SamePoint}
-use Rattle.nl_query.specs.declared.words.QueryWord.{QueryWord}
-use Rattle.nl_query.specs.declared.words.QueryWord.TheVariants as word
-use Rattle.nl_query.specs.declared.words.Whole.{Whole}
-use Rattle.nl_query.specs.declared.words.Whole.TheVariants as whole
-use Rattle.nl_query.specs.declared.words.LookUp.{LookUp}
-use Rattle.nl_query.specs.declared.words.LookUp.TheVariants as look_up
-use Rattle.nl_query.specs.declared.words.OfSet.{OfSet}
-use Rattle.nl_query.specs.declared.words.OfSet.TheVariants as of_set
-use Rattle.nl_query.specs.declared.words.Standing.{Standing}
-use Rattle.nl_query.specs.declared.words.Standing.TheVariants as standing
-use Rattle.nl_query.specs.declared.words.Around.{Around}
-use Rattle.nl_query.specs.declared.words.Around.TheVariants as which_around
-use Rattle.nl_query.specs.declared.words.PatchBy.{PatchBy}
-use Rattle.nl_query.specs.declared.words.PatchBy.TheVariants as patch_by
-use Rattle.nl_query.specs.declared.words.Facing.{Facing}
-use Rattle.nl_query.specs.declared.words.Facing.TheVariants as facing
-use Rattle.nl_query.specs.declared.words.Measure.{Measure}
-use Rattle.nl_query.specs.declared.words.Measure.TheVariants as measure
-use Rattle.nl_query.specs.declared.words.OfEnds.{OfEnds}
-use Rattle.nl_query.specs.declared.words.OfEnds.TheVariants as of_ends
-use Rattle.nl_query.specs.declared.words.Side.{Side}
+use Rattle.nl_agentset_query.specs.Agents.{agent_or_nobody, listed_value, is_of, own_patch, place_of, heading_in, origin, point_of}
+use Rattle.nl_agentset_query.specs.Inputs.{value_at, number_at, set_at, list_at, agent_at, standing_set_at, point_at}
+use Rattle.nl_agentset_query.specs.Outcomes.{Outcome, and_then, outcome_map, summed, or_fail}
+use Rattle.nl_agentset_query.specs.declared.fail.QueryFail.{QueryFail}
+use Rattle.nl_agentset_query.specs.declared.fail.QueryFail.TheVariants.{WrongType, Domain, SamePoint}
+use Rattle.nl_agentset_query.specs.declared.words.QueryWord.{QueryWord}
+use Rattle.nl_agentset_query.specs.declared.words.QueryWord.TheVariants as word
+use Rattle.nl_agentset_query.specs.declared.words.Whole.{Whole}
+use Rattle.nl_agentset_query.specs.declared.words.Whole.TheVariants as whole
+use Rattle.nl_agentset_query.specs.declared.words.LookUp.{LookUp}
+use Rattle.nl_agentset_query.specs.declared.words.LookUp.TheVariants as look_up
+use Rattle.nl_agentset_query.specs.declared.words.OfSet.{OfSet}
+use Rattle.nl_agentset_query.specs.declared.words.OfSet.TheVariants as of_set
+use Rattle.nl_agentset_query.specs.declared.words.Standing.{Standing}
+use Rattle.nl_agentset_query.specs.declared.words.Standing.TheVariants as standing
+use Rattle.nl_agentset_query.specs.declared.words.Around.{Around}
+use Rattle.nl_agentset_query.specs.declared.words.Around.TheVariants as which_around
+use Rattle.nl_agentset_query.specs.declared.words.PatchBy.{PatchBy}
+use Rattle.nl_agentset_query.specs.declared.words.PatchBy.TheVariants as patch_by
+use Rattle.nl_agentset_query.specs.declared.words.Facing.{Facing}
+use Rattle.nl_agentset_query.specs.declared.words.Facing.TheVariants as facing
+use Rattle.nl_agentset_query.specs.declared.words.Measure.{Measure}
+use Rattle.nl_agentset_query.specs.declared.words.Measure.TheVariants as measure
+use Rattle.nl_agentset_query.specs.declared.words.OfEnds.{OfEnds}
+use Rattle.nl_agentset_query.specs.declared.words.OfEnds.TheVariants as of_ends
+use Rattle.nl_agentset_query.specs.declared.words.Side.{Side}
 use Rattle.nl_agentset.specs.Links.{own_links, own_neighbors, neighbor_tested, link_told, link_found, of_link_found, ends_told}
 use Rattle.nl_agentset.specs.Places.{bred_on, patches_of_value, patch_found, patch_beside, patch_ahead, offsets_in, patches_at, members_on, near_caller, in_cone_of_caller, standing_by, patches_around, turned_by, turned_ahead, patch_reached, faced, measured, measured_to_xy}
 use Rattle.nl_agentset.specs.Queries.{told, word_breed_fits}
 use Rattle.nl_agentset.specs.Sets.{whole_set, whole_or_wrong, turtle_named, bred_or_wrong, turtle_called, link_called, looked_up, of_agents}
-use Rattle.nl_union.specs.Unions.{all_united, union_of}
-use Rattle.nl_choice.proofs.Inside.{patch_members}
+use Rattle.nl_agentset_query.specs.Unions.{all_united, union_of}
+use Rattle.nl_agentset_query.proofs.Inside.{patch_members}
 
 -- ---- outcomes of one step after another
 

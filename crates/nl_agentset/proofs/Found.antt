@@ -14,9 +14,9 @@ use Rattle.nl_agents.specs.Standing.{IsWorld}
 use Rattle.nl_agents.specs.declared.agents.Turtle as the_turtle
 use Rattle.nl_agents.specs.declared.agents.Link as the_link
 use Rattle.nl_agents.proofs.LivingMembers.{found_passing}
-use Rattle.nl_query.specs.Agents.{turtle_passes, link_passes}
+use Rattle.nl_agentset_query.specs.Agents.{turtle_passes, link_passes}
 use Rattle.nl_agentset.specs.Sets.{has_members}
-use Rattle.nl_query.specs.Orders.{SameNumbers}
+use Rattle.nl_agentset_query.specs.Orders.{SameNumbers}
 
 -- tests that agree keep the same numbers
 pub same_filter : (p q : ℕ → Bool) (xs : List ℕ) → ((z : ℕ) → p z ≡ q z) → filter p xs ≡ filter q xs

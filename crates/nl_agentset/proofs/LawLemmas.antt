@@ -10,8 +10,8 @@ use Rattle.nl_value.specs.Plain.{Plain}
 use Rattle.nl_value.specs.Sets.{set_kind}
 use Rattle.nl_value.specs.declared.sets.AgentKind.{AgentKind}
 use Rattle.nl_value.specs.declared.sets.AgentKind.TheVariants as kind
-use Rattle.nl_layout.specs.Nouns.{BreedNumber}
-use Rattle.nl_layout.proofs.Ascending.{has_filter}
+use Rattle.nl_agents_layout.specs.Nouns.{BreedNumber}
+use Rattle.nl_agents_layout.proofs.Ascending.{has_filter}
 use Rattle.nl_agents.specs.World.{World}
 use Rattle.nl_agents.specs.Changes.{OwnerLives, has_end}
 use Rattle.nl_agents.specs.Members.{members_of, is_listed}
@@ -20,18 +20,18 @@ use Rattle.nl_agents.specs.declared.agents.Link as the_link
 use Rattle.nl_agents.specs.declared.agents.Owner.{Owner}
 use Rattle.nl_agents.proofs.LivingMembers.{members_ascend}
 use Rattle.nl_agentset.proofs.ChosenFits.{chosen_fits}
-use Rattle.nl_query.specs.Agents.{is_of, listed_value}
-use Rattle.nl_query.specs.Inputs.{inputs_fit}
-use Rattle.nl_query.specs.Outcomes.{Outcome, outcome_map, and_then}
-use Rattle.nl_query.specs.declared.words.QueryWord.{QueryWord}
-use Rattle.nl_query.specs.declared.words.QueryWord.TheVariants as word
-use Rattle.nl_query.specs.declared.words.Side.{Side}
-use Rattle.nl_query.specs.declared.words.Side.TheVariants as side
+use Rattle.nl_agentset_query.specs.Agents.{is_of, listed_value}
+use Rattle.nl_agentset_query.specs.Inputs.{inputs_fit}
+use Rattle.nl_agentset_query.specs.Outcomes.{Outcome, outcome_map, and_then}
+use Rattle.nl_agentset_query.specs.declared.words.QueryWord.{QueryWord}
+use Rattle.nl_agentset_query.specs.declared.words.QueryWord.TheVariants as word
+use Rattle.nl_agentset_query.specs.declared.words.Side.{Side}
+use Rattle.nl_agentset_query.specs.declared.words.Side.TheVariants as side
 use Rattle.nl_agentset.specs.Laws.{AnswersFit, OthersAreAllButTheCaller, UnionsAscend, UndirectedLeadBothWays}
 use Rattle.nl_agentset.specs.Links.{is_link_to, other_end_of}
 use Rattle.nl_agentset.specs.Queries.{told, query_answer, word_breed_fits}
 use Rattle.nl_agentset.specs.Sets.{is_caller}
-use Rattle.nl_union.specs.Unions.{all_of, all_united}
+use Rattle.nl_agentset_query.specs.Unions.{all_of, all_united}
 use Rattle.nl_agentset.proofs.Answering.{given_so}
 use Rattle.nl_agentset.proofs.Fits.{told_fits}
 

@@ -1,16 +1,16 @@
 -- The links of a turtle, as they are found among those that have it as an end.
 use Rattle.std.specs.Prelude.{◌≡◌, ℕ, ◌==◌, ◌&&◌, ◌||◌, not, Bool, true, false, if◌then◌else◌, List, [], ◌∷◌, filter, map, find, Option, Some, None, option_map, refl}
 use Rattle.std.proofs.Common.{ap, sym, ◌∙◌}
-use Rattle.nl_layout.specs.Nouns.{BreedNumber}
+use Rattle.nl_agents_layout.specs.Nouns.{BreedNumber}
 use Rattle.nl_agents.specs.World.{Rest, World}
 use Rattle.nl_agents.specs.Changes.{link_of, has_end}
 use Rattle.nl_agents.specs.Members.{links_where}
 use Rattle.nl_agents.specs.Standing.{IsWorld}
 use Rattle.nl_agents.specs.declared.agents.Turtle as the_turtle
 use Rattle.nl_agents.specs.declared.agents.Link as the_link
-use Rattle.nl_query.specs.declared.words.Side.{Side}
+use Rattle.nl_agentset_query.specs.declared.words.Side.{Side}
 use Rattle.nl_agentset.specs.Links.{is_link_at, other_end_of, is_link_to, links_at}
-use Rattle.nl_query.specs.Agents.{link_passes}
+use Rattle.nl_agentset_query.specs.Agents.{link_passes}
 use Rattle.nl_agentset.specs.Sets.{is_between, link_between}
 use Rattle.nl_agentset.proofs.Found.{links_kept, same_links}
 

@@ -7,7 +7,7 @@ use Rattle.std.proofs.lemmas.Bool.{eqb-true, and_parts, and_right, or_cases}
 use Rattle.std.proofs.lemmas.List.{take_more}
 use Rattle.std.proofs.lemmas.List.Elements.{All-head, All-tail, filter_map-append}
 use Rattle.std.proofs.lemmas.List.Kept.{IsStrictlyIncreasing-filter}
-use Rattle.nl_layout.specs.Nouns.{BreedNumber}
+use Rattle.nl_agents_layout.specs.Nouns.{BreedNumber}
 use Rattle.nl_agents.specs.World.{Rest, World}
 use Rattle.nl_agents.specs.Changes.{is_turtle, turtle_of, link_of}
 use Rattle.nl_agents.specs.Members.{all_turtles, links_where, is_listed}
@@ -18,14 +18,14 @@ use Rattle.nl_value.specs.declared.sets.AgentKind.TheVariants as kind
 use Rattle.nl_agents.specs.Standing.{IsWorld, IsLinkOf}
 use Rattle.nl_agents.specs.declared.agents.Turtle as the_turtle
 use Rattle.nl_agents.specs.declared.agents.Link as the_link
-use Rattle.nl_layout.proofs.Ascending.{has_filter, same_ascending}
-use Rattle.nl_query.specs.declared.words.Side.{Side}
+use Rattle.nl_agents_layout.proofs.Ascending.{has_filter, same_ascending}
+use Rattle.nl_agentset_query.specs.declared.words.Side.{Side}
 use Rattle.nl_agentset.specs.Links.{other_end_of, is_link_at, is_link_to, links_at, is_neighbor, neighbors_at, neighbor_told, neighbor_tested, least_of, link_told, link_found}
-use Rattle.nl_query.specs.Inputs.{agent_at}
-use Rattle.nl_query.specs.Outcomes.{and_then}
-use Rattle.nl_query.specs.Agents.{link_passes, agent_or_nobody}
+use Rattle.nl_agentset_query.specs.Inputs.{agent_at}
+use Rattle.nl_agentset_query.specs.Outcomes.{and_then}
+use Rattle.nl_agentset_query.specs.Agents.{link_passes, agent_or_nobody}
 use Rattle.nl_agentset.specs.Sets.{has_members}
-use Rattle.nl_query.specs.Orders.{SameNumbers}
+use Rattle.nl_agentset_query.specs.Orders.{SameNumbers}
 use Rattle.nl_agentset.proofs.Found.{any_number, any_link}
 use Rattle.nl_agentset.proofs.Linked.{links_lead_to}
 

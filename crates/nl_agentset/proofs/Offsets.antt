@@ -6,8 +6,8 @@ use Rattle.nl_value.specs.Views.{plain}
 use Rattle.nl_value.specs.declared.values.Value.{Value}
 use Rattle.nl_agents.specs.World.{Rest}
 use Rattle.nl_agents.specs.declared.agents.Owner.{Owner}
-use Rattle.nl_query.specs.declared.fail.QueryFail.{QueryFail}
-use Rattle.nl_query.specs.Outcomes.{Outcome, and_then}
+use Rattle.nl_agentset_query.specs.declared.fail.QueryFail.{QueryFail}
+use Rattle.nl_agentset_query.specs.Outcomes.{Outcome, and_then}
 use Rattle.nl_agentset.specs.Places.{as_offset, offsets_in, patch_beside, patches_at, with_patch}
 
 -- items, and behind them those of an outcome

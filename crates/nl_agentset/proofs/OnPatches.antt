@@ -8,18 +8,18 @@ use Rattle.std.proofs.lemmas.Bool.Decides.{Decides-eqb, same_from_decides}
 use Rattle.std.proofs.lemmas.List.{take_more, append-nil}
 use Rattle.std.proofs.lemmas.Grind.{flat_map-append}
 use Rattle.nl_grid.specs.Geometry.{patch_at}
-use Rattle.nl_layout.specs.Nouns.{BreedNumber}
+use Rattle.nl_agents_layout.specs.Nouns.{BreedNumber}
 use Rattle.nl_agents.specs.World.{Rest, World}
 use Rattle.nl_agents.specs.Changes.{turtle_of}
 use Rattle.nl_agents.specs.Members.{turtles_where, is_on, is_listed}
 use Rattle.nl_agents.specs.Standing.{IsWorld}
 use Rattle.nl_agents.specs.declared.agents.Turtle.{Turtle}
-use Rattle.nl_layout.proofs.Ascending.{same_ascending}
+use Rattle.nl_agents_layout.proofs.Ascending.{same_ascending}
 use Rattle.nl_agents.proofs.LivingMembers.{passing_ascend}
-use Rattle.nl_members.proofs.Boxes.{each_has}
+use Rattle.nl_agentset_query.proofs.Boxes.{each_has}
 use Rattle.nl_agentset.specs.Places.{turtles_on}
-use Rattle.nl_query.specs.Agents.{is_of, turtle_passes}
-use Rattle.nl_query.specs.Orders.{SameNumbers}
+use Rattle.nl_agentset_query.specs.Agents.{is_of, turtle_passes}
+use Rattle.nl_agentset_query.specs.Orders.{SameNumbers}
 use Rattle.nl_agentset.proofs.Found.{turtles_kept, same_turtles}
 
 turned : (a b : ℕ) → (a == b) ≡ (b == a)

@@ -8,23 +8,23 @@ use Rattle.nl_value.specs.declared.sets.AgentKind.{AgentKind}
 use Rattle.nl_value.specs.declared.sets.AgentSet.{AgentSet}
 use Rattle.nl_grid.specs.Geometry.{Plane, distance_of}
 use Rattle.nl_grid.specs.declared.point.Point.{Point}
-use Rattle.nl_layout.specs.Nouns.{BreedNumber}
+use Rattle.nl_agents_layout.specs.Nouns.{BreedNumber}
 use Rattle.nl_agents.specs.World.{Rest, World}
 use Rattle.nl_agents.specs.Changes.{OwnerLives}
 use Rattle.nl_agents.specs.Members.{members_of, is_listed}
 use Rattle.nl_agents.specs.Standing.{IsWorld, fits_rest}
 use Rattle.nl_agents.specs.declared.agents.Link as the_link
 use Rattle.nl_agents.specs.declared.agents.Owner.{Owner}
-use Rattle.nl_members.specs.Near.{is_within}
-use Rattle.nl_query.specs.Agents.{is_of, listed_value}
-use Rattle.nl_query.specs.Inputs.{inputs_fit}
-use Rattle.nl_query.specs.declared.words.QueryWord.{QueryWord}
-use Rattle.nl_query.specs.declared.words.Side.{Side}
-use Rattle.nl_query.specs.declared.words.Side.TheVariants as side
+use Rattle.nl_agentset_query.specs.Near.{is_within}
+use Rattle.nl_agentset_query.specs.Agents.{is_of, listed_value}
+use Rattle.nl_agentset_query.specs.Inputs.{inputs_fit}
+use Rattle.nl_agentset_query.specs.declared.words.QueryWord.{QueryWord}
+use Rattle.nl_agentset_query.specs.declared.words.Side.{Side}
+use Rattle.nl_agentset_query.specs.declared.words.Side.TheVariants as side
 use Rattle.nl_agentset.specs.Links.{is_neighbor}
 use Rattle.nl_agentset.specs.Queries.{query_answer, word_breed_fits}
 use Rattle.nl_agentset.specs.Sets.{is_caller, others}
-use Rattle.nl_union.specs.Unions.{union_of}
+use Rattle.nl_agentset_query.specs.Unions.{union_of}
 
 -- what a query answers fits the world, where its inputs do
 abbrev pub AnswersFit : Type 0

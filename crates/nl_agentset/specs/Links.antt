@@ -5,7 +5,7 @@ use Rattle.nl_value.specs.Nouns.{Serials}
 use Rattle.nl_value.specs.Living.{Living, link_comes_before}
 use Rattle.nl_value.specs.Plain.{Plain, PlainTruth}
 use Rattle.nl_value.specs.declared.sets.AgentKind.TheVariants as kind
-use Rattle.nl_layout.specs.Nouns.{BreedNumber}
+use Rattle.nl_agents_layout.specs.Nouns.{BreedNumber}
 use Rattle.nl_agents.specs.World.{Rest}
 use Rattle.nl_agents.specs.Changes.{turtle_of, link_of, has_end}
 use Rattle.nl_agents.specs.Members.{all_turtles, links_where}
@@ -13,15 +13,15 @@ use Rattle.nl_agents.specs.Names.{living_of}
 use Rattle.nl_agents.specs.declared.agents.Link as the_link
 use Rattle.nl_agents.specs.declared.agents.Owner.{Owner}
 use Rattle.nl_agents.specs.declared.agents.Owner.TheVariants as owner
-use Rattle.nl_query.specs.declared.fail.QueryFail.TheVariants.{WrongType}
-use Rattle.nl_query.specs.declared.words.Side.{Side}
-use Rattle.nl_query.specs.declared.words.Side.TheVariants as side
-use Rattle.nl_query.specs.declared.words.OfEnds.{OfEnds}
-use Rattle.nl_query.specs.declared.words.OfEnds.TheVariants as of_ends
-use Rattle.nl_query.specs.declared.words.Measure.TheVariants as measure
-use Rattle.nl_query.specs.Agents.{point_of, is_of, listed_value, agent_or_nobody}
-use Rattle.nl_query.specs.Inputs.{agent_at}
-use Rattle.nl_query.specs.Outcomes.{Outcome, and_then}
+use Rattle.nl_agentset_query.specs.declared.fail.QueryFail.TheVariants.{WrongType}
+use Rattle.nl_agentset_query.specs.declared.words.Side.{Side}
+use Rattle.nl_agentset_query.specs.declared.words.Side.TheVariants as side
+use Rattle.nl_agentset_query.specs.declared.words.OfEnds.{OfEnds}
+use Rattle.nl_agentset_query.specs.declared.words.OfEnds.TheVariants as of_ends
+use Rattle.nl_agentset_query.specs.declared.words.Measure.TheVariants as measure
+use Rattle.nl_agentset_query.specs.Agents.{point_of, is_of, listed_value, agent_or_nobody}
+use Rattle.nl_agentset_query.specs.Inputs.{agent_at}
+use Rattle.nl_agentset_query.specs.Outcomes.{Outcome, and_then}
 use Rattle.nl_agentset.specs.Places.{measured}
 
 -- ---- links of a turtle

@@ -10,26 +10,26 @@ use Rattle.nl_value.specs.declared.sets.AgentKind.TheVariants as kind
 use Rattle.nl_value.specs.declared.sets.AgentSet.{AgentSet}
 use Rattle.nl_grid.specs.Geometry.{Plane, patch_at, point_beside, point_ahead, wrapped_point, neighbors_of, neighbors4_of, distance_of, heading_between}
 use Rattle.nl_grid.specs.declared.point.Point.{Point}
-use Rattle.nl_layout.specs.Nouns.{BreedNumber}
+use Rattle.nl_agents_layout.specs.Nouns.{BreedNumber}
 use Rattle.nl_agents.specs.World.{Rest}
 use Rattle.nl_agents.specs.Members.{members_of, turtles_where, is_listed}
 use Rattle.nl_agents.specs.declared.agents.Owner.{Owner}
 use Rattle.nl_agents.specs.declared.agents.Owner.TheVariants as owner
-use Rattle.nl_members.specs.Near.{members_where, members_within, members_in_cone}
-use Rattle.nl_query.specs.declared.fail.QueryFail.TheVariants.{WrongType, OutOfWorld, SamePoint, Domain}
-use Rattle.nl_query.specs.declared.words.Standing.{Standing}
-use Rattle.nl_query.specs.declared.words.Standing.TheVariants as standing
-use Rattle.nl_query.specs.declared.words.Around.{Around}
-use Rattle.nl_query.specs.declared.words.Around.TheVariants as around
-use Rattle.nl_query.specs.declared.words.PatchBy.{PatchBy}
-use Rattle.nl_query.specs.declared.words.PatchBy.TheVariants as patch_by
-use Rattle.nl_query.specs.declared.words.Facing.{Facing}
-use Rattle.nl_query.specs.declared.words.Facing.TheVariants as facing
-use Rattle.nl_query.specs.declared.words.Measure.{Measure}
-use Rattle.nl_query.specs.declared.words.Measure.TheVariants as measure
-use Rattle.nl_query.specs.Agents.{place_of, is_of, listed_value, agent_or_nobody, own_patch, heading_in}
-use Rattle.nl_query.specs.Inputs.{value_at, number_at, list_at, standing_set_at, point_at, as_agent, as_number, standing_set, standing_at}
-use Rattle.nl_query.specs.Outcomes.{Outcome, and_then, outcome_map, summed, or_fail}
+use Rattle.nl_agentset_query.specs.Near.{members_where, members_within, members_in_cone}
+use Rattle.nl_agentset_query.specs.declared.fail.QueryFail.TheVariants.{WrongType, OutOfWorld, SamePoint, Domain}
+use Rattle.nl_agentset_query.specs.declared.words.Standing.{Standing}
+use Rattle.nl_agentset_query.specs.declared.words.Standing.TheVariants as standing
+use Rattle.nl_agentset_query.specs.declared.words.Around.{Around}
+use Rattle.nl_agentset_query.specs.declared.words.Around.TheVariants as around
+use Rattle.nl_agentset_query.specs.declared.words.PatchBy.{PatchBy}
+use Rattle.nl_agentset_query.specs.declared.words.PatchBy.TheVariants as patch_by
+use Rattle.nl_agentset_query.specs.declared.words.Facing.{Facing}
+use Rattle.nl_agentset_query.specs.declared.words.Facing.TheVariants as facing
+use Rattle.nl_agentset_query.specs.declared.words.Measure.{Measure}
+use Rattle.nl_agentset_query.specs.declared.words.Measure.TheVariants as measure
+use Rattle.nl_agentset_query.specs.Agents.{place_of, is_of, listed_value, agent_or_nobody, own_patch, heading_in}
+use Rattle.nl_agentset_query.specs.Inputs.{value_at, number_at, list_at, standing_set_at, point_at, as_agent, as_number, standing_set, standing_at}
+use Rattle.nl_agentset_query.specs.Outcomes.{Outcome, and_then, outcome_map, summed, or_fail}
 
 -- ---- turtles on patches
 

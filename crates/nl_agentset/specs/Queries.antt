@@ -3,22 +3,22 @@
 use Rattle.std.specs.Prelude.{ℕ, Bool, true, Option, Some, None, Ok, Err, List}
 use Rattle.nl_value.specs.Plain.{Plain, PlainSet, plains}
 use Rattle.nl_words.specs.Row.{Code}
-use Rattle.nl_layout.specs.Nouns.{BreedNumber}
-use Rattle.nl_layout.specs.Layouts.{is_turtle_breed, is_link_breed}
+use Rattle.nl_agents_layout.specs.Nouns.{BreedNumber}
+use Rattle.nl_agents_layout.specs.Layouts.{is_turtle_breed, is_link_breed}
 use Rattle.nl_agents.specs.World.{Rest}
-use Rattle.nl_layout.specs.declared.layout.Layout.{Layout}
+use Rattle.nl_agents_layout.specs.declared.layout.Layout.{Layout}
 use Rattle.nl_agents.specs.declared.agents.Owner.{Owner}
-use Rattle.nl_query.specs.declared.fail.QueryFail.TheVariants.{WrongType}
-use Rattle.nl_query.specs.declared.words.QueryWord.{QueryWord}
-use Rattle.nl_query.specs.declared.words.QueryWord.TheVariants as word
-use Rattle.nl_query.specs.declared.words.Whole.TheVariants as whole
-use Rattle.nl_choice.specs.Choices.{chosen_by}
+use Rattle.nl_agentset_query.specs.declared.fail.QueryFail.TheVariants.{WrongType}
+use Rattle.nl_agentset_query.specs.declared.words.QueryWord.{QueryWord}
+use Rattle.nl_agentset_query.specs.declared.words.QueryWord.TheVariants as word
+use Rattle.nl_agentset_query.specs.declared.words.Whole.TheVariants as whole
+use Rattle.nl_agentset_query.specs.Choices.{chosen_by}
 use Rattle.nl_agentset.specs.Links.{own_links, own_neighbors, neighbor_tested, link_found, ends_told}
-use Rattle.nl_query.specs.Outcomes.{Outcome, outcome_map}
+use Rattle.nl_agentset_query.specs.Outcomes.{Outcome, outcome_map}
 use Rattle.nl_agentset.specs.Places.{standing_by, patches_around, one_patch, faced, measured_to, measured_to_xy}
 use Rattle.nl_agentset.specs.Sets.{whole_set, looked_up, breed_tested, set_told}
-use Rattle.nl_union.specs.Unions.{union_of}
-use Rattle.nl_query.specs.Words.{query_word}
+use Rattle.nl_agentset_query.specs.Unions.{union_of}
+use Rattle.nl_agentset_query.specs.Words.{query_word}
 
 -- what a query answers that draws nothing
 abbrev pub told : Rest → Option BreedNumber → Owner → QueryWord → List Plain → Outcome Plain

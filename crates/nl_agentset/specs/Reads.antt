@@ -7,15 +7,15 @@ use Rattle.nl_value.specs.declared.sets.AgentSet.TheVariants as set
 use Rattle.nl_agents.specs.World.{Rest}
 use Rattle.nl_agents.specs.Members.{turtles_where, all_links, is_on, most_reads}
 use Rattle.nl_agents.specs.declared.agents.Owner.{Owner}
-use Rattle.nl_members.specs.Near.{near_reads}
-use Rattle.nl_query.specs.declared.words.OfSet.{OfSet}
-use Rattle.nl_query.specs.declared.words.OfSet.TheVariants as of_set
-use Rattle.nl_query.specs.declared.words.Standing.{Standing}
-use Rattle.nl_query.specs.declared.words.Standing.TheVariants as standing
-use Rattle.nl_query.specs.declared.words.QueryWord.{QueryWord}
-use Rattle.nl_query.specs.declared.words.QueryWord.TheVariants as word
-use Rattle.nl_query.specs.Agents.{place_of, own_patch}
-use Rattle.nl_query.specs.Inputs.{set_at, number_at}
+use Rattle.nl_agentset_query.specs.Near.{near_reads}
+use Rattle.nl_agentset_query.specs.declared.words.OfSet.{OfSet}
+use Rattle.nl_agentset_query.specs.declared.words.OfSet.TheVariants as of_set
+use Rattle.nl_agentset_query.specs.declared.words.Standing.{Standing}
+use Rattle.nl_agentset_query.specs.declared.words.Standing.TheVariants as standing
+use Rattle.nl_agentset_query.specs.declared.words.QueryWord.{QueryWord}
+use Rattle.nl_agentset_query.specs.declared.words.QueryWord.TheVariants as word
+use Rattle.nl_agentset_query.specs.Agents.{place_of, own_patch}
+use Rattle.nl_agentset_query.specs.Inputs.{set_at, number_at}
 
 -- to count the members of a set: none but for the links of a breed, which are sought among all links
 abbrev pub count_reads : Rest → AgentSet → ℕ

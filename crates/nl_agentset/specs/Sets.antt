@@ -11,7 +11,7 @@ use Rattle.nl_value.specs.declared.sets.AgentKind.TheVariants as kind
 use Rattle.nl_value.specs.declared.sets.AgentSet.{AgentSet}
 use Rattle.nl_value.specs.declared.sets.AgentSet.TheVariants as set
 use Rattle.nl_grid.specs.Geometry.{patch_at, wrapped_point}
-use Rattle.nl_layout.specs.Nouns.{BreedNumber}
+use Rattle.nl_agents_layout.specs.Nouns.{BreedNumber}
 use Rattle.nl_agents.specs.World.{Rest}
 use Rattle.nl_agents.specs.Changes.{turtle_of, link_of, turtle_lives, link_lives}
 use Rattle.nl_agents.specs.Members.{members_of, is_listed}
@@ -20,18 +20,18 @@ use Rattle.nl_agents.specs.declared.agents.Turtle as the_turtle
 use Rattle.nl_agents.specs.declared.agents.Link as the_link
 use Rattle.nl_agents.specs.declared.agents.Owner.{Owner}
 use Rattle.nl_agents.specs.declared.agents.Owner.TheVariants as owner
-use Rattle.nl_query.specs.declared.fail.QueryFail.TheVariants.{WrongType}
-use Rattle.nl_query.specs.declared.words.Whole.{Whole}
-use Rattle.nl_query.specs.declared.words.Whole.TheVariants as whole
-use Rattle.nl_query.specs.declared.words.LookUp.{LookUp}
-use Rattle.nl_query.specs.declared.words.LookUp.TheVariants as look_up
-use Rattle.nl_query.specs.declared.words.OfBreed.{OfBreed}
-use Rattle.nl_query.specs.declared.words.OfBreed.TheVariants as of_breed
-use Rattle.nl_query.specs.declared.words.OfSet.{OfSet}
-use Rattle.nl_query.specs.declared.words.OfSet.TheVariants as of_set
-use Rattle.nl_query.specs.Agents.{agent_or_nobody, listed_value, is_of, breed_or_none, turtle_passes, link_passes}
-use Rattle.nl_query.specs.Inputs.{value_at, number_at, set_at}
-use Rattle.nl_query.specs.Outcomes.{Outcome, and_then}
+use Rattle.nl_agentset_query.specs.declared.fail.QueryFail.TheVariants.{WrongType}
+use Rattle.nl_agentset_query.specs.declared.words.Whole.{Whole}
+use Rattle.nl_agentset_query.specs.declared.words.Whole.TheVariants as whole
+use Rattle.nl_agentset_query.specs.declared.words.LookUp.{LookUp}
+use Rattle.nl_agentset_query.specs.declared.words.LookUp.TheVariants as look_up
+use Rattle.nl_agentset_query.specs.declared.words.OfBreed.{OfBreed}
+use Rattle.nl_agentset_query.specs.declared.words.OfBreed.TheVariants as of_breed
+use Rattle.nl_agentset_query.specs.declared.words.OfSet.{OfSet}
+use Rattle.nl_agentset_query.specs.declared.words.OfSet.TheVariants as of_set
+use Rattle.nl_agentset_query.specs.Agents.{agent_or_nobody, listed_value, is_of, breed_or_none, turtle_passes, link_passes}
+use Rattle.nl_agentset_query.specs.Inputs.{value_at, number_at, set_at}
+use Rattle.nl_agentset_query.specs.Outcomes.{Outcome, and_then}
 
 -- ---- sets without inputs
 

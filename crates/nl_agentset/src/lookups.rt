@@ -3,18 +3,18 @@ ghost use Rattle.std.specs.Prelude.{◌≡◌, ◌≤◌, ◌<◌, ◌+◌, map,
 ghost use Rattle.nl_fixed.specs.Numbers.{whole_limit};
 ghost use Rattle.nl_value.specs.Views.{plain};
 ghost use Rattle.nl_agents.specs.Changes.{turtle_of, link_of, TurtleLives, LinkLives};
-ghost use Rattle.nl_query.specs.Inputs.{inputs_fit};
-ghost use Rattle.nl_query.specs.Outcomes.{Gives, outcome_map};
+ghost use Rattle.nl_agentset_query.specs.Inputs.{inputs_fit};
+ghost use Rattle.nl_agentset_query.specs.Outcomes.{Gives, outcome_map};
 ghost use Rattle.nl_agentset.specs.inner.Walks.{whole_from_zero};
-ghost use Rattle.nl_query.specs.Agents.{breed_or_none, link_passes};
+ghost use Rattle.nl_agentset_query.specs.Agents.{breed_or_none, link_passes};
 ghost use Rattle.nl_agentset.specs.Sets.{turtle_named, bred_or_wrong, turtle_called, patch_called, is_between, link_between, link_called, looked_up, is_of_breed_value, breed_tested};
 
 use nl_agents::{Steps, Store};
+use nl_agentset_query::agents::{agent_or_nobody, breed_or_none, is_link_of, is_of, is_turtle_of};
+use nl_agentset_query::fail::QueryFail;
+use nl_agentset_query::inputs::{number_at, value_at};
+use nl_agentset_query::words::{LookUp, OfBreed};
 use nl_fixed::{NoMemory, Num};
-use nl_query::agents::{agent_or_nobody, breed_or_none, is_link_of, is_of, is_turtle_of};
-use nl_query::fail::QueryFail;
-use nl_query::inputs::{number_at, value_at};
-use nl_query::words::{LookUp, OfBreed};
 use nl_value::{AgentKind, Serials, Value};
 use std::alloc::Global;
 use std::sync::ledger::Ledger;

@@ -3,18 +3,18 @@ ghost use Rattle.std.specs.Prelude.{◌≡◌, ◌==◌, false, map, IsTrue, IfO
 ghost use Rattle.nl_value.specs.Views.{plain};
 ghost use Rattle.nl_grid.specs.Geometry.{IsPointOf};
 ghost use Rattle.nl_agents.specs.Changes.{OwnerLives, LinkLives, link_of};
-ghost use Rattle.nl_query.specs.Inputs.{inputs_fit};
+ghost use Rattle.nl_agentset_query.specs.Inputs.{inputs_fit};
 ghost use Rattle.nl_agentset.specs.Links.{both_of, of_link_found, ends_told};
-ghost use Rattle.nl_query.specs.Outcomes.{Gives, outcome_map};
+ghost use Rattle.nl_agentset_query.specs.Outcomes.{Gives, outcome_map};
 ghost use Rattle.nl_agentset.specs.Places.{measured, measured_to, measured_to_xy};
 
 use nl_agents::{Owner, Store};
+use nl_agentset_query::agents::place_of;
+use nl_agentset_query::fail::QueryFail;
+use nl_agentset_query::inputs::{number_at, point_at};
+use nl_agentset_query::words::{Measure, OfEnds};
 use nl_fixed::NoMemory;
 use nl_grid::{Point, Shape};
-use nl_query::agents::place_of;
-use nl_query::fail::QueryFail;
-use nl_query::inputs::{number_at, point_at};
-use nl_query::words::{Measure, OfEnds};
 use nl_value::{AgentSet, Serials, Value};
 use std::alloc::Global;
 

@@ -3,17 +3,17 @@ ghost use Rattle.std.specs.Prelude.{◌≡◌, ◌<◌, map, IfOk, IfSome};
 ghost use Rattle.nl_value.specs.Views.{plain};
 ghost use Rattle.nl_grid.specs.Geometry.{patches_of, FindsPointOf};
 ghost use Rattle.nl_agents.specs.Changes.{OwnerLives};
-ghost use Rattle.nl_query.specs.Outcomes.{outcome_map, summed};
+ghost use Rattle.nl_agentset_query.specs.Outcomes.{outcome_map, summed};
 ghost use Rattle.nl_agentset.specs.Places.{patch_found, patch_beside, patch_ahead, patches_around, patch_reached, one_patch, faced, turned_by, turned_ahead};
 
 use nl_agents::{Owner, Store};
+use nl_agentset_query::agents::{heading_in, own_patch, place_of};
+use nl_agentset_query::fail::QueryFail;
+use nl_agentset_query::inputs::number_at;
+use nl_agentset_query::orders::of_patches;
+use nl_agentset_query::words::{Around, Facing, PatchBy};
 use nl_fixed::{NoMemory, Num, NumFault};
 use nl_grid::{Point, Shape};
-use nl_query::agents::{heading_in, own_patch, place_of};
-use nl_query::fail::QueryFail;
-use nl_query::inputs::number_at;
-use nl_query::orders::of_patches;
-use nl_query::words::{Around, Facing, PatchBy};
 use nl_value::{AgentSet, Value};
 use std::alloc::Global;
 

@@ -3,9 +3,9 @@ ghost use Rattle.std.specs.Prelude.{◌≡◌, map, is_some, IsTrue, IfOk, OnErr
 ghost use Rattle.nl_value.specs.Views.{plain};
 ghost use Rattle.nl_agents.specs.Changes.{OwnerLives};
 ghost use Rattle.nl_agents.specs.Standing.{fits_rest};
-ghost use Rattle.nl_query.specs.Inputs.{inputs_fit};
-ghost use Rattle.nl_query.specs.Outcomes.{Answers, Gives, outcome_map};
-ghost use Rattle.nl_query.specs.Words.{query_word};
+ghost use Rattle.nl_agentset_query.specs.Inputs.{inputs_fit};
+ghost use Rattle.nl_agentset_query.specs.Outcomes.{Answers, Gives, outcome_map};
+ghost use Rattle.nl_agentset_query.specs.Words.{query_word};
 ghost use Rattle.nl_agentset.specs.Queries.{told, query_answer, queried, breed_fits, word_breed_fits};
 ghost use Rattle.nl_agentset.specs.Reads.{few_reads, few_reads_by, AreFew};
 
@@ -17,10 +17,8 @@ use crate::sets::{set_told, whole_set};
 use crate::standing::standing_by;
 use nl_agents::view::View;
 use nl_agents::{Owner, Steps, Store};
-use nl_choice::chosen_by;
+use nl_agentset_query::{QueryFail, QueryWord, chosen_by, query_word, union_of};
 use nl_draw::Stream;
-use nl_query::{QueryFail, QueryWord, query_word};
-use nl_union::union_of;
 use nl_value::Value;
 use std::alloc::Global;
 use std::sync::ledger::Ledger;

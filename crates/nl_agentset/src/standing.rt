@@ -7,29 +7,29 @@ ghost use Rattle.nl_value.specs.declared.sets.AgentKind.TheVariants as the_kind;
 ghost use Rattle.nl_grid.specs.Geometry.{patches_of};
 ghost use Rattle.nl_agents.specs.Changes.{OwnerLives, TurtleLives, turtle_of};
 ghost use Rattle.nl_agents.specs.declared.agents.Owner.TheVariants as owner;
-ghost use Rattle.nl_query.specs.declared.words.Standing.TheVariants as standing;
+ghost use Rattle.nl_agentset_query.specs.declared.words.Standing.TheVariants as standing;
 ghost use Rattle.nl_agents.specs.Members.{members_of, turtles_where, is_on};
 ghost use Rattle.nl_agents.specs.Names.{set_fits};
 ghost use Rattle.nl_agents.specs.Standing.{fits_rest};
-ghost use Rattle.nl_members.specs.Near.{stands_where, members_where};
-ghost use Rattle.nl_query.specs.Inputs.{inputs_fit};
-ghost use Rattle.nl_query.specs.Outcomes.{Gives, outcome_map};
-ghost use Rattle.nl_query.specs.Agents.{own_patch, is_of, turtle_passes};
+ghost use Rattle.nl_agentset_query.specs.Near.{stands_where, members_where};
+ghost use Rattle.nl_agentset_query.specs.Inputs.{inputs_fit};
+ghost use Rattle.nl_agentset_query.specs.Outcomes.{Gives, outcome_map};
+ghost use Rattle.nl_agentset_query.specs.Agents.{own_patch, is_of, turtle_passes};
 ghost use Rattle.nl_agentset.specs.Places.{turtles_on, bred_on, some_patch, patches_under, patches_of_agent, patches_of_value, offset_in, as_offset, offsets_in, patches_at, is_on_one, standing_by};
 ghost use Rattle.nl_agentset.specs.Reads.{patch_reads, standing_reads, AreFew};
 
 use crate::patches::patch_beside;
 use nl_agents::{Owner, Steps, Store};
-use nl_fixed::{NoMemory, Num};
-use nl_members::{in_cone, in_radius, living};
-use nl_query::agents::{heading_in, is_turtle_of, listed, own_patch, place_of};
-use nl_query::fail::QueryFail;
-use nl_query::inputs::{
+use nl_agentset_query::agents::{heading_in, is_turtle_of, listed, own_patch, place_of};
+use nl_agentset_query::fail::QueryFail;
+use nl_agentset_query::inputs::{
     as_agent, as_list, as_number, fitting_at, list_at, number_at, standing_at, standing_set,
     standing_set_at,
 };
-use nl_query::orders::in_order;
-use nl_query::words::Standing;
+use nl_agentset_query::orders::in_order;
+use nl_agentset_query::words::Standing;
+use nl_agentset_query::{in_cone, in_radius, living};
+use nl_fixed::{NoMemory, Num};
 use nl_value::{AgentKind, AgentSet, Serials, Value};
 use std::alloc::Global;
 use std::sync::ledger::Ledger;

@@ -7,10 +7,10 @@ use Rattle.std.proofs.lemmas.List.{map_push, append_assoc}
 use Rattle.std.proofs.lemmas.List.Elements.{All-nil, All-head, All-tail, All-push, All-weaker}
 use Rattle.nl_value.specs.Plain.{Plain, PlainNumber}
 use Rattle.nl_grid.specs.declared.point.Point.{Point}
-use Rattle.nl_layout.specs.Nouns.{Slots, Slot, BreedNumber}
+use Rattle.nl_agents_layout.specs.Nouns.{Slots, Slot, BreedNumber}
 use Rattle.nl_agents.specs.Nouns.{Vars}
-use Rattle.nl_layout.specs.BuiltIn.{color_slot, heading_slot}
-use Rattle.nl_layout.specs.Layouts.{turtle_owns}
+use Rattle.nl_agents_layout.specs.BuiltIn.{color_slot, heading_slot}
+use Rattle.nl_agents_layout.specs.Layouts.{turtle_owns}
 use Rattle.nl_agents.specs.World.{World}
 use Rattle.nl_agents.specs.Changes.{is_turtle, turtle_of, value_set, bred_entry, bred_entries, birth_vars, born, newborn}
 use Rattle.nl_agents.specs.Standing.{IsWorld, IsTurtleOf}

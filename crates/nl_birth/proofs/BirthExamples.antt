@@ -4,10 +4,10 @@ use Rattle.nl_value.specs.Plain.{Plain, PlainNumber}
 use Rattle.nl_value.specs.Nouns.{Serials}
 use Rattle.nl_grid.specs.Geometry.{plane_of}
 use Rattle.nl_draw.specs.Stream.{first_state, drawn, words_from, state_after, next_state, word_of}
-use Rattle.nl_layout.specs.BuiltIn.{color_slot, heading_slot}
+use Rattle.nl_agents_layout.specs.BuiltIn.{color_slot, heading_slot}
 use Rattle.nl_agents.specs.World.{World, first_world}
 use Rattle.nl_agents.specs.Changes.{value_of}
-use Rattle.nl_layout.specs.declared.layout.Layout.{Layout}
+use Rattle.nl_agents_layout.specs.declared.layout.Layout.{Layout}
 use Rattle.nl_agents.specs.declared.agents.Owner.TheVariants as owner
 use Rattle.nl_fixed.specs.Numbers.{rounded_quotient}
 use Rattle.nl_birth.specs.declared.way.Way.TheVariants.{With, To, From}

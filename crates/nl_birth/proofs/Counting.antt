@@ -12,9 +12,9 @@ use Rattle.nl_value.specs.Nouns.{Serials}
 use Rattle.nl_value.specs.Ascending.{IsAboveLast}
 use Rattle.nl_grid.specs.Geometry.{IsPointOf}
 use Rattle.nl_grid.specs.declared.point.Point.{Point}
-use Rattle.nl_layout.specs.Nouns.{Slot, BreedNumber}
-use Rattle.nl_layout.specs.Layouts.{is_turtle_breed}
-use Rattle.nl_layout.specs.BuiltIn.{color_slot, heading_slot}
+use Rattle.nl_agents_layout.specs.Nouns.{Slot, BreedNumber}
+use Rattle.nl_agents_layout.specs.Layouts.{is_turtle_breed}
+use Rattle.nl_agents_layout.specs.BuiltIn.{color_slot, heading_slot}
 use Rattle.nl_agents.specs.World.{World}
 use Rattle.nl_agents.specs.Changes.{TurtleLives, AreTurtlesFull, born, newborn, revalued, value_set}
 use Rattle.nl_agents.specs.declared.agents.Owner.TheVariants as owner

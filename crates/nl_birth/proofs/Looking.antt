@@ -6,13 +6,13 @@ use Rattle.std.proofs.lemmas.Option.{none-some}
 use Rattle.std.proofs.lemmas.List.Elements.{All-weaker}
 use Rattle.nl_value.specs.Plain.{Plain, PlainNumber}
 use Rattle.nl_grid.specs.declared.point.Point.{Point}
-use Rattle.nl_layout.specs.Nouns.{Slot, BreedNumber}
-use Rattle.nl_layout.specs.BuiltIn.{color_slot, heading_slot, first_of_turtle}
-use Rattle.nl_layout.specs.Layouts.{turtle_owns}
+use Rattle.nl_agents_layout.specs.Nouns.{Slot, BreedNumber}
+use Rattle.nl_agents_layout.specs.BuiltIn.{color_slot, heading_slot, first_of_turtle}
+use Rattle.nl_agents_layout.specs.Layouts.{turtle_owns}
 use Rattle.nl_agents.specs.World.{World, first_turtle_vars}
 use Rattle.nl_agents.specs.Changes.{is_turtle, turtle_of, in_turtle, value_in, value_set, set_entry, value_of, newborn}
 use Rattle.nl_agents.specs.Standing.{IsWorld}
-use Rattle.nl_layout.specs.declared.layout.Layout.{Layout}
+use Rattle.nl_agents_layout.specs.declared.layout.Layout.{Layout}
 use Rattle.nl_agents.specs.declared.agents.Turtle.{Turtle}
 use Rattle.nl_agents.specs.declared.agents.Owner.TheVariants as owner
 use Rattle.nl_agents.proofs.Finding.{found_before, found_after, none_found}

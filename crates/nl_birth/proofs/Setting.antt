@@ -5,9 +5,9 @@ use Rattle.std.proofs.lemmas.Bool.{cond_both, cond-true, cond-false, eqb-true, e
 use Rattle.std.proofs.lemmas.Option.{none-some, same_Some}
 use Rattle.nl_value.specs.Plain.{Plain}
 use Rattle.nl_grid.specs.declared.point.Point.{Point}
-use Rattle.nl_layout.specs.Nouns.{Slot, Slots, BreedNumber}
+use Rattle.nl_agents_layout.specs.Nouns.{Slot, Slots, BreedNumber}
 use Rattle.nl_agents.specs.Nouns.{Vars}
-use Rattle.nl_layout.specs.Layouts.{turtle_owns}
+use Rattle.nl_agents_layout.specs.Layouts.{turtle_owns}
 use Rattle.nl_agents.specs.World.{World}
 use Rattle.nl_agents.specs.Changes.{is_turtle, turtle_of, TurtleLives, in_turtle, value_in, value_set, set_entry, value_of, revalued, born, newborn}
 use Rattle.nl_agents.specs.Standing.{IsWorld, IsTurtleOf}

@@ -7,12 +7,12 @@ use Rattle.std.proofs.lemmas.List.{append_assoc, take_all}
 use Rattle.std.proofs.lemmas.List.Elements.{All-nil, All-cons}
 use Rattle.std.proofs.lemmas.List.Folds.{list_any-append}
 use Rattle.nl_value.specs.Nouns.{Serials}
-use Rattle.nl_layout.specs.Nouns.{BreedNumber}
+use Rattle.nl_agents_layout.specs.Nouns.{BreedNumber}
 use Rattle.nl_agents.specs.World.{Rest, World}
 use Rattle.nl_agents.specs.Changes.{AreLinksFull, joins, new_link}
 use Rattle.nl_agents.specs.Members.{is_listed}
 use Rattle.nl_agents.specs.declared.agents.Link.{Link}
-use Rattle.nl_layout.proofs.Ascending.{has_filter}
+use Rattle.nl_agents_layout.proofs.Ascending.{has_filter}
 use Rattle.nl_birth.specs.declared.way.Way.{Way}
 use Rattle.nl_birth.specs.Links.{has_direction, first_end, second_end, is_joined, wanted, tied_to, tied_to_all, first_ties, link_room, is_none, is_of_other_kind, is_refused, linkings, linked}
 use Rattle.nl_birth.specs.Outcomes.{Outcome, Made, Filled, Refused, outcome_of}

@@ -10,8 +10,8 @@ use Rattle.std.proofs.lemmas.List.Elements.{All-head, All-tail, All-filter, All-
 use Rattle.std.proofs.lemmas.List.Folds.{list_any-append, list_any-from_Any}
 use Rattle.std.proofs.lemmas.List.Kept.{AllPairs-from_increasing, IsStrictlyIncreasing-filter}
 use Rattle.nl_value.specs.Nouns.{Serials}
-use Rattle.nl_layout.specs.Nouns.{BreedNumber}
-use Rattle.nl_layout.specs.Layouts.{is_link_breed}
+use Rattle.nl_agents_layout.specs.Nouns.{BreedNumber}
+use Rattle.nl_agents_layout.specs.Layouts.{is_link_breed}
 use Rattle.nl_agents.specs.World.{Rest, World}
 use Rattle.nl_agents.specs.Changes.{is_turtle, TurtleLives, AreLinksFull, joins, new_link, tied}
 use Rattle.nl_agents.specs.Members.{is_listed}

@@ -3,7 +3,7 @@ use Rattle.std.specs.Prelude.{ℕ, zero, suc, ◌-◌, ℤ, pos, negsuc, Bool, t
 use Rattle.nl_fixed.specs.Numbers.{whole_part}
 use Rattle.nl_grid.specs.Geometry.{center_of}
 use Rattle.nl_grid.specs.declared.point.Point.{Point}
-use Rattle.nl_layout.specs.Nouns.{BreedNumber}
+use Rattle.nl_agents_layout.specs.Nouns.{BreedNumber}
 use Rattle.nl_agents.specs.World.{World}
 use Rattle.nl_agents.specs.Changes.{turtle_of, born}
 use Rattle.nl_birth.specs.Looks.{drawn_looks, looks_in_order, born_with}

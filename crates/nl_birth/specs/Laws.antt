@@ -5,10 +5,10 @@ use Rattle.nl_fixed.specs.Sines.{degrees}
 use Rattle.nl_value.specs.Plain.{PlainNumber}
 use Rattle.nl_value.specs.Nouns.{Serials}
 use Rattle.nl_grid.specs.declared.point.Point.{Point}
-use Rattle.nl_layout.specs.Nouns.{BreedNumber}
-use Rattle.nl_layout.specs.BuiltIn.{color_slot, heading_slot}
-use Rattle.nl_layout.specs.Layouts.{has_slot, turtle_owns}
-use Rattle.nl_layout.specs.declared.layout.Layout.{Layout}
+use Rattle.nl_agents_layout.specs.Nouns.{BreedNumber}
+use Rattle.nl_agents_layout.specs.BuiltIn.{color_slot, heading_slot}
+use Rattle.nl_agents_layout.specs.Layouts.{has_slot, turtle_owns}
+use Rattle.nl_agents_layout.specs.declared.layout.Layout.{Layout}
 use Rattle.nl_agents.specs.declared.agents.Owner.TheVariants as owner
 use Rattle.nl_agents.specs.World.{World}
 use Rattle.nl_agents.specs.Changes.{turtle_of, link_of, value_of, AreTurtlesFull, AreLinksFull}

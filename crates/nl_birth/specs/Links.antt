@@ -2,7 +2,7 @@
 use Rattle.std.specs.Prelude.{◌≡◌, All, ℕ, ◌-◌, ◌==◌, Bool, true, false, ◌&&◌, ◌||◌, not, if◌then◌else◌, [], ◌∷◌, length, filter, take, min, max}
 use Rattle.std.specs.List.{list_any}
 use Rattle.nl_value.specs.Nouns.{Serials}
-use Rattle.nl_layout.specs.Nouns.{BreedNumber}
+use Rattle.nl_agents_layout.specs.Nouns.{BreedNumber}
 use Rattle.nl_agents.specs.World.{World}
 use Rattle.nl_agents.specs.Changes.{joins, tied}
 use Rattle.nl_agents.specs.Members.{is_listed, is_unbreeded}

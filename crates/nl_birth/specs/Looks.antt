@@ -7,8 +7,8 @@ use Rattle.nl_value.specs.Plain.{PlainNumber}
 use Rattle.nl_value.specs.Colors.{primary_numbers}
 use Rattle.nl_grid.specs.declared.point.Point.{Point}
 use Rattle.nl_draw.specs.Stream.{drawn}
-use Rattle.nl_layout.specs.Nouns.{BreedNumber, Slot}
-use Rattle.nl_layout.specs.BuiltIn.{color_slot, heading_slot}
+use Rattle.nl_agents_layout.specs.Nouns.{BreedNumber, Slot}
+use Rattle.nl_agents_layout.specs.BuiltIn.{color_slot, heading_slot}
 use Rattle.nl_agents.specs.World.{World}
 use Rattle.nl_agents.specs.Changes.{born, revalued}
 use Rattle.nl_agents.specs.declared.agents.Owner.TheVariants as owner

@@ -6,7 +6,7 @@
 ghost use Rattle.std.specs.Prelude.{◌≡◌, ◌<◌, ◌≤◌, ◌↔◌, ℕ, Some, None, Err, min, IsTrue, IfOk, OnOk, OnErr};
 ghost use Rattle.nl_fixed.specs.Numbers.{whole_limit};
 ghost use Rattle.nl_grid.specs.Geometry.{IsPointOf, center_of, patches_of};
-ghost use Rattle.nl_layout.specs.Layouts.{is_turtle_breed};
+ghost use Rattle.nl_agents_layout.specs.Layouts.{is_turtle_breed};
 ghost use Rattle.nl_agents.specs.Changes.{TurtleLives, AreTurtlesFull};
 ghost use Rattle.nl_birth.specs.Looks.{drawn_looks, born_with};
 ghost use Rattle.nl_birth.specs.Births.{Scene, count_of, turtle_room, drawn_births, ordered_births, hatchings, turtles_born, creations, created, sproutings, sprouted, hatched, place_of, origin};

@@ -6,7 +6,7 @@ ghost use Rattle.std.specs.Prelude.{◌≡◌, ◌==◌, ◌&&◌, ◌<◌, ◌�
 ghost use Rattle.std.specs.List.{list_any};
 ghost use Rattle.std.specs.List.Sorted.{IsStrictlyIncreasing};
 ghost use Rattle.std.specs.Option.{option_and_then};
-ghost use Rattle.nl_layout.specs.Layouts.{is_link_breed};
+ghost use Rattle.nl_agents_layout.specs.Layouts.{is_link_breed};
 ghost use Rattle.nl_agents.specs.Changes.{link_of, TurtleLives, LinkLives};
 ghost use Rattle.nl_agents.specs.Members.{is_listed};
 ghost use Rattle.nl_birth.specs.Links.{AreFree, wanted, is_of_other_kind, first_ties, links_made, link_room, linkings, linked, most_links};

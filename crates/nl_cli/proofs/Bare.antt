@@ -9,27 +9,27 @@ use Rattle.nl_tree.specs.declared.declared.Form.{Form}
 use Rattle.nl_tree.specs.declared.declared.Form.TheVariants as form
 use Rattle.nl_tree.specs.declared.tree.Label.{Label}
 use Rattle.nl_tree.specs.declared.tree.Label.TheVariants as labels
-use Rattle.nl_layout.specs.Nouns.{BreedNumber}
+use Rattle.nl_agents_layout.specs.Nouns.{BreedNumber}
 use Rattle.nl_motion.specs.Climbing.{climbed, state_climbed}
 use Rattle.nl_motion.specs.Diffusion.{diffused, diffuse_fault}
-use Rattle.nl_acts.specs.declared.fail.ErrorKind.TheVariants.{WrongType}
-use Rattle.nl_acts.specs.Acts.{turtle_in}
-use Rattle.nl_acts.specs.Stage.{changed}
-use Rattle.nl_acts.specs.Stage as stage
-use Rattle.nl_code.specs.Cases.{Case, case_of}
-use Rattle.nl_code.specs.Cases as case
-use Rattle.nl_code.specs.declared.words.Built.{Built}
-use Rattle.nl_code.specs.declared.words.Built.TheVariants as built
-use Rattle.nl_code.specs.declared.words.Control.{Control}
-use Rattle.nl_code.specs.declared.words.Control.TheVariants as control
-use Rattle.nl_code.specs.declared.words.Spread.{Spread}
-use Rattle.nl_code.specs.declared.words.Spread.TheVariants as spread
-use Rattle.nl_meaning.specs.State.{State, Outcome, Eval, come_to, found, goes_on, rest_of, with_number, with_part, with_stage, ◌>>=◌}
-use Rattle.nl_meaning.specs.Running.{allowed, staying}
-use Rattle.nl_meaning.specs.Variables.{make_local, assign}
-use Rattle.nl_meaning.specs.Walks.{at_stream}
-use Rattle.nl_meaning.specs.Meaning.{built_case, by_case, cases, control_case, evaluator, limited, name_in, slot_in, spread_case, text, text_by, text_statements, unless}
-use Rattle.nl_model.specs.Laws.{bare}
+use Rattle.nl_exec_acts.specs.declared.fail.ErrorKind.TheVariants.{WrongType}
+use Rattle.nl_exec_acts.specs.Acts.{turtle_in}
+use Rattle.nl_exec_acts.specs.Stage.{changed}
+use Rattle.nl_exec_acts.specs.Stage as stage
+use Rattle.nl_exec_meaning.specs.Cases.{Case, case_of}
+use Rattle.nl_exec_meaning.specs.Cases as case
+use Rattle.nl_exec_meaning.specs.declared.words.Built.{Built}
+use Rattle.nl_exec_meaning.specs.declared.words.Built.TheVariants as built
+use Rattle.nl_exec_meaning.specs.declared.words.Control.{Control}
+use Rattle.nl_exec_meaning.specs.declared.words.Control.TheVariants as control
+use Rattle.nl_exec_meaning.specs.declared.words.Spread.{Spread}
+use Rattle.nl_exec_meaning.specs.declared.words.Spread.TheVariants as spread
+use Rattle.nl_exec_meaning.specs.State.{State, Outcome, Eval, come_to, found, goes_on, rest_of, with_number, with_part, with_stage, ◌>>=◌}
+use Rattle.nl_exec_meaning.specs.Running.{allowed, staying}
+use Rattle.nl_exec_meaning.specs.Variables.{make_local, assign}
+use Rattle.nl_exec_meaning.specs.Walks.{at_stream}
+use Rattle.nl_exec_meaning.specs.Meaning.{built_case, by_case, cases, control_case, evaluator, limited, name_in, slot_in, spread_case, text, text_by, text_statements, unless}
+use Rattle.nl_check_model.specs.Laws.{bare}
 
 -- what a label is beside a table of words, whatever the index is
 case_at : (d : Declared) (l : Label) → case_of (record d { index = [] }) l ≡ case_of d l

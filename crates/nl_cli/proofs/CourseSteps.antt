@@ -4,8 +4,8 @@ use Rattle.std.specs.Prelude.{nat_le}
 use Rattle.std.specs.Option.{ForSome}
 use Rattle.std.proofs.lemmas.Bool.Decides.{nat_tests}
 use Rattle.nl_fixed.specs.Nouns.{Bytes}
-use Rattle.nl_keys.specs.declared.faults.PlanKind.{PlanKind}
-use Rattle.nl_keys.specs.declared.faults.PlanKind.TheVariants.{NoSuchRun}
+use Rattle.nl_experiment_keys.specs.declared.faults.PlanKind.{PlanKind}
+use Rattle.nl_experiment_keys.specs.declared.faults.PlanKind.TheVariants.{NoSuchRun}
 use Rattle.nl_experiment.specs.Numbers.{number_of, run_among}
 use Rattle.nl_cli.specs.declared.ends.End.{End}
 use Rattle.nl_cli.specs.Steps.{◌>>=◌, with_fault}

@@ -8,15 +8,15 @@ use Rattle.nl_scan.specs.declared.token.Token.{Token}
 use Rattle.nl_tree.specs.Checked.{Checked}
 use Rattle.nl_tree.specs.Tree.{Node}
 use Rattle.nl_tree.specs.Vocabulary.{terms}
-use Rattle.nl_fields.specs.declared.fields.Fields.{Fields}
+use Rattle.nl_experiment_fields.specs.declared.fields.Fields.{Fields}
 use Rattle.nl_experiment.specs.Laws.{HaveTrees}
 use Rattle.nl_experiment.specs.Plan.{experiment_says}
 use Rattle.nl_experiment.specs.Texts.{metrics_from, texts_of, until_texts}
 use Rattle.nl_experiment.specs.Widgets.{widgets_of}
 use Rattle.nl_experiment.proofs.OneThing.{texts_have_trees_or_faults}
-use Rattle.nl_model.specs.Verdict.{FileSays, IsVerdict, ScannedSay, Verdict}
-use Rattle.nl_model.proofs.EachVerdict.{files_have_verdicts}
-use Rattle.nl_model.proofs.Programs.{bodies_many}
+use Rattle.nl_check_model.specs.Verdict.{FileSays, IsVerdict, ScannedSay, Verdict}
+use Rattle.nl_check_model.proofs.EachVerdict.{files_have_verdicts}
+use Rattle.nl_check_model.proofs.Programs.{bodies_many}
 use Rattle.nl_run.specs.Job.{Trees}
 use Rattle.nl_cli.specs.Steps.{◌>>=◌, with_fault}
 use Rattle.nl_cli.specs.declared.words.Role.{Role}

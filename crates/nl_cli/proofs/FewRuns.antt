@@ -3,13 +3,13 @@ use Rattle.std.proofs.Common.{◌≡◌, ◌≤◌, Bool, true, false, Result, O
 use Rattle.std.specs.Prelude.{nat_le}
 use Rattle.std.proofs.lemmas.Bool.Decides.{nat_tests}
 use Rattle.nl_fixed.specs.Nouns.{Bytes}
-use Rattle.nl_sweep.specs.Sweep.{all_have_worlds, most_runs, runs_of}
-use Rattle.nl_keys.specs.Reading.{◌>>=◌, fault_at, only_if}
-use Rattle.nl_keys.specs.declared.faults.KeyFault.{KeyFault}
-use Rattle.nl_keys.specs.declared.faults.PlanKind.TheVariants.{BadWorld, TooManyRuns}
-use Rattle.nl_fields.specs.File.{file_says}
-use Rattle.nl_fields.specs.Keys.{vary_key, world_key}
-use Rattle.nl_fields.specs.declared.fields.Fields.{Fields}
+use Rattle.nl_experiment_sweep.specs.Sweep.{all_have_worlds, most_runs, runs_of}
+use Rattle.nl_experiment_keys.specs.Reading.{◌>>=◌, fault_at, only_if}
+use Rattle.nl_experiment_keys.specs.declared.faults.KeyFault.{KeyFault}
+use Rattle.nl_experiment_keys.specs.declared.faults.PlanKind.TheVariants.{BadWorld, TooManyRuns}
+use Rattle.nl_experiment_fields.specs.File.{file_says}
+use Rattle.nl_experiment_fields.specs.Keys.{vary_key, world_key}
+use Rattle.nl_experiment_fields.specs.declared.fields.Fields.{Fields}
 use Rattle.nl_experiment.specs.Plan.{experiment_says, judged, order_of, world_of}
 
 few_by : (p q : Bool) (d e : KeyFault) (f g : Fields) → (only_if p d >>= λ few. only_if q e >>= λ worlds. Ok f) ≡ Ok g → (p ≡ true) × (f ≡ g)

@@ -10,11 +10,11 @@ use Rattle.nl_tree.specs.Tree.{Node}
 use Rattle.nl_tree.specs.Views.{plain}
 use Rattle.nl_tree.specs.declared.tree.Tree.{Tree}
 use Rattle.nl_bench.specs.Texts.{experiment_text, model_text}
-use Rattle.nl_fields.specs.declared.fields.Fields.{Fields}
+use Rattle.nl_experiment_fields.specs.declared.fields.Fields.{Fields}
 use Rattle.nl_experiment.specs.Plan.{experiment_says}
 use Rattle.nl_experiment.specs.Texts.{AreTreesFor, metrics_from, texts_of, trees_of, until_texts, until_trees}
 use Rattle.nl_experiment.specs.Widgets.{widgets_of}
-use Rattle.nl_model.specs.Verdict.{IsVerdict}
+use Rattle.nl_check_model.specs.Verdict.{IsVerdict}
 use Rattle.nl_run.specs.Experiments.{trees_seen}
 use Rattle.nl_cli.specs.Limits.{file_limit}
 use Rattle.nl_cli.specs.declared.words.Role.{Role}

@@ -3,14 +3,14 @@ use Rattle.std.proofs.Common.{◌≡◌, Some, Result, Ok, Err, refl, sym, ap, s
 use Rattle.nl_fixed.specs.Nouns.{Bytes}
 use Rattle.nl_scan.specs.CodePart.{code_of}
 use Rattle.nl_tree.specs.Checked.{Checked}
-use Rattle.nl_keys.specs.declared.faults.KeyFault.{KeyFault}
-use Rattle.nl_fields.specs.declared.fields.Fields.{Fields}
+use Rattle.nl_experiment_keys.specs.declared.faults.KeyFault.{KeyFault}
+use Rattle.nl_experiment_fields.specs.declared.fields.Fields.{Fields}
 use Rattle.nl_experiment.specs.Plan.{experiment_says}
 use Rattle.nl_experiment.specs.Texts.{IsFirstBad, texts_of}
 use Rattle.nl_experiment.specs.Widgets.{widgets_of}
 use Rattle.nl_experiment.specs.declared.faults.PlanFault.{PlanFault}
-use Rattle.nl_model.specs.Verdict.{IsVerdict}
-use Rattle.nl_model.specs.declared.faults.ModelFault.{ModelFault}
+use Rattle.nl_check_model.specs.Verdict.{IsVerdict}
+use Rattle.nl_check_model.specs.declared.faults.ModelFault.{ModelFault}
 use Rattle.nl_run.specs.Job.{Trees}
 use Rattle.nl_cli.specs.Steps.{Goes, or_else, with_fault}
 use Rattle.nl_cli.specs.declared.words.Role.{Role}

@@ -8,11 +8,11 @@ use Rattle.nl_tree.specs.Checked.{Checked}
 use Rattle.nl_tree.specs.Tree.{Node}
 use Rattle.nl_tree.specs.declared.declared.Form.{Form}
 use Rattle.nl_tree.specs.declared.declared.Form.TheVariants as form
-use Rattle.nl_lone.specs.LoneText.{IsInner, IsLoneTree}
-use Rattle.nl_lone.specs.declared.faults.Inner.{Inner}
-use Rattle.nl_lone.proofs.OneThing.{trees_are_one}
-use Rattle.nl_keys.specs.declared.faults.PlanKind.{PlanKind}
-use Rattle.nl_fields.specs.declared.fields.Fields.{Fields}
+use Rattle.nl_check_model.specs.LoneText.{IsInner, IsLoneTree}
+use Rattle.nl_check_model.specs.declared.lone_faults.Inner.{Inner}
+use Rattle.nl_check_model.proofs.OneThing.{trees_are_one}
+use Rattle.nl_experiment_keys.specs.declared.faults.PlanKind.{PlanKind}
+use Rattle.nl_experiment_fields.specs.declared.fields.Fields.{Fields}
 use Rattle.nl_experiment.specs.Laws.{HaveTrees}
 use Rattle.nl_experiment.specs.Numbers.{number_of, run_among}
 use Rattle.nl_experiment.specs.Plan.{experiment_says}
@@ -20,9 +20,9 @@ use Rattle.nl_experiment.specs.Texts.{IsFirstBad, LoneText, metrics_from, texts_
 use Rattle.nl_experiment.specs.Widgets.{widgets_of}
 use Rattle.nl_experiment.specs.declared.faults.PlanFault.{PlanFault}
 use Rattle.nl_experiment.proofs.OneThing.{faults_are_one, trees_have_no_faults}
-use Rattle.nl_model.specs.Laws.{bare, told}
-use Rattle.nl_model.specs.Verdict.{Verdict}
-use Rattle.nl_model.proofs.OneVerdict.{verdicts_are_unique}
+use Rattle.nl_check_model.specs.Laws.{bare, told}
+use Rattle.nl_check_model.specs.Verdict.{Verdict}
+use Rattle.nl_check_model.proofs.OneVerdict.{verdicts_are_unique}
 use Rattle.nl_run.specs.Job.{Trees}
 use Rattle.nl_cli.specs.Steps.{◌>>=◌, Goes, with_fault}
 use Rattle.nl_cli.specs.declared.words.Role.{Role}

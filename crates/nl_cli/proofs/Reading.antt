@@ -6,15 +6,15 @@ use Rattle.std.proofs.lemmas.List.{length-take}
 use Rattle.nl_fixed.specs.Nouns.{Bytes, Names}
 use Rattle.nl_outer.specs.Folder.{Folder, read_of, content_of}
 use Rattle.nl_tree.specs.Checked.{Checked}
-use Rattle.nl_keys.specs.Document.{document, document_or_fault, file_holds}
-use Rattle.nl_keys.specs.Reading.{◌>>=◌, fault_at}
-use Rattle.nl_keys.specs.declared.faults.PlanKind.TheVariants.{TooLong}
-use Rattle.nl_fields.specs.File.{fields_in}
-use Rattle.nl_fields.specs.declared.fields.Fields.{Fields}
+use Rattle.nl_experiment_keys.specs.Document.{document, document_or_fault, file_holds}
+use Rattle.nl_experiment_keys.specs.Reading.{◌>>=◌, fault_at}
+use Rattle.nl_experiment_keys.specs.declared.faults.PlanKind.TheVariants.{TooLong}
+use Rattle.nl_experiment_fields.specs.File.{fields_in}
+use Rattle.nl_experiment_fields.specs.declared.fields.Fields.{Fields}
 use Rattle.nl_experiment.specs.Plan.{experiment_says, judged}
 use Rattle.nl_experiment.specs.Widgets.{widgets_of}
-use Rattle.nl_model.specs.Verdict.{FileSays, IsVerdict}
-use Rattle.nl_model.proofs.FirstBytes.{first_bytes_say_all}
+use Rattle.nl_check_model.specs.Verdict.{FileSays, IsVerdict}
+use Rattle.nl_check_model.proofs.FirstBytes.{first_bytes_say_all}
 use Rattle.nl_cli.specs.Limits.{file_limit}
 use Rattle.nl_cli.specs.Steps.{Goes, with_fault}
 use Rattle.nl_cli.specs.declared.ends.End.{End}

@@ -7,13 +7,13 @@ use Rattle.nl_value.specs.Plain.{Plain, PlainNumber, PlainTruth, PlainWords, Pla
 use Rattle.nl_value.specs.Limits.{most_bytes}
 use Rattle.nl_tree.specs.declared.declared.Form.{Form}
 use Rattle.nl_tree.specs.declared.declared.Form.TheVariants as form
-use Rattle.nl_acts.specs.declared.fail.ErrorKind.{ErrorKind}
+use Rattle.nl_exec_acts.specs.declared.fail.ErrorKind.{ErrorKind}
 use Rattle.nl_agents.specs.World.{World}
-use Rattle.nl_layout.specs.Layouts.{layout_of}
-use Rattle.nl_sweep.specs.Varied.{PlainSetting}
-use Rattle.nl_meaning.specs.State.{Outcome}
+use Rattle.nl_agents_layout.specs.Layouts.{layout_of}
+use Rattle.nl_experiment_sweep.specs.Varied.{PlainSetting}
+use Rattle.nl_exec_meaning.specs.State.{Outcome}
 use Rattle.nl_run.specs.Course.ending
-use Rattle.nl_model.specs.Laws.{bare}
+use Rattle.nl_check_model.specs.Laws.{bare}
 use Rattle.nl_run.specs.Job.{Job, Lone, scene_at_first, set_all, set_named, world_at_first}
 use Rattle.nl_run.specs.Course.{Ending, Standing, Finish, after_go, after_setup, after_until, at_first, behind, cell_of, cells, commands, commands_by, condition, counted, course_within, ending_of, ends_as, fault_by, first_fault, first_state, go_name, go_step, is_reached, measured, measured_if, metric_name, outcome_of, put_back, regular_end, rows_by, rows_of, setup_name, step_or_end, steps, steps_from, truth_by, unit_by, until_name, value, value_by, with_cell, with_row, with_unit}
 use Rattle.nl_run.specs.Rows.{closed_by}

@@ -11,23 +11,23 @@ use Rattle.nl_value.specs.Limits.{most_bytes, within_limits}
 use Rattle.nl_value.specs.Living.{no_life}
 use Rattle.nl_value.specs.Plain.{Plain, PlainNumber, PlainTruth, PlainWords, PlainItems, PlainTurtle, PlainPatch, PlainLink, PlainNobody, PlainSet}
 use Rattle.nl_value.specs.Text.{text_of}
-use Rattle.nl_literal.specs.Literals.{fit, literal_of, literal_of_tokens, whole_literal}
-use Rattle.nl_sweep.specs.Varied.{value_of}
-use Rattle.nl_sweep.specs.Sweep.{all_have_worlds, combination_of, index_of, most_runs, runs_of, settings_in, settings_of}
-use Rattle.nl_sweep.specs.declared.varied.Choice.{Choice}
-use Rattle.nl_sweep.specs.declared.varied.Choice.TheVariants.{Listed, Stepped}
-use Rattle.nl_sweep.specs.declared.varied.Vary.{Vary}
-use Rattle.nl_sweep.specs.declared.order.Order.{Order}
-use Rattle.nl_keys.specs.Reading.{◌>>=◌, all_known, each_item, fault_at, only_if, required, told_at, usual_or}
-use Rattle.nl_keys.specs.Document.{file_holds}
-use Rattle.nl_keys.specs.declared.faults.PlanKind.{PlanKind}
-use Rattle.nl_keys.specs.declared.faults.PlanKind.TheVariants.{BadLiteral, BadWorld, TooManyRuns}
-use Rattle.nl_keys.specs.declared.faults.KeyFault.{KeyFault}
-use Rattle.nl_fields.specs.Keys.{entry_keys, from_key, known_keys, name_key, step_key, to_key, values_key, vary_key, world_key}
-use Rattle.nl_fields.specs.Reading.{literal_in, literal_or_bad}
-use Rattle.nl_fields.specs.Entries.{all_steps_given, choice_by, count_of_steps, stepped_number, choice_in, entries_from, entry_by, globals_at, in_entry, is_empty, is_right_value, listed_in, right_value, stepped_in, steps_given, tables_in, values_in, varied_name, vary_at, world_at}
-use Rattle.nl_fields.specs.File.{fields_in, file_says, head_in, measures_in, scripts_in}
-use Rattle.nl_fields.specs.declared.fields.Fields.{Fields}
+use Rattle.nl_experiment_keys.specs.Literals.{fit, literal_of, literal_of_tokens, whole_literal}
+use Rattle.nl_experiment_sweep.specs.Varied.{value_of}
+use Rattle.nl_experiment_sweep.specs.Sweep.{all_have_worlds, combination_of, index_of, most_runs, runs_of, settings_in, settings_of}
+use Rattle.nl_experiment_sweep.specs.declared.varied.Choice.{Choice}
+use Rattle.nl_experiment_sweep.specs.declared.varied.Choice.TheVariants.{Listed, Stepped}
+use Rattle.nl_experiment_sweep.specs.declared.varied.Vary.{Vary}
+use Rattle.nl_experiment_sweep.specs.declared.order.Order.{Order}
+use Rattle.nl_experiment_keys.specs.Reading.{◌>>=◌, all_known, each_item, fault_at, only_if, required, told_at, usual_or}
+use Rattle.nl_experiment_keys.specs.Document.{file_holds}
+use Rattle.nl_experiment_keys.specs.declared.faults.PlanKind.{PlanKind}
+use Rattle.nl_experiment_keys.specs.declared.faults.PlanKind.TheVariants.{BadLiteral, BadWorld, TooManyRuns}
+use Rattle.nl_experiment_keys.specs.declared.faults.KeyFault.{KeyFault}
+use Rattle.nl_experiment_fields.specs.Keys.{entry_keys, from_key, known_keys, name_key, step_key, to_key, values_key, vary_key, world_key}
+use Rattle.nl_experiment_fields.specs.Reading.{literal_in, literal_or_bad}
+use Rattle.nl_experiment_fields.specs.Entries.{all_steps_given, choice_by, count_of_steps, stepped_number, choice_in, entries_from, entry_by, globals_at, in_entry, is_empty, is_right_value, listed_in, right_value, stepped_in, steps_given, tables_in, values_in, varied_name, vary_at, world_at}
+use Rattle.nl_experiment_fields.specs.File.{fields_in, file_says, head_in, measures_in, scripts_in}
+use Rattle.nl_experiment_fields.specs.declared.fields.Fields.{Fields}
 use Rattle.nl_experiment.specs.Plan.{experiment_says, judged, order_of, world_of}
 use Rattle.nl_run.proofs.Writing.{file_written}
 use Rattle.nl_cli.specs.Inputs.{Job}

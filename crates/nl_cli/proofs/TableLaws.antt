@@ -10,10 +10,10 @@ use Rattle.nl_table.specs.Header.{header_lines, header_text}
 use Rattle.nl_table.specs.Lines.{lines_text}
 use Rattle.nl_experiment.specs.Numbers.{number_of, run_among}
 use Rattle.nl_scan.specs.CodePart.{code_of}
-use Rattle.nl_keys.specs.declared.faults.KeyFault.{KeyFault}
-use Rattle.nl_fields.specs.declared.fields.Fields.{Fields}
+use Rattle.nl_experiment_keys.specs.declared.faults.KeyFault.{KeyFault}
+use Rattle.nl_experiment_fields.specs.declared.fields.Fields.{Fields}
 use Rattle.nl_experiment.specs.Plan.{experiment_says}
-use Rattle.nl_model.specs.Verdict.{Verdict}
+use Rattle.nl_check_model.specs.Verdict.{Verdict}
 use Rattle.nl_cli.specs.Steps.{◌>>=◌, Goes, with_fault}
 use Rattle.nl_cli.specs.declared.words.Role.{Role}
 use Rattle.nl_cli.specs.declared.ends.End.{End}

@@ -9,7 +9,7 @@ use Rattle.nl_table.specs.Lines.{lines_text}
 use Rattle.nl_fixed.specs.Nouns.{Bytes, Texts}
 use Rattle.nl_run.specs.declared.rows.Row.{Row}
 use Rattle.nl_experiment.specs.Numbers.{number_of, run_among}
-use Rattle.nl_model.specs.Laws.{bare}
+use Rattle.nl_check_model.specs.Laws.{bare}
 use Rattle.nl_cli.specs.Steps.{◌>>=◌, with_fault}
 use Rattle.nl_cli.specs.declared.ends.End.{End}
 use Rattle.nl_cli.specs.Words.{Command, Paths, table, rerun, check, over, bench, command_of, paths_for}

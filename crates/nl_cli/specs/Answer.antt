@@ -4,14 +4,14 @@ use Rattle.std.specs.Fmt.{decimal}
 use Rattle.nl_fixed.specs.Nouns.{Bytes}
 use Rattle.nl_outer.specs.Folder.{Folder}
 use Rattle.nl_outer.specs.Nouns.{Words}
-use Rattle.nl_keys.specs.declared.faults.PlanKind.{PlanKind}
+use Rattle.nl_experiment_keys.specs.declared.faults.PlanKind.{PlanKind}
 use Rattle.nl_experiment.specs.FaultText.{plan_text}
 use Rattle.nl_experiment.specs.Numbers.{number_of, run_among}
 use Rattle.nl_experiment.specs.Plan.{plan_fault}
 use Rattle.nl_experiment.specs.declared.faults.PlanFault.{PlanFault}
-use Rattle.nl_keys.specs.Reading.{fault_at}
-use Rattle.nl_model.specs.FaultText.{model_kind_text}
-use Rattle.nl_model.specs.declared.faults.ModelFault.{ModelFault}
+use Rattle.nl_experiment_keys.specs.Reading.{fault_at}
+use Rattle.nl_check_model.specs.FaultText.{model_kind_text}
+use Rattle.nl_check_model.specs.declared.faults.ModelFault.{ModelFault}
 use Rattle.nl_cli.specs.Steps.{◌>>=◌, with_fault}
 use Rattle.nl_cli.specs.declared.words.Role.{Role}
 use Rattle.nl_cli.specs.declared.ends.End.{End}

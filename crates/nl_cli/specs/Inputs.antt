@@ -7,15 +7,15 @@ use Rattle.nl_scan.specs.CodePart.{code_of}
 use Rattle.nl_tree.specs.Checked.{Checked}
 use Rattle.nl_tree.specs.Tree.{Node}
 use Rattle.nl_tree.specs.declared.declared.Form.TheVariants as form
-use Rattle.nl_lone.specs.LoneText.{IsLoneTree}
-use Rattle.nl_sweep.specs.Sweep.{runs_of}
-use Rattle.nl_keys.specs.declared.faults.KeyFault.{KeyFault}
-use Rattle.nl_fields.specs.declared.fields.Fields.{Fields}
+use Rattle.nl_check_model.specs.LoneText.{IsLoneTree}
+use Rattle.nl_experiment_sweep.specs.Sweep.{runs_of}
+use Rattle.nl_experiment_keys.specs.declared.faults.KeyFault.{KeyFault}
+use Rattle.nl_experiment_fields.specs.declared.fields.Fields.{Fields}
 use Rattle.nl_experiment.specs.Plan.{experiment_says, order_of, plan_fault}
 use Rattle.nl_experiment.specs.Texts.{IsFirstBad, texts_of}
 use Rattle.nl_experiment.specs.Widgets.{widgets_of}
 use Rattle.nl_experiment.specs.declared.faults.PlanFault.{PlanFault}
-use Rattle.nl_model.specs.Verdict.{Verdict, IsVerdict}
+use Rattle.nl_check_model.specs.Verdict.{Verdict, IsVerdict}
 use Rattle.nl_bench.specs.Texts.{experiment_text, model_text}
 use Rattle.nl_run.specs.Job as run
 use Rattle.nl_run.specs.Experiments.{job_by}

@@ -5,8 +5,8 @@ use Rattle.std.specs.List.{flat_map, range_with_len}
 use Rattle.nl_fixed.specs.Nouns.{Bytes, Names, Texts}
 use Rattle.nl_value.specs.Living.{no_life}
 use Rattle.nl_value.specs.Text.{text_of}
-use Rattle.nl_sweep.specs.Sweep.{settings_of}
-use Rattle.nl_sweep.specs.Varied.{PlainSetting}
+use Rattle.nl_experiment_sweep.specs.Sweep.{settings_of}
+use Rattle.nl_experiment_sweep.specs.Varied.{PlainSetting}
 use Rattle.nl_experiment.specs.Plan.{order_of}
 use Rattle.nl_table.specs.Header.{header_lines, header_text}
 use Rattle.nl_table.specs.Lines.{line_text, lines_text}

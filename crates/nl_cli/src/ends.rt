@@ -3,8 +3,8 @@ ghost use Rattle.std.specs.Prelude.{◌≡◌};
 ghost use Rattle.nl_cli.specs.Answer.{code_of, status_of};
 
 use crate::words::Role;
+use nl_check_model::ModelFault;
 use nl_experiment::PlanFault;
-use nl_model::ModelFault;
 
 /// How a call of the program ended.
 #[derive(Clone, Copy, Debug, PartialEq, Eq)]

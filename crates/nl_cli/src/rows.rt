@@ -6,16 +6,16 @@ ghost use Rattle.nl_value.specs.Limits.{most_bytes};
 ghost use Rattle.nl_value.specs.Living.{no_life};
 ghost use Rattle.nl_value.specs.Text.{text_of};
 ghost use Rattle.nl_value.specs.Views.{plain};
-ghost use Rattle.nl_sweep.specs.Varied.{plain_setting};
+ghost use Rattle.nl_experiment_sweep.specs.Varied.{plain_setting};
 ghost use Rattle.nl_table.specs.Lines.{line_text, lines_text};
 ghost use Rattle.nl_cli.specs.Table.{last_line, metric_texts, rows_text, run_lines, setting_text};
 ghost use Rattle.nl_cli.specs.inner.Stages.{IsHead, IsRunIn, IsSound, cells_behind, is_short, job_in};
 
 use crate::job::Job;
 use nl_agents::Store;
+use nl_experiment_sweep::{Setting, Settings};
 use nl_fixed::{Cells, NoMemory, Str};
 use nl_run::{Row, Run};
-use nl_sweep::{Setting, Settings};
 use nl_table::Record;
 use nl_value::texts::{TextFail, text};
 use nl_value::{NoLife, Value};

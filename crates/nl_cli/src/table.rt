@@ -10,9 +10,9 @@ use crate::ends::End;
 use crate::job::Job;
 use crate::rows::run_rows;
 use nl_agents::Store;
+use nl_experiment_sweep::Vary;
 use nl_fixed::{Names, NoMemory, Str};
 use nl_outer::{Sink, WriteFail};
-use nl_sweep::Vary;
 use nl_table::{Record, header};
 use std::alloc::Global;
 

@@ -8,9 +8,9 @@ ghost use Rattle.nl_cli.specs.Words.{paths_in, path_of};
 
 use crate::ends::{End, Status};
 use crate::words::{Paths, Role, path_for};
+use nl_check_model::ModelFault;
 use nl_experiment::PlanFault;
 use nl_fixed::{NoMemory, Str};
-use nl_model::ModelFault;
 use nl_outer::Sink;
 use std::alloc::Global;
 

@@ -10,9 +10,9 @@ use Rattle.nl_tree.specs.declared.declared.Declared.{Declared}
 use Rattle.nl_tree.specs.Tokens.{Lexeme, IsLexeme}
 use Rattle.nl_tree.specs.Vocabulary.{breed_terms, counted, procedure_term}
 use Rattle.nl_tree.specs.Names.{are_distinct, are_apart, all_names, breeds_names, procedures_names, directions_fit, AreWidgets}
-use Rattle.nl_outline.specs.declared.declaration.Owner.TheVariants as owner
-use Rattle.nl_outline.specs.declared.declaration.Declaration.{Declaration}
-use Rattle.nl_outline.specs.Declarations.{AreDeclarations}
+use Rattle.nl_decl_outline.specs.declared.declaration.Owner.TheVariants as owner
+use Rattle.nl_decl_outline.specs.declared.declaration.Declaration.{Declaration}
+use Rattle.nl_decl_outline.specs.Declarations.{AreDeclarations}
 use Rattle.nl_decl.specs.Gathered.{Gathers}
 use Rattle.nl_decl.specs.Claims.{claims, duplicate_in}
 use Rattle.nl_decl.specs.Accepted.{AcceptedWhereNoneIsTwice}

@@ -2,16 +2,16 @@
 use Rattle.std.proofs.Common.{◌≡◌, ℕ, zero, suc, ◌+◌, ◌<◌, ◌≤◌, Bool, not, List, [], ◌∷◌, ◌++◌, map, Option, Some, None, length, refl, sym, ◌∙◌, ap, subst, IsTrue, arith, append_assoc, length-append}
 use Rattle.std.specs.Prelude.{codes, slice_get}
 use Rattle.std.specs.List.{list_all}
-use Rattle.nl_outline.specs.declared.declaration.Declaration.{Declaration}
-use Rattle.nl_outline.specs.declared.declaration.Declaration.TheVariants.{Globals, Own, Breed, Procedure}
+use Rattle.nl_decl_outline.specs.declared.declaration.Declaration.{Declaration}
+use Rattle.nl_decl_outline.specs.declared.declaration.Declaration.TheVariants.{Globals, Own, Breed, Procedure}
 use Rattle.nl_tree.specs.Tokens.{Lexeme, Word}
-use Rattle.nl_outline.specs.Declarations.{AreDeclarations, listed_or_none, word_of_procedure, is_end, begins_open, is_body, Spells, SpellAll}
-use Rattle.nl_outline.specs.Lengths.{inputs_length, length_of}
+use Rattle.nl_decl_outline.specs.Declarations.{AreDeclarations, listed_or_none, word_of_procedure, is_end, begins_open, is_body, Spells, SpellAll}
+use Rattle.nl_decl_outline.specs.Lengths.{inputs_length, length_of}
 use Rattle.nl_decl.specs.Gathered.{procedure_at, procedures_from}
 use Rattle.nl_decl.specs.Bodies.{place_of, places_from, LieFrom}
 use Rattle.nl_decl.specs.Laws.{BodiesLieInOrder}
-use Rattle.nl_outline.proofs.Lengths.{inputs_long, size}
-use Rattle.nl_outline.proofs.Taken.{and_left, and_right}
+use Rattle.nl_decl_outline.proofs.Lengths.{inputs_long, size}
+use Rattle.nl_decl_outline.proofs.Taken.{and_left, and_right}
 
 pub get_behind : {A : Type 0} (xs ys : List A) (y : A) → slice_get (xs ++ y ∷ ys) (length xs) ≡ Some y
 get_behind [] ys y = refl

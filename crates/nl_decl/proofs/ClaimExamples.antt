@@ -1,9 +1,9 @@
 -- Names that are declared twice, and the exceptions, at examples.
 use Rattle.std.proofs.Common.{◌≡◌, ℕ, false, List, [], ◌∷◌, Some, None, refl, codes}
 use Prim.Native.String.{String}
-use Rattle.nl_outline.specs.declared.declaration.Sort.TheVariants as sort
-use Rattle.nl_outline.specs.declared.declaration.Owner.TheVariants as owner
-use Rattle.nl_outline.specs.declared.declaration.Declaration.TheVariants.{Globals, Own, Breed, Procedure}
+use Rattle.nl_decl_outline.specs.declared.declaration.Sort.TheVariants as sort
+use Rattle.nl_decl_outline.specs.declared.declaration.Owner.TheVariants as owner
+use Rattle.nl_decl_outline.specs.declared.declaration.Declaration.TheVariants.{Globals, Own, Breed, Procedure}
 use Rattle.nl_words.specs.Rows.{rows}
 use Rattle.nl_decl.specs.Claims.{duplicate_in}
 

@@ -8,7 +8,7 @@ use Rattle.nl_tree.specs.declared.declared.Procedure.{Procedure}
 use Rattle.nl_tree.specs.declared.declared.Declared.{Declared}
 use Rattle.nl_tree.specs.Vocabulary.{breed_names, breed_terms, counted, owned_names, procedure_term, terms}
 use Rattle.nl_tree.specs.Names.{own_once, owners_fit, inputs_fit, has_no_duplicate, AreWidgets}
-use Rattle.nl_outline.specs.declared.declaration.Declaration.{Declaration}
+use Rattle.nl_decl_outline.specs.declared.declaration.Declaration.{Declaration}
 use Rattle.nl_decl.specs.declared.claims.Claim.{Claim}
 use Rattle.nl_decl.specs.declared.claims.Claim.TheVariants as claim
 use Rattle.nl_decl.specs.declared.claims.Claimed.{Claimed}

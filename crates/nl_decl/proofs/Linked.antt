@@ -6,19 +6,19 @@ use Rattle.nl_tree.specs.declared.declared.Breed.{Breed}
 use Rattle.nl_tree.specs.declared.declared.Procedure.{Procedure}
 use Rattle.nl_tree.specs.Tokens.{Lexeme}
 use Rattle.nl_tree.specs.Vocabulary.{Pattern, patterns, made_name}
-use Rattle.nl_outline.specs.declared.declaration.Sort.{Sort}
-use Rattle.nl_outline.specs.declared.declaration.Sort.TheVariants as sort
-use Rattle.nl_outline.specs.declared.declaration.Owner.{Owner}
-use Rattle.nl_outline.specs.declared.declaration.Owner.TheVariants as owner
-use Rattle.nl_outline.specs.declared.declaration.Declaration.{Declaration}
-use Rattle.nl_outline.specs.declared.declaration.Declaration.TheVariants as declaration
+use Rattle.nl_decl_outline.specs.declared.declaration.Sort.{Sort}
+use Rattle.nl_decl_outline.specs.declared.declaration.Sort.TheVariants as sort
+use Rattle.nl_decl_outline.specs.declared.declaration.Owner.{Owner}
+use Rattle.nl_decl_outline.specs.declared.declaration.Owner.TheVariants as owner
+use Rattle.nl_decl_outline.specs.declared.declaration.Declaration.{Declaration}
+use Rattle.nl_decl_outline.specs.declared.declaration.Declaration.TheVariants as declaration
 use Rattle.nl_decl.specs.declared.claims.Claim.{Claim}
 use Rattle.nl_decl.specs.declared.claims.Claim.TheVariants as claim
 use Rattle.nl_decl.specs.declared.claims.Claimed.{Claimed}
-use Rattle.nl_outline.specs.Declarations.{plural_of, owning, one_later, breed_owning, owner_of_breed, owner_by, SpellAll}
-use Rattle.nl_outline.specs.Lengths.{length_of}
+use Rattle.nl_decl_outline.specs.Declarations.{plural_of, owning, one_later, breed_owning, owner_of_breed, owner_by, SpellAll}
+use Rattle.nl_decl_outline.specs.Lengths.{length_of}
 use Rattle.nl_decl.specs.Claims.{claimed_from, is_of_links, claim_of_breed, claim_of_owner, breed_with, made_claim, inputs_claims, sorts_of, procedures_of, claims_of, claims_from}
-use Rattle.nl_outline.specs.Named.{names_of_inputs}
+use Rattle.nl_decl_outline.specs.Named.{names_of_inputs}
 use Rattle.nl_decl.specs.Gathered.{globals_in, same_owner, owned_in, breeds_from, procedures_from}
 use Rattle.nl_decl.proofs.Often.{tick, often, often-append}
 use Rattle.nl_decl.proofs.Clashes.{same_claim, same_claim-is, other_claim, claimed, claimed-append}

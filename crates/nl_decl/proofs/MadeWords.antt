@@ -8,13 +8,13 @@ use Rattle.nl_words.specs.Rows.{rows}
 use Rattle.nl_tree.specs.declared.declared.Declared.{Declared}
 use Rattle.nl_tree.specs.Term.{Term}
 use Rattle.nl_tree.specs.Vocabulary.{Pattern, turtle_patterns, undirected_patterns, directed_patterns, counted, global_names, global_term, owned_names, owned_term, made_as, made_name, made_terms, patterns, breed_terms, procedure_term, own_terms, base_term, terms}
-use Rattle.nl_outline.specs.declared.declaration.Sort.{Sort}
-use Rattle.nl_outline.specs.declared.declaration.Sort.TheVariants as sort
-use Rattle.nl_outline.specs.declared.declaration.Declaration.{Declaration}
-use Rattle.nl_outline.specs.declared.declaration.Declaration.TheVariants as declaration
-use Rattle.nl_outline.specs.declared.declaration.Owner.TheVariants as owner
+use Rattle.nl_decl_outline.specs.declared.declaration.Sort.{Sort}
+use Rattle.nl_decl_outline.specs.declared.declaration.Sort.TheVariants as sort
+use Rattle.nl_decl_outline.specs.declared.declaration.Declaration.{Declaration}
+use Rattle.nl_decl_outline.specs.declared.declaration.Declaration.TheVariants as declaration
+use Rattle.nl_decl_outline.specs.declared.declaration.Owner.TheVariants as owner
 use Rattle.nl_decl.specs.declared.claims.Claim.TheVariants as claim
-use Rattle.nl_outline.specs.Lengths.{length_of}
+use Rattle.nl_decl_outline.specs.Lengths.{length_of}
 use Rattle.nl_decl.specs.Claims.{breed_with, claim_of_owner, made_claim, sorts_of, procedures_of, claims_of, claims_from}
 use Rattle.nl_decl.specs.Gathered.{owned_in, breeds_from, procedures_from}
 use Rattle.nl_tree.proofs.Lookup.{term_name}

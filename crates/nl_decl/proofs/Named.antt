@@ -8,16 +8,16 @@ use Rattle.nl_words.specs.Table.{is_name}
 use Rattle.nl_tree.specs.declared.declared.Breed.{Breed}
 use Rattle.nl_tree.specs.Tokens.{Lexeme, Word, Number, Text, Open, Close, OpenParen, CloseParen, End, IsLexeme}
 use Rattle.nl_tree.specs.Names.{breeds_names, procedures_names}
-use Rattle.nl_outline.specs.declared.declaration.Sort.{Sort}
-use Rattle.nl_outline.specs.declared.declaration.Sort.TheVariants as sort
-use Rattle.nl_outline.specs.declared.declaration.Owner.{Owner}
-use Rattle.nl_outline.specs.declared.declaration.Owner.TheVariants as owner
-use Rattle.nl_outline.specs.declared.declaration.Declaration.{Declaration}
-use Rattle.nl_outline.specs.declared.declaration.Declaration.TheVariants as declaration
-use Rattle.nl_outline.specs.Declarations.{plural_of, words, listed, listed_or_none, word_of_sort, word_of_procedure, Spells, SpellAll}
-use Rattle.nl_outline.specs.Lengths.{length_of}
+use Rattle.nl_decl_outline.specs.declared.declaration.Sort.{Sort}
+use Rattle.nl_decl_outline.specs.declared.declaration.Sort.TheVariants as sort
+use Rattle.nl_decl_outline.specs.declared.declaration.Owner.{Owner}
+use Rattle.nl_decl_outline.specs.declared.declaration.Owner.TheVariants as owner
+use Rattle.nl_decl_outline.specs.declared.declaration.Declaration.{Declaration}
+use Rattle.nl_decl_outline.specs.declared.declaration.Declaration.TheVariants as declaration
+use Rattle.nl_decl_outline.specs.Declarations.{plural_of, words, listed, listed_or_none, word_of_sort, word_of_procedure, Spells, SpellAll}
+use Rattle.nl_decl_outline.specs.Lengths.{length_of}
 use Rattle.nl_decl.specs.Claims.{is_of_links, is_directed}
-use Rattle.nl_outline.specs.Named.{names_of_inputs}
+use Rattle.nl_decl_outline.specs.Named.{names_of_inputs}
 use Rattle.nl_decl.specs.Gathered.{globals_in, same_owner, owned_in, breeds_from, procedures_from}
 
 -- a token has a name's form where it is a word

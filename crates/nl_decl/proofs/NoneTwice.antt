@@ -12,10 +12,10 @@ use Rattle.nl_tree.specs.declared.declared.Declared.{Declared}
 use Rattle.nl_tree.specs.Tokens.{Lexeme}
 use Rattle.nl_tree.specs.Vocabulary.{breed_names, breed_terms, counted, global_names, joined, owned_names, procedure_term, terms}
 use Rattle.nl_tree.specs.Names.{are_distinct, are_apart, own_once, owners_fit, inputs_fit, has_no_duplicate}
-use Rattle.nl_outline.specs.declared.declaration.Owner.TheVariants as owner
-use Rattle.nl_outline.specs.declared.declaration.Declaration.{Declaration}
-use Rattle.nl_outline.specs.declared.declaration.Declaration.TheVariants as declaration
-use Rattle.nl_outline.specs.Declarations.{AreDeclarations}
+use Rattle.nl_decl_outline.specs.declared.declaration.Owner.TheVariants as owner
+use Rattle.nl_decl_outline.specs.declared.declaration.Declaration.{Declaration}
+use Rattle.nl_decl_outline.specs.declared.declaration.Declaration.TheVariants as declaration
+use Rattle.nl_decl_outline.specs.Declarations.{AreDeclarations}
 use Rattle.nl_decl.specs.declared.claims.Claim.{Claim}
 use Rattle.nl_decl.specs.declared.claims.Claim.TheVariants as claim
 use Rattle.nl_decl.specs.Claims.{may_share, claims, breed_with, is_of_links, widget_claim, duplicate_in}

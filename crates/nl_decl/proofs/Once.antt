@@ -7,7 +7,7 @@ use Rattle.nl_words.specs.Row.{Row, row_named}
 use Rattle.nl_words.specs.Rows.{rows}
 use Rattle.nl_words.specs.Table.{is_name}
 use Rattle.nl_tree.specs.Names.{are_distinct, are_apart, AreWidgets}
-use Rattle.nl_outline.specs.declared.declaration.Declaration.{Declaration}
+use Rattle.nl_decl_outline.specs.declared.declaration.Declaration.{Declaration}
 use Rattle.nl_decl.specs.declared.claims.Claim.{Claim}
 use Rattle.nl_decl.specs.declared.claims.Claim.TheVariants as claim
 use Rattle.nl_decl.specs.Claims.{may_share, claims, widget_claim, duplicate_in}

@@ -4,14 +4,14 @@ use Rattle.std.proofs.lemmas.Bool.{eqb-true, ne_eqb}
 use Rattle.nl_tree.specs.declared.declared.Breed.{Breed}
 use Rattle.nl_tree.specs.Tokens.{Lexeme, Word}
 use Rattle.nl_tree.specs.Names.{breeds_names, procedures_names}
-use Rattle.nl_outline.specs.declared.declaration.Owner.{Owner}
-use Rattle.nl_outline.specs.declared.declaration.Owner.TheVariants as owner
-use Rattle.nl_outline.specs.declared.declaration.Declaration.{Declaration}
-use Rattle.nl_outline.specs.declared.declaration.Declaration.TheVariants as declaration
-use Rattle.nl_outline.specs.Declarations.{plural_of, listed_or_none, SpellAll}
-use Rattle.nl_outline.specs.Lengths.{length_of}
-use Rattle.nl_outline.specs.Named.{names_of_inputs}
-use Rattle.nl_outline.proofs.Lengths.{listed_length}
+use Rattle.nl_decl_outline.specs.declared.declaration.Owner.{Owner}
+use Rattle.nl_decl_outline.specs.declared.declaration.Owner.TheVariants as owner
+use Rattle.nl_decl_outline.specs.declared.declaration.Declaration.{Declaration}
+use Rattle.nl_decl_outline.specs.declared.declaration.Declaration.TheVariants as declaration
+use Rattle.nl_decl_outline.specs.Declarations.{plural_of, listed_or_none, SpellAll}
+use Rattle.nl_decl_outline.specs.Lengths.{length_of}
+use Rattle.nl_decl_outline.specs.Named.{names_of_inputs}
+use Rattle.nl_decl_outline.proofs.Lengths.{listed_length}
 use Rattle.nl_decl.specs.Gathered.{globals_in, owned_in, breeds_from, procedures_from}
 
 -- how many variables breeds own, and how many are declared for breeds

@@ -3,10 +3,10 @@ use Rattle.std.proofs.Common.{◌≡◌, ℕ, zero, suc, ◌+◌, ◌<◌, ◌�
 use Rattle.std.proofs.lemmas.Bool.{eq-eqb, ne_eqb}
 use Rattle.std.proofs.lemmas.List.{append_assoc, append-nil}
 use Rattle.nl_tree.specs.declared.declared.Breed.{Breed}
-use Rattle.nl_outline.specs.declared.declaration.Owner.{Owner}
-use Rattle.nl_outline.specs.declared.declaration.Owner.TheVariants.{AllTurtles, AllPatches, AllLinks, BreedAt}
-use Rattle.nl_outline.specs.declared.declaration.Declaration.{Declaration}
-use Rattle.nl_outline.specs.declared.declaration.Declaration.TheVariants as declaration
+use Rattle.nl_decl_outline.specs.declared.declaration.Owner.{Owner}
+use Rattle.nl_decl_outline.specs.declared.declaration.Owner.TheVariants.{AllTurtles, AllPatches, AllLinks, BreedAt}
+use Rattle.nl_decl_outline.specs.declared.declaration.Declaration.{Declaration}
+use Rattle.nl_decl_outline.specs.declared.declaration.Declaration.TheVariants as declaration
 use Rattle.nl_decl.specs.Claims.{breed_with}
 use Rattle.nl_decl.specs.Gathered.{owned_in, breeds_from}
 use Rattle.nl_decl.specs.inner.Gathering.{bare_breeds, breed_at, with_names, with_owned}

@@ -5,12 +5,12 @@ use Rattle.nl_scan.specs.declared.token.Lexeme.TheVariants as scanned
 use Rattle.nl_scan.specs.declared.token.Lexeme.{Lexeme as Scanned}
 use Rattle.nl_scan.specs.Tokens.{text_limit, tokens_of, least_length, AreInOrder}
 use Rattle.nl_scan.proofs.Order.{tokens_of-in_order, tokens_of-is_text}
-use Rattle.nl_outline.specs.declared.declaration.Declaration.{Declaration}
-use Rattle.nl_outline.specs.Declarations.{AreDeclarations}
-use Rattle.nl_outline.specs.Lengths.{total_length}
-use Rattle.nl_text.specs.Texts.{lexemes_of}
-use Rattle.nl_outline.proofs.Lengths.{all_length}
-use Rattle.nl_outline.proofs.Places.{lexemes-length}
+use Rattle.nl_decl_outline.specs.declared.declaration.Declaration.{Declaration}
+use Rattle.nl_decl_outline.specs.Declarations.{AreDeclarations}
+use Rattle.nl_decl_outline.specs.Lengths.{total_length}
+use Rattle.nl_parse_grammar.specs.Texts.{lexemes_of}
+use Rattle.nl_decl_outline.proofs.Lengths.{all_length}
+use Rattle.nl_decl_outline.proofs.Places.{lexemes-length}
 
 least_one : (l : Scanned) → 1 ≤ least_length l
 least_one scanned.Word = omega arith

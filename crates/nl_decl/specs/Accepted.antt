@@ -6,8 +6,8 @@ use Rattle.nl_words.specs.Table.{is_name}
 use Rattle.nl_tree.specs.declared.declared.Declared.{Declared}
 use Rattle.nl_tree.specs.Tokens.{Lexeme, IsLexeme}
 use Rattle.nl_tree.specs.Names.{has_no_duplicate, all_names, directions_fit, AreWidgets}
-use Rattle.nl_outline.specs.declared.declaration.Declaration.{Declaration}
-use Rattle.nl_outline.specs.Declarations.{AreDeclarations}
+use Rattle.nl_decl_outline.specs.declared.declaration.Declaration.{Declaration}
+use Rattle.nl_decl_outline.specs.Declarations.{AreDeclarations}
 use Rattle.nl_decl.specs.Gathered.{Gathers}
 use Rattle.nl_decl.specs.Claims.{duplicate_in}
 

@@ -1,11 +1,11 @@
 -- Where the bodies of procedures lie among the tokens of declarations.
 use Rattle.std.specs.Prelude.{◌≡◌, ℕ, ◌+◌, ◌≤◌, ◌<◌, List, [], ◌∷◌, Some, length, map, codes, slice_get, ◌++◌}
-use Rattle.nl_outline.specs.declared.declaration.Declaration.{Declaration}
-use Rattle.nl_outline.specs.declared.declaration.Declaration.TheVariants.{Globals, Own, Breed, Procedure}
+use Rattle.nl_decl_outline.specs.declared.declaration.Declaration.{Declaration}
+use Rattle.nl_decl_outline.specs.declared.declaration.Declaration.TheVariants.{Globals, Own, Breed, Procedure}
 use Rattle.nl_tree.specs.Tokens.{Lexeme, Word}
 use Rattle.nl_tree.specs.declared.declared.Procedure as tree
 use Rattle.nl_tree.specs.declared.declared.Declared.{Declared}
-use Rattle.nl_outline.specs.Lengths.{inputs_length, length_of}
+use Rattle.nl_decl_outline.specs.Lengths.{inputs_length, length_of}
 
 -- the first token of a body, and that of its `end`
 pub record Place : Type 0 where

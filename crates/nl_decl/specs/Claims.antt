@@ -9,13 +9,13 @@ use Rattle.nl_words.specs.Row.{row_named}
 use Rattle.nl_words.specs.Rows.{rows}
 use Rattle.nl_tree.specs.declared.declared.Breed as tree
 use Rattle.nl_tree.specs.Vocabulary.{Pattern, patterns, made_name}
-use Rattle.nl_outline.specs.Lengths.{length_of}
-use Rattle.nl_outline.specs.declared.declaration.Sort.{Sort}
-use Rattle.nl_outline.specs.declared.declaration.Sort.TheVariants as sort
-use Rattle.nl_outline.specs.declared.declaration.Owner.{Owner}
-use Rattle.nl_outline.specs.declared.declaration.Owner.TheVariants as owner
-use Rattle.nl_outline.specs.declared.declaration.Declaration.{Declaration}
-use Rattle.nl_outline.specs.declared.declaration.Declaration.TheVariants.{Globals, Own, Breed, Procedure}
+use Rattle.nl_decl_outline.specs.Lengths.{length_of}
+use Rattle.nl_decl_outline.specs.declared.declaration.Sort.{Sort}
+use Rattle.nl_decl_outline.specs.declared.declaration.Sort.TheVariants as sort
+use Rattle.nl_decl_outline.specs.declared.declaration.Owner.{Owner}
+use Rattle.nl_decl_outline.specs.declared.declaration.Owner.TheVariants as owner
+use Rattle.nl_decl_outline.specs.declared.declaration.Declaration.{Declaration}
+use Rattle.nl_decl_outline.specs.declared.declaration.Declaration.TheVariants.{Globals, Own, Breed, Procedure}
 use Rattle.nl_decl.specs.declared.claims.Claim.{Claim}
 use Rattle.nl_decl.specs.declared.claims.Claim.TheVariants as claim
 use Rattle.nl_decl.specs.declared.claims.Claimed.{Claimed}

@@ -4,12 +4,12 @@ use Rattle.nl_fixed.specs.Nouns.{Name, Names}
 use Rattle.nl_tree.specs.declared.declared.Breed as tree
 use Rattle.nl_tree.specs.declared.declared.Procedure as procedure
 use Rattle.nl_tree.specs.declared.declared.Declared.{Declared}
-use Rattle.nl_outline.specs.declared.declaration.Owner.{Owner}
-use Rattle.nl_outline.specs.declared.declaration.Owner.TheVariants.{AllTurtles, AllPatches, AllLinks, BreedAt}
-use Rattle.nl_outline.specs.declared.declaration.Declaration.{Declaration}
-use Rattle.nl_outline.specs.declared.declaration.Declaration.TheVariants.{Globals, Own, Breed, Procedure}
-use Rattle.nl_outline.specs.Lengths.{inputs_length, length_of}
-use Rattle.nl_outline.specs.Named.{names_of_inputs}
+use Rattle.nl_decl_outline.specs.declared.declaration.Owner.{Owner}
+use Rattle.nl_decl_outline.specs.declared.declaration.Owner.TheVariants.{AllTurtles, AllPatches, AllLinks, BreedAt}
+use Rattle.nl_decl_outline.specs.declared.declaration.Declaration.{Declaration}
+use Rattle.nl_decl_outline.specs.declared.declaration.Declaration.TheVariants.{Globals, Own, Breed, Procedure}
+use Rattle.nl_decl_outline.specs.Lengths.{inputs_length, length_of}
+use Rattle.nl_decl_outline.specs.Named.{names_of_inputs}
 use Rattle.nl_decl.specs.Claims.{breed_with}
 
 abbrev pub globals_in : List Declaration → Names

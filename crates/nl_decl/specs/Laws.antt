@@ -1,8 +1,8 @@
 -- The law of where bodies lie.
 use Rattle.std.specs.Prelude.{map, List}
 use Rattle.nl_tree.specs.Tokens.{Lexeme}
-use Rattle.nl_outline.specs.declared.declaration.Declaration.{Declaration}
-use Rattle.nl_outline.specs.Declarations.{AreDeclarations}
+use Rattle.nl_decl_outline.specs.declared.declaration.Declaration.{Declaration}
+use Rattle.nl_decl_outline.specs.Declarations.{AreDeclarations}
 use Rattle.nl_decl.specs.Bodies.{place_of, LieFrom}
 use Rattle.nl_decl.specs.Gathered.{procedures_in}
 

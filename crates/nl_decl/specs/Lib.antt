@@ -4,6 +4,8 @@ pub mod Claims
 pub mod FaultText
 pub mod Gathered
 pub mod Laws
+pub mod Made
 pub mod Outcome
 pub mod Refused
+pub mod Rooms
 pub mod inner

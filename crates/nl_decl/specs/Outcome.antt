@@ -3,13 +3,13 @@ use Rattle.std.specs.Prelude.{◌≡◌, ℕ, List, Some, None}
 use Rattle.nl_fixed.specs.Nouns.{Names}
 use Rattle.nl_tree.specs.declared.declared.Declared.{Declared}
 use Rattle.nl_tree.specs.Tokens.{Lexeme}
-use Rattle.nl_outline.specs.declared.declaration.Declaration.{Declaration}
+use Rattle.nl_decl_outline.specs.declared.declaration.Declaration.{Declaration}
 use Rattle.nl_decl.specs.declared.refusal.DeclKind.{DeclKind}
 use Rattle.nl_decl.specs.declared.refusal.DeclKind.TheVariants.{Duplicate, BadDeclaration}
 use Rattle.nl_decl.specs.declared.refusal.DeclRefusal.{DeclRefusal}
 use Rattle.nl_decl.specs.declared.refusal.DeclRefusal.TheVariants.{Fault, NoMemory}
-use Rattle.nl_outline.specs.Declarations.{AreDeclarations, IsBadPlace}
-use Rattle.nl_vocabulary.specs.Rooms.{AreFew}
+use Rattle.nl_decl_outline.specs.Declarations.{AreDeclarations, IsBadPlace}
+use Rattle.nl_decl.specs.Rooms.{AreFew}
 use Rattle.nl_decl.specs.Claims.{duplicate_in}
 use Rattle.nl_decl.specs.Gathered.{Gathers}
 

@@ -1,15 +1,15 @@
 //! What names are declared as, and at which tokens.
 ghost use Rattle.std.specs.Prelude.{◌≡◌, ◌+◌, ◌<◌, ◌≤◌, ◌^◌, ◌++◌, length, map, false, IfOk, OnOk};
-ghost use Rattle.nl_outline.specs.declared.declaration.Declaration.TheVariants as Declaration;
-ghost use Rattle.nl_outline.specs.Lengths.{inputs_length, length_of};
+ghost use Rattle.nl_decl_outline.specs.declared.declaration.Declaration.TheVariants as Declaration;
+ghost use Rattle.nl_decl_outline.specs.Lengths.{inputs_length, length_of};
 ghost use Rattle.nl_decl.specs.Claims.{claimed_from, claim_of_owner, is_of_links, is_directed, claims};
-ghost use Rattle.nl_outline.specs.Lengths.{total_length};
+ghost use Rattle.nl_decl_outline.specs.Lengths.{total_length};
 ghost use Rattle.nl_decl.specs.inner.Claiming.{made_from, Adds, AddsNames, AddsInputs};
-ghost use Rattle.nl_vocabulary.specs.Made.{pattern_of};
+ghost use Rattle.nl_decl.specs.Made.{pattern_of};
 
+use crate::{MadeWord, made_name, made_words};
+use nl_decl_outline::{Declaration, Owner, Sort};
 use nl_fixed::{Names, NoMemory, Str};
-use nl_outline::{Declaration, Owner, Sort};
-use nl_vocabulary::{MadeWord, made_name, made_words};
 use std::alloc::Global;
 
 /// What a name is declared as.

@@ -6,20 +6,20 @@ ghost use Rattle.nl_tree.specs.Vocabulary.{own_terms};
 ghost use Rattle.nl_decl.specs.declared.refusal.DeclKind.TheVariants as DeclKind;
 ghost use Rattle.nl_decl.specs.declared.refusal.DeclRefusal.TheVariants as DeclRefusal;
 ghost use Rattle.nl_decl.specs.Bodies.{BodiesLieIn};
-ghost use Rattle.nl_outline.specs.Lengths.{total_length};
+ghost use Rattle.nl_decl_outline.specs.Lengths.{total_length};
 ghost use Rattle.nl_decl.specs.Gathered.{Gathers};
 ghost use Rattle.nl_decl.specs.Outcome.{DeclareFew, Declares, IsRefusedFor};
-ghost use Rattle.nl_text.specs.Texts.{lexemes_of};
+ghost use Rattle.nl_parse_grammar.specs.Texts.{lexemes_of};
 
 use crate::claims::claims_of;
 use crate::gathering::{breeds_of, globals_of, owned_by, procedures_of};
+use crate::index_of;
 use crate::ledger::first_duplicate;
 use crate::refusal::{DeclKind, DeclRefusal};
+use nl_decl_outline::{Declaration, Owner, outline};
 use nl_fixed::{Names, NoMemory};
-use nl_outline::{Declaration, Owner, outline};
 use nl_scan::Source;
 use nl_tree::{Declared, NamedWords};
-use nl_vocabulary::index_of;
 use std::alloc::Global;
 
 /// What a text declares, beside widgets with these names, or the first fault.

@@ -1,15 +1,15 @@
 //! What declarations declare in all.
 ghost use Rattle.std.specs.Prelude.{◌≡◌, ◌+◌, ◌<◌, ◌^◌, ◌++◌, IfOk, OnOk};
-ghost use Rattle.nl_outline.specs.Lengths.{total_length};
-ghost use Rattle.nl_outline.specs.Lengths.{inputs_length, length_of};
-ghost use Rattle.nl_outline.specs.Named.{names_of_inputs};
+ghost use Rattle.nl_decl_outline.specs.Lengths.{total_length};
+ghost use Rattle.nl_decl_outline.specs.Lengths.{inputs_length, length_of};
+ghost use Rattle.nl_decl_outline.specs.Named.{names_of_inputs};
 ghost use Rattle.nl_decl.specs.Gathered.{globals_in, owned_in, breeds_in, procedures_in, procedure_at};
 ghost use Rattle.nl_decl.specs.inner.Gathering.{bare_breeds, breed_at, with_names, with_owned, Gives};
-ghost use Rattle.nl_outline.specs.declared.declaration.Declaration.TheVariants as Declaration;
+ghost use Rattle.nl_decl_outline.specs.declared.declaration.Declaration.TheVariants as Declaration;
 
 use crate::claims::{is_directed, is_of_links};
+use nl_decl_outline::{Declaration, Owner};
 use nl_fixed::{Names, NoMemory, Str};
-use nl_outline::{Declaration, Owner};
 use nl_tree::{Breed, Breeds, Procedure, Procedures};
 use std::alloc::Global;
 

@@ -1,6 +1,6 @@
 //! Why a text has no declarations.
+use nl_decl_outline::OutlineRefusal;
 use nl_fixed::NoMemory;
-use nl_outline::OutlineRefusal;
 use std::fmt;
 
 /// What is wrong with a list of declarations.

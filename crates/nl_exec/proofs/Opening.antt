@@ -2,14 +2,14 @@
 use Rattle.std.proofs.Common.{◌≡◌, IsTrue, List, Some, refl, sym, subst}
 use Rattle.nl_tree.specs.declared.declared.Form.{Form}
 use Rattle.nl_agents.specs.declared.store.Store.{Ghosts}
-use Rattle.nl_frames.specs.Seen.{ground}
-use Rattle.nl_frames.specs.declared.hands.Hands.{Hands}
-use Rattle.nl_levels.specs.declared.levels.Level.{Level}
-use Rattle.nl_levels.specs.declared.focus.Focus.{Focus}
+use Rattle.nl_exec_meaning.specs.Seen.{ground}
+use Rattle.nl_exec_meaning.specs.declared.hands.Hands.{Hands}
+use Rattle.nl_exec_levels.specs.declared.levels.Level.{Level}
+use Rattle.nl_exec_levels.specs.declared.focus.Focus.{Focus}
 use Rattle.nl_exec.specs.declared.phase.Phase.{Phase}
 use Rattle.nl_exec.specs.declared.phase.Phase.TheVariants as phase
 use Rattle.nl_exec.specs.Slices.{focus_of}
-use Rattle.nl_levels.specs.Steady.{LevelsFit}
+use Rattle.nl_exec_levels.specs.Steady.{LevelsFit}
 use Rattle.nl_exec.specs.Keeping.{HeldIn, is_well}
 
 -- an open text has not failed

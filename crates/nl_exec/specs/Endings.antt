@@ -5,9 +5,9 @@ use Rattle.nl_value.specs.Plain.{Plain}
 use Rattle.nl_value.specs.Views.{plain}
 use Rattle.nl_tree.specs.declared.declared.Form.{Form}
 use Rattle.nl_tree.specs.declared.declared.Form.TheVariants as form
-use Rattle.nl_acts.specs.declared.fail.ErrorKind.{ErrorKind}
-use Rattle.nl_meaning.specs.State as meant
-use Rattle.nl_frames.specs.Ground.{Ground, fits}
+use Rattle.nl_exec_acts.specs.declared.fail.ErrorKind.{ErrorKind}
+use Rattle.nl_exec_meaning.specs.State as meant
+use Rattle.nl_exec_meaning.specs.Ground.{Ground, fits}
 use Rattle.nl_exec.specs.declared.endings.End.{End}
 use Rattle.nl_exec.specs.declared.endings.End.TheVariants as end_
 

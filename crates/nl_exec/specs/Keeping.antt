@@ -1,13 +1,13 @@
 -- What a machine keeps between texts and while one is open, as long as memory isn't wanting.
 use Rattle.std.specs.Prelude.{◌≡◌, Bool, true, false, IsTrue, List}
-use Rattle.nl_layout.specs.Layouts.{layout_of}
+use Rattle.nl_agents_layout.specs.Layouts.{layout_of}
 use Rattle.nl_agents.specs.declared.store.Store.{Ghosts}
-use Rattle.nl_code.specs.Code.{Code}
-use Rattle.nl_frames.specs.Seen.{ground}
-use Rattle.nl_frames.specs.Standing.{HandsFit}
-use Rattle.nl_frames.specs.declared.hands.Hands.{Hands}
-use Rattle.nl_levels.specs.Steady.{LevelsFit}
-use Rattle.nl_levels.specs.declared.levels.Level.{Level}
+use Rattle.nl_exec_meaning.specs.Code.{Code}
+use Rattle.nl_exec_meaning.specs.Seen.{ground}
+use Rattle.nl_exec_meaning.specs.Standing.{HandsFit}
+use Rattle.nl_exec_meaning.specs.declared.hands.Hands.{Hands}
+use Rattle.nl_exec_levels.specs.Steady.{LevelsFit}
+use Rattle.nl_exec_levels.specs.declared.levels.Level.{Level}
 use Rattle.nl_exec.specs.declared.phase.Phase.{Phase}
 use Rattle.nl_exec.specs.declared.phase.Phase.TheVariants as phase
 

@@ -5,10 +5,10 @@ use Rattle.nl_tree.specs.Tree.{Node}
 use Rattle.nl_tree.specs.declared.declared.Form.{Form}
 use Rattle.nl_agents.specs.World.{World}
 use Rattle.nl_agents.specs.declared.store.Store.{Ghosts}
-use Rattle.nl_acts.specs.Stage.{Scene, scene, stage_of}
-use Rattle.nl_meaning.specs.State.{State, Outcome}
-use Rattle.nl_meaning.specs.Meaning.{lone_site, text}
-use Rattle.nl_frames.specs.Seen.{state_of}
+use Rattle.nl_exec_acts.specs.Stage.{Scene, scene, stage_of}
+use Rattle.nl_exec_meaning.specs.State.{State, Outcome}
+use Rattle.nl_exec_meaning.specs.Meaning.{lone_site, text}
+use Rattle.nl_exec_meaning.specs.Seen.{state_of}
 use Rattle.nl_exec.specs.Endings.{Ending, ending_of}
 use Rattle.nl_exec.specs.Slices.{focus_of, rest_by}
 use Rattle.nl_exec.specs.declared.phase.Phase.TheVariants.{Closed, Failed}

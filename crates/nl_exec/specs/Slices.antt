@@ -1,14 +1,14 @@
 -- What is left of the open text.
 use Rattle.std.specs.Prelude.{ℕ, List, Option, Some, None}
 use Rattle.nl_tree.specs.declared.declared.Form.{Form}
-use Rattle.nl_code.specs.Code.{Code}
-use Rattle.nl_meaning.specs.State.{State, Outcome, goes_on}
-use Rattle.nl_levels.specs.declared.levels.Level.{Level}
-use Rattle.nl_levels.specs.declared.focus.Focus.{Focus}
-use Rattle.nl_levels.specs.declared.focus.Focus.TheVariants as focus
+use Rattle.nl_exec_meaning.specs.Code.{Code}
+use Rattle.nl_exec_meaning.specs.State.{State, Outcome, goes_on}
+use Rattle.nl_exec_levels.specs.declared.levels.Level.{Level}
+use Rattle.nl_exec_levels.specs.declared.focus.Focus.{Focus}
+use Rattle.nl_exec_levels.specs.declared.focus.Focus.TheVariants as focus
 use Rattle.nl_exec.specs.declared.phase.Phase.{Phase}
 use Rattle.nl_exec.specs.declared.phase.Phase.TheVariants as phase
-use Rattle.nl_levels.specs.Rest.{rest}
+use Rattle.nl_exec_levels.specs.Rest.{rest}
 
 -- what comes next in an open text of this form
 abbrev pub focus_of : Phase → Form → Option Focus

@@ -1,13 +1,13 @@
 //! How texts end.
 ghost use Rattle.std.specs.Prelude.{◌≡◌};
-ghost use Rattle.nl_frames.specs.Ground.{Ground};
-ghost use Rattle.nl_frames.specs.Seen.{exit_seen};
-ghost use Rattle.nl_frames.specs.Standing.{ExitFits};
+ghost use Rattle.nl_exec_meaning.specs.Ground.{Ground};
+ghost use Rattle.nl_exec_meaning.specs.Seen.{exit_seen};
+ghost use Rattle.nl_exec_meaning.specs.Standing.{ExitFits};
 ghost use Rattle.nl_exec.specs.Endings.{EndFits, end_seen, ending_of};
 
-use nl_acts::ErrorKind;
+use nl_exec_acts::ErrorKind;
+use nl_exec_meaning::Exit;
 use nl_fixed::Span;
-use nl_frames::Exit;
 use nl_tree::Form;
 use nl_value::Value;
 

@@ -2,7 +2,7 @@
 ghost use Rattle.std.specs.Prelude.{◌≡◌};
 ghost use Rattle.nl_exec.specs.Slices.{focus_of};
 
-use nl_levels::focus::{Focus, Wish};
+use nl_exec_levels::focus::{Focus, Wish};
 use nl_tree::Form;
 
 /// Whether a text is open.

@@ -1,29 +1,27 @@
 //! The machine, in slices of units.
 ghost use Rattle.std.specs.Prelude.{◌≡◌, ◌≤◌, ◌<◌, ◌+◌, IsTrue, IfOk, vec_len};
 ghost use Rattle.nl_value.specs.Views.{plain};
-ghost use Rattle.nl_layout.specs.Layouts.{layout_of};
+ghost use Rattle.nl_agents_layout.specs.Layouts.{layout_of};
 ghost use Rattle.nl_agents.specs.Changes.{revalued};
 ghost use Rattle.nl_agents.specs.Standing.{fits_rest};
 ghost use Rattle.nl_agents.specs.declared.agents.Owner.TheVariants.{Observer};
-ghost use Rattle.nl_meaning.specs.Meaning.{lone_site};
-ghost use Rattle.nl_meaning.specs.Meaning.{nesting_limit};
+ghost use Rattle.nl_exec_meaning.specs.Meaning.{lone_site};
+ghost use Rattle.nl_exec_meaning.specs.Meaning.{nesting_limit};
 ghost use Rattle.nl_exec.specs.Keeping.{HeldIn, KeptIn};
 ghost use Rattle.nl_exec.specs.inner.Once.{held_once};
 
 use crate::endings::{End, end_of};
 use crate::phase::{Phase, focus_of};
-use nl_acts::Stage;
 use nl_agents::{Layout, Owner, Store};
-use nl_code::Code;
 use nl_draw::{Mark, Stream};
+use nl_exec_acts::Stage;
+use nl_exec_levels::focus::Stop;
+use nl_exec_levels::levels::{Level, copy_levels};
+use nl_exec_levels::run::spend_units;
+use nl_exec_meaning::sound::program_is_sound;
+use nl_exec_meaning::{Code, Hands, Locals, Site};
 use nl_fixed::NoMemory;
-use nl_frames::sound::program_is_sound;
-use nl_frames::{Hands, Locals};
 use nl_grid::Shape;
-use nl_levels::focus::Stop;
-use nl_levels::levels::{Level, copy_levels};
-use nl_levels::run::spend_units;
-use nl_meaning::Site;
 use nl_tree::{Form, Program, Tree};
 use nl_value::Value;
 use std::alloc::Global;
@@ -66,10 +64,10 @@ impl<'a, S: Store> Machine<'a, S> {
     ghost use Rattle.nl_tree.specs.Views.{plain as tree};
     ghost use Rattle.nl_draw.specs.Stream.{first_state as first_of_stream};
     ghost use Rattle.nl_agents.specs.World.{first_world};
-    ghost use Rattle.nl_acts.specs.Stage.{scene};
-    ghost use Rattle.nl_meaning.specs.State.{Budget, with_world};
-    ghost use Rattle.nl_meaning.specs.Walks.{at_stream};
-    ghost use Rattle.nl_frames.specs.Ground.{ground_of};
+    ghost use Rattle.nl_exec_acts.specs.Stage.{scene};
+    ghost use Rattle.nl_exec_meaning.specs.State.{Budget, with_world};
+    ghost use Rattle.nl_exec_meaning.specs.Walks.{at_stream};
+    ghost use Rattle.nl_exec_meaning.specs.Ground.{ground_of};
     ghost use Rattle.nl_exec.specs.Endings.{EndFits, end_seen};
     ghost use Rattle.nl_exec.specs.Machines.{state_with, rest_from, rest_of, with_more, end_in, scene_of, scene_in, in_world, in_stream, world_of, program_of, form_of, spent_of, units_left, IsOpen, IsClosed, HasFailed, HasNotFailed, meant};
     ghost use Rattle.nl_exec.specs.declared.endings.End.{End};
@@ -369,7 +367,7 @@ fn lone_site() -> Site
 }
 
 // The slot of the name of the experiment, which comes after that of the number of the run.
-#[tactic(auto, unfolding(nl_layout::specs::Layouts::layout_of))]
+#[tactic(auto, unfolding(nl_agents_layout::specs::Layouts::layout_of))]
 fn experiment_slot(program: &Program) -> u32
     ensures { result ≡ (layout_of program.now.declared).globals + 1 }
 {
@@ -388,7 +386,7 @@ fn restore<S: Store>(hands: &mut Hands<S>, mark: Mark)
 }
 
 // A global variable has the value.
-#[tactic(auto, using(nl_meaning::proofs::Ground::revalued_ground))]
+#[tactic(auto, using(nl_exec_meaning::proofs::Ground::revalued_ground))]
 fn give_global<S: Store>(hands: &mut Hands<S>, slot: u32, value: Value)
     requires slot { slot < (S.world hands.old.stage.store).rest.layout.globals + 2 }
     requires value { IsTrue (fits_rest (S.world hands.old.stage.store).rest (plain value)) }

@@ -3,7 +3,7 @@ use Rattle.std.proofs.Common.{◌≡◌, ℕ, ◌+◌, ◌*◌, ◌-◌, ◌<◌
 use Rattle.std.specs.Prelude.{nat_le}
 use Rattle.std.proofs.lemmas.Bool.{lt-leb}
 use Rattle.nl_fixed.specs.Nouns.{Bytes}
-use Rattle.nl_keys.specs.declared.faults.PlanKind.TheVariants.{NoSuchRun}
+use Rattle.nl_experiment_keys.specs.declared.faults.PlanKind.TheVariants.{NoSuchRun}
 use Rattle.nl_experiment.specs.Numbers.{number_behind, run_among}
 
 grows : (n : ℕ) (digits : Bytes) → n ≤ number_behind n digits

@@ -11,7 +11,7 @@ use Rattle.nl_words.specs.Rows.{rows}
 use Rattle.nl_words.specs.Table.{is_name}
 use Rattle.nl_tree.specs.Names.{are_distinct, are_apart}
 use Rattle.nl_tree.specs.Vocabulary.{among}
-use Rattle.nl_fields.specs.Names.{can_be_widget, is_built_in}
+use Rattle.nl_experiment_fields.specs.Names.{can_be_widget, is_built_in}
 use Rattle.nl_experiment.specs.Widgets.{are_right, gathered}
 
 abbrev built_in : Names

@@ -6,8 +6,8 @@ use Rattle.nl_fixed.specs.Nouns.{Bytes, Texts}
 use Rattle.nl_tree.specs.Checked.{Checked}
 use Rattle.nl_tree.specs.Tree.{Node}
 use Rattle.nl_tree.specs.declared.declared.Form.TheVariants as form
-use Rattle.nl_fields.specs.Keys.{go_key, setup_key}
-use Rattle.nl_fields.specs.declared.fields.Fields.{Fields}
+use Rattle.nl_experiment_fields.specs.Keys.{go_key, setup_key}
+use Rattle.nl_experiment_fields.specs.declared.fields.Fields.{Fields}
 use Rattle.nl_experiment.specs.Texts.{AreTreesFor, IsFirstBad, IsTreeFor, LoneText, RefusesTexts, lone, metric, metrics_from, texts_of, until_texts}
 use Rattle.nl_experiment.specs.declared.faults.PlanFault.{PlanFault}
 use Rattle.nl_experiment.specs.declared.faults.PlanRefusal.{PlanRefusal}

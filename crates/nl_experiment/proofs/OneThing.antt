@@ -1,12 +1,12 @@
 -- An experiment says one thing.
 use Rattle.std.proofs.Common.{◌≡◌, ◌⊎◌, inl, inr, List, [], ◌∷◌, length, Result, Ok, Err, Some, refl, sym, ap, ◌∙◌}
 use Rattle.nl_tree.specs.Checked.{Checked}
-use Rattle.nl_lone.specs.LoneText.{IsInner}
-use Rattle.nl_lone.specs.declared.faults.Inner.{Inner}
-use Rattle.nl_lone.proofs.OneThing as lone
-use Rattle.nl_keys.specs.declared.faults.KeyFault.{KeyFault}
-use Rattle.nl_keys.specs.declared.faults.PlanKind.TheVariants.{BadText}
-use Rattle.nl_fields.specs.declared.fields.Fields.{Fields}
+use Rattle.nl_check_model.specs.LoneText.{IsInner}
+use Rattle.nl_check_model.specs.declared.lone_faults.Inner.{Inner}
+use Rattle.nl_check_model.proofs.OneThing as lone
+use Rattle.nl_experiment_keys.specs.declared.faults.KeyFault.{KeyFault}
+use Rattle.nl_experiment_keys.specs.declared.faults.PlanKind.TheVariants.{BadText}
+use Rattle.nl_experiment_fields.specs.declared.fields.Fields.{Fields}
 use Rattle.nl_experiment.specs.Laws as law
 use Rattle.nl_experiment.specs.Laws.{HaveTrees}
 use Rattle.nl_experiment.specs.Plan.{experiment_says}

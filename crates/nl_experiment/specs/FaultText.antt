@@ -2,9 +2,9 @@
 use Rattle.std.specs.Prelude.{[], ◌++◌, codes, Option, Some, None}
 use Rattle.std.specs.Fmt.{decimal}
 use Rattle.nl_fixed.specs.Nouns.{Bytes}
-use Rattle.nl_lone.specs.declared.faults.Inner.{Inner}
-use Rattle.nl_lone.specs.declared.faults.InnerKind.{InnerKind}
-use Rattle.nl_keys.specs.declared.faults.PlanKind.{PlanKind}
+use Rattle.nl_check_model.specs.declared.lone_faults.Inner.{Inner}
+use Rattle.nl_check_model.specs.declared.lone_faults.InnerKind.{InnerKind}
+use Rattle.nl_experiment_keys.specs.declared.faults.PlanKind.{PlanKind}
 use Rattle.nl_experiment.specs.declared.faults.PlanFault.{PlanFault}
 
 -- the word of a kind

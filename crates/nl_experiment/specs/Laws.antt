@@ -2,8 +2,8 @@
 use Rattle.std.specs.Prelude.{◌≡◌, ◌⊎◌, List, [], ◌∷◌, length, Ok, Err}
 use Rattle.nl_fixed.specs.Nouns.{Bytes}
 use Rattle.nl_tree.specs.Checked.{Checked}
-use Rattle.nl_keys.specs.declared.faults.KeyFault.{KeyFault}
-use Rattle.nl_fields.specs.declared.fields.Fields.{Fields}
+use Rattle.nl_experiment_keys.specs.declared.faults.KeyFault.{KeyFault}
+use Rattle.nl_experiment_fields.specs.declared.fields.Fields.{Fields}
 use Rattle.nl_experiment.specs.Plan.{experiment_says}
 use Rattle.nl_experiment.specs.Texts.{HasTree, IsFirstBad, LoneText, texts_of}
 use Rattle.nl_experiment.specs.declared.faults.PlanFault.{PlanFault}

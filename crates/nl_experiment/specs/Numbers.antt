@@ -3,8 +3,8 @@ use Rattle.std.specs.Prelude.{ℕ, ◌+◌, ◌*◌, ◌-◌, nat_le, ◌&&◌, 
 use Rattle.std.specs.Char.{is_ascii_digit}
 use Rattle.std.specs.List.{list_all}
 use Rattle.nl_fixed.specs.Nouns.{Bytes}
-use Rattle.nl_keys.specs.declared.faults.PlanKind.{PlanKind}
-use Rattle.nl_keys.specs.declared.faults.PlanKind.TheVariants.{NoSuchRun}
+use Rattle.nl_experiment_keys.specs.declared.faults.PlanKind.{PlanKind}
+use Rattle.nl_experiment_keys.specs.declared.faults.PlanKind.TheVariants.{NoSuchRun}
 
 -- the number that digits write behind others
 abbrev pub number_behind : ℕ → Bytes → ℕ

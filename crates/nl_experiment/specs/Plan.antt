@@ -1,16 +1,16 @@
 -- What an experiment says: the fields of its file, where its runs are not too many and each has a world; or its first fault.
 use Rattle.std.specs.Prelude.{◌≡◌, ℕ, ℤ, pos, Bool, true, nat_le, List, slice_index_or, None, Result, Ok, Err}
 use Rattle.nl_fixed.specs.Nouns.{Bytes}
-use Rattle.nl_sweep.specs.Sweep.{IsSweep, all_have_worlds, most_runs, runs_of}
-use Rattle.nl_sweep.specs.declared.order.Order.{Order}
-use Rattle.nl_sweep.specs.declared.worlds.World.{World}
-use Rattle.nl_keys.specs.Reading.{◌>>=◌, fault_at, only_if}
-use Rattle.nl_keys.specs.declared.faults.PlanKind.TheVariants.{TooManyRuns, BadWorld}
-use Rattle.nl_keys.specs.declared.faults.KeyFault.{KeyFault}
-use Rattle.nl_keys.specs.declared.faults.KeyRefusal.{KeyRefusal}
-use Rattle.nl_fields.specs.File.{file_says}
-use Rattle.nl_fields.specs.Keys.{vary_key, world_key}
-use Rattle.nl_fields.specs.declared.fields.Fields.{Fields}
+use Rattle.nl_experiment_sweep.specs.Sweep.{IsSweep, all_have_worlds, most_runs, runs_of}
+use Rattle.nl_experiment_sweep.specs.declared.order.Order.{Order}
+use Rattle.nl_experiment_sweep.specs.declared.worlds.World.{World}
+use Rattle.nl_experiment_keys.specs.Reading.{◌>>=◌, fault_at, only_if}
+use Rattle.nl_experiment_keys.specs.declared.faults.PlanKind.TheVariants.{TooManyRuns, BadWorld}
+use Rattle.nl_experiment_keys.specs.declared.faults.KeyFault.{KeyFault}
+use Rattle.nl_experiment_keys.specs.declared.faults.KeyRefusal.{KeyRefusal}
+use Rattle.nl_experiment_fields.specs.File.{file_says}
+use Rattle.nl_experiment_fields.specs.Keys.{vary_key, world_key}
+use Rattle.nl_experiment_fields.specs.declared.fields.Fields.{Fields}
 use Rattle.nl_experiment.specs.declared.faults.PlanFault.{PlanFault}
 use Rattle.nl_experiment.specs.declared.faults.PlanRefusal.{PlanRefusal}
 

@@ -9,11 +9,11 @@ use Rattle.nl_tree.specs.Views.{plain}
 use Rattle.nl_tree.specs.declared.declared.Form.{Form}
 use Rattle.nl_tree.specs.declared.declared.Form.TheVariants as form
 use Rattle.nl_tree.specs.declared.tree.Tree.{Tree}
-use Rattle.nl_lone.specs.LoneText.{IsInner, IsLoneTree}
-use Rattle.nl_lone.specs.declared.faults.Inner.{Inner}
-use Rattle.nl_keys.specs.declared.faults.PlanKind.TheVariants.{BadText}
-use Rattle.nl_fields.specs.Keys.{setup_key, go_key, until_key}
-use Rattle.nl_fields.specs.declared.fields.Fields.{Fields}
+use Rattle.nl_check_model.specs.LoneText.{IsInner, IsLoneTree}
+use Rattle.nl_check_model.specs.declared.lone_faults.Inner.{Inner}
+use Rattle.nl_experiment_keys.specs.declared.faults.PlanKind.TheVariants.{BadText}
+use Rattle.nl_experiment_fields.specs.Keys.{setup_key, go_key, until_key}
+use Rattle.nl_experiment_fields.specs.declared.fields.Fields.{Fields}
 use Rattle.nl_experiment.specs.declared.faults.PlanFault.{PlanFault}
 use Rattle.nl_experiment.specs.declared.faults.PlanRefusal.{PlanRefusal}
 use Rattle.nl_experiment.specs.declared.texts.Texts as declared

@@ -5,8 +5,8 @@ use Rattle.nl_fixed.specs.Nouns.{Names}
 use Rattle.nl_words.specs.Rows.{rows}
 use Rattle.nl_words.specs.Table.{is_name}
 use Rattle.nl_tree.specs.Names.{are_apart, are_distinct}
-use Rattle.nl_fields.specs.Names.{can_be_widget}
-use Rattle.nl_fields.specs.declared.fields.Fields.{Fields}
+use Rattle.nl_experiment_fields.specs.Names.{can_be_widget}
+use Rattle.nl_experiment_fields.specs.declared.fields.Fields.{Fields}
 
 -- each name that a widget may have, once, behind those that are known already
 abbrev pub gathered : Names → Names → Names

@@ -1,6 +1,6 @@
 //! An experiment: the fields of its file, its runs and its widgets.
 ghost use Rattle.std.specs.Prelude.{◌≡◌, ◌<◌};
-ghost use Rattle.nl_sweep.specs.Varied.{AllHaveValues};
+ghost use Rattle.nl_experiment_sweep.specs.Varied.{AllHaveValues};
 ghost use Rattle.nl_experiment.specs.Plan as spec;
 ghost use Rattle.nl_experiment.specs.Plan.{Says, experiment_says};
 
@@ -8,12 +8,12 @@ use crate::faults::{PlanRefusal, of_keys};
 use crate::numbers::run_among;
 use crate::texts::Texts;
 use crate::widgets::widgets_of;
-use nl_fields::{Fields, fields_of};
+use nl_experiment_fields::{Fields, fields_of};
+use nl_experiment_keys::PlanKind;
+use nl_experiment_keys::faults::fault_at;
+use nl_experiment_sweep::{Order, Settings, World, all_have_worlds, runs};
 use nl_fixed::{Names, NoMemory};
 use nl_grid::Shape;
-use nl_keys::PlanKind;
-use nl_keys::faults::fault_at;
-use nl_sweep::{Order, Settings, World, all_have_worlds, runs};
 use nl_tree::Program;
 use std::alloc::Global;
 use std::marker::Model;
@@ -32,13 +32,13 @@ pub struct Experiment {
 impl Model for Experiment {
     ghost use Rattle.std.specs.Prelude.{◌≡◌};
     ghost use Rattle.nl_tree.specs.Names.{AreWidgets};
-    ghost use Rattle.nl_sweep.specs.Sweep.{runs_of};
-    ghost use Rattle.nl_fields.specs.declared.fields.Fields.{Fields};
+    ghost use Rattle.nl_experiment_sweep.specs.Sweep.{runs_of};
+    ghost use Rattle.nl_experiment_fields.specs.declared.fields.Fields.{Fields};
     ghost use Rattle.nl_experiment.specs.Plan.{IsPlan, order_of};
     ghost use Rattle.nl_experiment.specs.Widgets.{widgets_of};
     ghost use Rattle.std.specs.Coded.{codes};
     ghost use Rattle.nl_value.specs.inner.Codes.{plain_code};
-    ghost use Rattle.nl_sweep.specs.inner.Codes.{setting_code, vary_code};
+    ghost use Rattle.nl_experiment_sweep.specs.inner.Codes.{setting_code, vary_code};
 
     ghost Value = { Fields };
 
@@ -108,7 +108,7 @@ fn judged(alloc: Global, fields: Fields) -> Result<Experiment, PlanRefusal>
 impl Experiment {
     ghost use Rattle.std.specs.Prelude.{◌≡◌, ◌<◌, ◌≤◌, IfOk, IfErr, is_some};
     ghost use Rattle.nl_tree.specs.Names.{AreWidgets};
-    ghost use Rattle.nl_sweep.specs.Sweep.{IsRun, plane_of_run, runs_of, seed_of, settings_of};
+    ghost use Rattle.nl_experiment_sweep.specs.Sweep.{IsRun, plane_of_run, runs_of, seed_of, settings_of};
     ghost use Rattle.nl_experiment.specs.Numbers.{AreDigits, number_of, run_among};
     ghost use Rattle.nl_experiment.specs.Plan.{Says, experiment_says, order_of, world_of};
     ghost use Rattle.nl_experiment.specs.Texts.{AreTreesFor, RefusesTexts, texts_of, trees_of};
@@ -165,7 +165,7 @@ impl Experiment {
         ensures { IfOk result (λ settings.
             settings ≡ settings_of (order_of self.now) self.now.vary run) }
     {
-        nl_sweep::settings(alloc, order_of(&self.fields), &self.fields.vary, run)
+        nl_experiment_sweep::settings(alloc, order_of(&self.fields), &self.fields.vary, run)
     }
 
     /// The seed of a run.
@@ -173,7 +173,7 @@ impl Experiment {
         requires { IsRun (order_of self.now) self.now.vary run }
         ensures { result ≡ seed_of (order_of self.now) self.now.vary self.now.seed run }
     {
-        nl_sweep::seed(
+        nl_experiment_sweep::seed(
             order_of(&self.fields),
             &self.fields.vary,
             self.fields.seed,
@@ -187,7 +187,7 @@ impl Experiment {
         ensures { result ≡ plane_of_run (world_of self.now) (order_of self.now) self.now.vary run }
     {
         let fields = &self.fields;
-        match nl_sweep::shape(order_of(fields), &fields.vary, world_of(fields), run) {
+        match nl_experiment_sweep::shape(order_of(fields), &fields.vary, world_of(fields), run) {
             Some(shape) => shape,
             None => unreachable!(),
         }

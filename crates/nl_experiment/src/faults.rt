@@ -3,9 +3,9 @@ ghost use Rattle.std.specs.Prelude.{◌≡◌, IfOk};
 ghost use Rattle.nl_experiment.specs.FaultText.{inner_kind_text, inner_text, key_text, plan_kind_text, plan_text};
 ghost use Rattle.nl_experiment.specs.Plan.{refused};
 
+use nl_check_model::{Inner, InnerKind};
+use nl_experiment_keys::{KeyRefusal, PlanKind};
 use nl_fixed::{NoMemory, Str};
-use nl_keys::{KeyRefusal, PlanKind};
-use nl_lone::{Inner, InnerKind};
 use std::alloc::Global;
 
 /// The first fault of an experiment, with its key as it is told: `seed`, `world.wrap-x`, `vary 2.values`, `metric 1`. A fault of the whole

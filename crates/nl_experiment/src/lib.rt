@@ -10,8 +10,8 @@ pub mod widgets;
 
 pub use experiment::Experiment;
 pub use faults::{PlanFault, PlanRefusal};
-pub use nl_fields::Fields;
-pub use nl_keys::PlanKind;
-pub use nl_lone::{Inner, InnerKind};
-pub use nl_sweep::{Choice, Setting, Settings, Varies, Vary};
+pub use nl_check_model::{Inner, InnerKind};
+pub use nl_experiment_fields::Fields;
+pub use nl_experiment_keys::PlanKind;
+pub use nl_experiment_sweep::{Choice, Setting, Settings, Varies, Vary};
 pub use texts::Texts;

@@ -2,8 +2,8 @@
 ghost use Rattle.std.specs.Prelude.{◌≡◌, ◌≤◌};
 ghost use Rattle.nl_experiment.specs.Numbers.{AreDigits, number_of, run_among};
 
-use nl_keys::PlanKind;
-use nl_sweep::MOST_RUNS;
+use nl_experiment_keys::PlanKind;
+use nl_experiment_sweep::MOST_RUNS;
 
 /// The run that digits name among so many.
 #[tactic(auto, using(crate::proofs::Digits::beyond))]

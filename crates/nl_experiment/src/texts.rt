@@ -1,15 +1,15 @@
 //! The texts of an experiment beside a program.
 ghost use Rattle.std.specs.Prelude.{◌≡◌, ◌∷◌, [], IfOk, IfErr, is_some, string_bytes};
 ghost use Rattle.nl_tree.specs.Views.{plain};
-ghost use Rattle.nl_fields.specs.Keys.{until_key};
+ghost use Rattle.nl_experiment_fields.specs.Keys.{until_key};
 ghost use Rattle.nl_experiment.specs.Texts as spec;
 ghost use Rattle.nl_experiment.specs.Texts.{AreTreesFor, IsTreeFor, RefusesTexts, lone};
 
 use crate::faults::{PlanFault, PlanRefusal};
-use nl_fields::Fields;
+use nl_check_model::{Inner, LoneRefusal, read_lone};
+use nl_experiment_fields::Fields;
+use nl_experiment_keys::PlanKind;
 use nl_fixed::{NoMemory, Str};
-use nl_keys::PlanKind;
-use nl_lone::{Inner, LoneRefusal, read_lone};
 use nl_tree::{Form, Program, Tree, Trees};
 use std::alloc::Global;
 

@@ -2,11 +2,11 @@
 ghost use Rattle.std.specs.Prelude.{◌≡◌, ◌++◌, [], IfOk, IsTrue, map};
 ghost use Rattle.nl_experiment.specs.Widgets as spec;
 
-use nl_fields::Fields;
-use nl_fields::names::can_be_widget;
+use nl_experiment_fields::Fields;
+use nl_experiment_fields::names::can_be_widget;
+use nl_experiment_sweep::{Settings, Varies};
 use nl_fixed::{Names, NoMemory, Str};
-use nl_reading::known_names::KnownNames;
-use nl_sweep::{Settings, Varies};
+use nl_parse_reading::known_names::KnownNames;
 use std::alloc::Global;
 
 // The names of variables that are set.

@@ -1,8 +1,8 @@
 -- Lemmas on a border that is written.
 use Rattle.std.proofs.Common.{◌≡◌, ℕ, Bool, true, false, Option, Some, None, eqb, cond, refl, ap, ◌∙◌}
-use Rattle.nl_records.specs.Filed.{after, before, Redirects, Stays}
-use Rattle.nl_records.specs.declared.places.Border.{Border}
-use Rattle.nl_records.specs.declared.record.Record.{Record}
+use Rattle.nl_store_records.specs.Filed.{after, before, Redirects, Stays}
+use Rattle.nl_store_records.specs.declared.places.Border.{Border}
+use Rattle.nl_store_records.specs.declared.record.Record.{Record}
 
 -- one chain has another first key
 module _ (chain number : ℕ) (to : Option ℕ) (old new : ℕ → Border) (at : ℕ → Option Record)

@@ -4,18 +4,18 @@ use Rattle.std.specs.Option.{option_map}
 use Rattle.std.proofs.lemmas.Grind.{common_steps}
 use Rattle.std.proofs.lemmas.Bool.{cases_eq}
 use Rattle.nl_grid.specs.Geometry.{Plane}
-use Rattle.nl_threads.specs.Threads.{at_number, has, without}
-use Rattle.nl_threads.specs.Rising.{IsRisingBy}
-use Rattle.nl_threads.proofs.Places.{at-here, at-other, at-each}
-use Rattle.nl_threads.proofs.Threaded.{home-of}
-use Rattle.nl_threads.proofs.Rising.{rising-append, rising-same, rising-without}
-use Rattle.nl_records.specs.Records.{fields_at, settled, Sets}
-use Rattle.nl_records.specs.Filed.{after, before, apart_from, next_of, previous_of, IsFiled, KeepsOthers}
-use Rattle.nl_records.specs.declared.fields.Body.{Body}
-use Rattle.nl_records.specs.declared.fields.Fields.{Fields}
-use Rattle.nl_records.specs.declared.places.Border.{Border}
-use Rattle.nl_records.specs.declared.record.Record.{Record}
-use Rattle.nl_records.proofs.Filing.{filed-home, filed-places}
+use Rattle.nl_store_lists.specs.Threads.{at_number, has, without}
+use Rattle.nl_store_lists.specs.Rising.{IsRisingBy}
+use Rattle.nl_store_lists.proofs.Places.{at-here, at-other, at-each}
+use Rattle.nl_store_lists.proofs.Threaded.{home-of}
+use Rattle.nl_store_lists.proofs.Rising.{rising-append, rising-same, rising-without}
+use Rattle.nl_store_records.specs.Records.{fields_at, settled, Sets}
+use Rattle.nl_store_records.specs.Filed.{after, before, apart_from, next_of, previous_of, IsFiled, KeepsOthers}
+use Rattle.nl_store_records.specs.declared.fields.Body.{Body}
+use Rattle.nl_store_records.specs.declared.fields.Fields.{Fields}
+use Rattle.nl_store_records.specs.declared.places.Border.{Border}
+use Rattle.nl_store_records.specs.declared.record.Record.{Record}
+use Rattle.nl_store_records.proofs.Filing.{filed-home, filed-places}
 use Rattle.nl_index.specs.Rows.{put_in, take_from}
 use Rattle.nl_index.specs.Index.{IsAbove, StandsOn, HasBreedChain, by_birth, chain_of, home_by, serial_at, serial_in}
 use Rattle.nl_index.proofs.Moves.{home-here, home-filed, home-changed}

@@ -1,13 +1,13 @@
 -- Chains are filters.
 use Rattle.std.proofs.Common.{◌≡◌, ℕ, Bool, true, false, Option, Some, None, cond, ◌&&◌, refl, sym, ap, ◌∙◌}
 use Rattle.nl_grid.specs.Geometry.{Plane}
-use Rattle.nl_threads.specs.Threads.{is_in}
-use Rattle.nl_threads.proofs.Threaded.{lists_are_one}
-use Rattle.nl_records.specs.Records.{fields_at}
-use Rattle.nl_records.specs.declared.fields.Body.{Body}
-use Rattle.nl_records.specs.declared.fields.Body.TheVariants.{Turtle, Link}
-use Rattle.nl_records.specs.declared.fields.Fields.{Fields}
-use Rattle.nl_records.specs.declared.record.Record.{Record}
+use Rattle.nl_store_lists.specs.Threads.{is_in}
+use Rattle.nl_store_lists.proofs.Threaded.{lists_are_one}
+use Rattle.nl_store_records.specs.Records.{fields_at}
+use Rattle.nl_store_records.specs.declared.fields.Body.{Body}
+use Rattle.nl_store_records.specs.declared.fields.Body.TheVariants.{Turtle, Link}
+use Rattle.nl_store_records.specs.declared.fields.Fields.{Fields}
+use Rattle.nl_store_records.specs.declared.record.Record.{Record}
 use Rattle.nl_index.specs.Index.{IsIndex, Lists, birth_chain, breed_chain, by_birth, by_breed, by_patch, chain_of, keys_of, patch_chain}
 use Rattle.nl_index.specs.Laws.{IsFilter, belongs, is_member}
 use Rattle.nl_index.specs.declared.chains.Chain.{Chain}

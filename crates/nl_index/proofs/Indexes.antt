@@ -1,15 +1,15 @@
 -- Lemmas on an index whose records, or whose test, are others.
 use Rattle.std.proofs.Common.{◌≡◌, ℕ, Bool, true, false, List, Option, Some, None, IsSome, IsSomeAnd, cond, refl, sym, ap, ◌∙◌, subst}
 use mathlib.Core.Path.{fun_ext}
-use Rattle.nl_threads.specs.Threads.{has, IsPlace}
-use Rattle.nl_threads.proofs.Threaded.{home-of, stays_threaded}
-use Rattle.nl_threads.proofs.Rising.{rising-same}
-use Rattle.nl_records.specs.Records.{fields_at}
-use Rattle.nl_records.specs.Filed.{after, before, IsFiled}
-use Rattle.nl_records.specs.declared.fields.Fields.{Fields}
-use Rattle.nl_records.specs.declared.places.Border.{Border}
-use Rattle.nl_records.specs.declared.record.Record.{Record}
-use Rattle.nl_records.proofs.Filing.{filed-home}
+use Rattle.nl_store_lists.specs.Threads.{has, IsPlace}
+use Rattle.nl_store_lists.proofs.Threaded.{home-of, stays_threaded}
+use Rattle.nl_store_lists.proofs.Rising.{rising-same}
+use Rattle.nl_store_records.specs.Records.{fields_at}
+use Rattle.nl_store_records.specs.Filed.{after, before, IsFiled}
+use Rattle.nl_store_records.specs.declared.fields.Fields.{Fields}
+use Rattle.nl_store_records.specs.declared.places.Border.{Border}
+use Rattle.nl_store_records.specs.declared.record.Record.{Record}
+use Rattle.nl_store_records.proofs.Filing.{filed-home}
 use Rattle.nl_index.specs.Index.{Fits, IsIndex, Lists, by_birth, by_breed, by_patch, chain_of, home_by, serial_at, serial_in}
 use Rattle.nl_index.specs.declared.chains.Chains.{Chains}
 use Rattle.nl_index.proofs.Moves.{home-filed}

@@ -1,11 +1,11 @@
 -- Lemmas on the chains that keys are in.
 use Rattle.std.proofs.Common.{◌≡◌, ◌≢◌, ℕ, Bool, true, false, Option, Some, None, cond, refl, sym, ap, ◌∙◌, inl, inr}
 use Rattle.std.proofs.lemmas.Bool.{cases_eq}
-use Rattle.nl_threads.specs.Threads.{at_number}
-use Rattle.nl_threads.proofs.Places.{at-here, at-other}
-use Rattle.nl_records.specs.Records.{fields_at}
-use Rattle.nl_records.specs.declared.fields.Fields.{Fields}
-use Rattle.nl_records.specs.declared.record.Record.{Record}
+use Rattle.nl_store_lists.specs.Threads.{at_number}
+use Rattle.nl_store_lists.proofs.Places.{at-here, at-other}
+use Rattle.nl_store_records.specs.Records.{fields_at}
+use Rattle.nl_store_records.specs.declared.fields.Fields.{Fields}
+use Rattle.nl_store_records.specs.declared.record.Record.{Record}
 use Rattle.nl_index.specs.Index.{chain_of, home_by}
 
 pub at-twice : {A : Type 0} (f : ℕ → A) (key : ℕ) (one two : A) (k : ℕ) → at_number (at_number f key one) key two k ≡ at_number f key two k

@@ -7,13 +7,13 @@ use Rattle.std.specs.Prelude.{◌≡◌, ℕ, ◌<◌, ◌==◌, Bool, true, fal
 use Rattle.std.specs.Option.{option_map}
 use Rattle.nl_grid.specs.Geometry.{Plane, IsPointOf, patch_at, patches_of}
 use Rattle.nl_grid.specs.declared.point.Point.{Point}
-use Rattle.nl_threads.specs.Rising.{IsRisingBy}
-use Rattle.nl_records.specs.Records.{fields_at, no_place, settled}
-use Rattle.nl_records.specs.Filed.{IsFiled}
-use Rattle.nl_records.specs.declared.fields.Body.{Body}
-use Rattle.nl_records.specs.declared.fields.Body.TheVariants.{Turtle, Link}
-use Rattle.nl_records.specs.declared.fields.Fields.{Fields}
-use Rattle.nl_records.specs.declared.record.Record.{Record}
+use Rattle.nl_store_lists.specs.Rising.{IsRisingBy}
+use Rattle.nl_store_records.specs.Records.{fields_at, no_place, settled}
+use Rattle.nl_store_records.specs.Filed.{IsFiled}
+use Rattle.nl_store_records.specs.declared.fields.Body.{Body}
+use Rattle.nl_store_records.specs.declared.fields.Body.TheVariants.{Turtle, Link}
+use Rattle.nl_store_records.specs.declared.fields.Fields.{Fields}
+use Rattle.nl_store_records.specs.declared.record.Record.{Record}
 use Rattle.nl_index.specs.Rows.{borders_in, put_in, take_from}
 use Rattle.nl_index.specs.declared.chains.Chain.{Chain}
 use Rattle.nl_index.specs.declared.chains.Chain.TheVariants as chain

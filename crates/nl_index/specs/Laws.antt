@@ -1,13 +1,13 @@
 -- What holds of the chains of an index, in the words of the agents that they hold.
 use Rattle.std.specs.Prelude.{◌≡◌, ℕ, ◌==◌, ◌&&◌, Bool, true, false, List, Option, Some, None}
 use Rattle.nl_grid.specs.Geometry.{Plane, patch_at}
-use Rattle.nl_threads.specs.Threads.{has, IsOnce}
-use Rattle.nl_threads.specs.Rising.{IsRisingBy}
-use Rattle.nl_records.specs.Records.{fields_at}
-use Rattle.nl_records.specs.declared.fields.Body.{Body}
-use Rattle.nl_records.specs.declared.fields.Body.TheVariants.{Turtle, Link}
-use Rattle.nl_records.specs.declared.fields.Fields.{Fields}
-use Rattle.nl_records.specs.declared.record.Record.{Record}
+use Rattle.nl_store_lists.specs.Threads.{has, IsOnce}
+use Rattle.nl_store_lists.specs.Rising.{IsRisingBy}
+use Rattle.nl_store_records.specs.Records.{fields_at}
+use Rattle.nl_store_records.specs.declared.fields.Body.{Body}
+use Rattle.nl_store_records.specs.declared.fields.Body.TheVariants.{Turtle, Link}
+use Rattle.nl_store_records.specs.declared.fields.Fields.{Fields}
+use Rattle.nl_store_records.specs.declared.record.Record.{Record}
 use Rattle.nl_index.specs.Index.{IsIndex, Lists, keys_of, serial_at}
 use Rattle.nl_index.specs.declared.chains.Chain.{Chain}
 use Rattle.nl_index.specs.declared.chains.Chain.TheVariants as chain

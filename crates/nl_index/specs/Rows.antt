@@ -1,9 +1,9 @@
 -- Rows of chains of one kind, and the lists that they hold.
 use Rattle.std.specs.Prelude.{◌≡◌, ℕ, List, Option, Some, None, slice_index_or}
-use Rattle.nl_threads.specs.Threads.{put_last, take_out}
-use Rattle.nl_records.specs.Filed.{no_keys, IsFiled}
-use Rattle.nl_records.specs.declared.record.Record.{Record}
-use Rattle.nl_records.specs.declared.places.Border.{Border}
+use Rattle.nl_store_lists.specs.Threads.{put_last, take_out}
+use Rattle.nl_store_records.specs.Filed.{no_keys, IsFiled}
+use Rattle.nl_store_records.specs.declared.record.Record.{Record}
+use Rattle.nl_store_records.specs.declared.places.Border.{Border}
 
 -- the border of each chain of a row
 abbrev pub borders_in : List Border → ℕ → Border

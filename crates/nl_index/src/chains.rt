@@ -1,11 +1,11 @@
 //! The chains by birth, by patch and by breed.
 ghost use Rattle.std.specs.Prelude.{◌≡◌, ◌<◌, ◌==◌, ℕ, Bool, true, false, Option, Some, None, IsSome, IsSomeAnd, IfOk, length, slice_get, if◌then◌else◌};
 ghost use Rattle.nl_grid.specs.Geometry.{IsPointOf, patch_at, patches_of};
-ghost use Rattle.nl_threads.specs.Threads.{at_number};
-ghost use Rattle.nl_records.specs.Records.{record_at, fields_at};
-ghost use Rattle.nl_records.specs.Filed.{no_keys};
-ghost use Rattle.nl_records.specs.declared.fields.Fields.{Fields};
-ghost use Rattle.nl_records.specs.declared.record.Record.{Record};
+ghost use Rattle.nl_store_lists.specs.Threads.{at_number};
+ghost use Rattle.nl_store_records.specs.Records.{record_at, fields_at};
+ghost use Rattle.nl_store_records.specs.Filed.{no_keys};
+ghost use Rattle.nl_store_records.specs.declared.fields.Fields.{Fields};
+ghost use Rattle.nl_store_records.specs.declared.record.Record.{Record};
 ghost use Rattle.nl_index.specs.Rows.{borders_in};
 ghost use Rattle.nl_index.specs.Index.{Fits, IsAbove, IsChain, IsIndex, IsListed, IsSized, IsTurtle, IsWhole, Lists, MayAdd, MovesBare, SameBare, breeds_in, first_of, keys_of, lists_added, lists_refiled, lists_removed, no_lists};
 
@@ -13,7 +13,7 @@ use crate::homes::homes_at;
 use crate::row::{link_in, move_last, unlink_from};
 use nl_fixed::NoMemory;
 use nl_grid::{Point, Shape};
-use nl_records::{Body, PackedBorder, Records};
+use nl_store_records::{Body, PackedBorder, Records};
 use std::alloc::Global;
 
 /// Which chain: of all turtles or all links, in order of birth; of the turtles on a patch or of a breed, in the order in which they came.

@@ -1,12 +1,12 @@
 //! In which chains an agent is.
 ghost use Rattle.std.specs.Prelude.{◌≡◌, ◌<◌, Some, IsSome, IfSome, IsSomeAnd};
 ghost use Rattle.nl_grid.specs.Geometry.{patches_of};
-ghost use Rattle.nl_records.specs.Records.{record_at, fields_at};
+ghost use Rattle.nl_store_records.specs.Records.{record_at, fields_at};
 ghost use Rattle.nl_index.specs.Index.{StandsOn, birth_chain, breed_chain, by_birth, by_breed, by_patch, chain_of, patch_chain};
 
 use nl_agents::Steps;
 use nl_grid::Shape;
-use nl_records::{Body, Records};
+use nl_store_records::{Body, Records};
 use std::marker::Brand;
 use std::sync::ledger::{Blank, Ledger};
 

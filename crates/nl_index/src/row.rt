@@ -1,12 +1,12 @@
 //! Rows of chains of one kind.
 ghost use Rattle.std.specs.Prelude.{◌≡◌, ◌<◌, ◌==◌, ℕ, List, Option, length, if◌then◌else◌, Some, None, IsSome, IfSome};
-ghost use Rattle.nl_threads.specs.Threads.{at_number};
-ghost use Rattle.nl_records.specs.Packed.{IsSmall};
-ghost use Rattle.nl_records.specs.Records.{record_at};
-ghost use Rattle.nl_records.specs.Filed.{after, before, IsFiled, IsHeld, KeepsOthers, Redirects, Stays};
+ghost use Rattle.nl_store_lists.specs.Threads.{at_number};
+ghost use Rattle.nl_store_records.specs.Packed.{IsSmall};
+ghost use Rattle.nl_store_records.specs.Records.{record_at};
+ghost use Rattle.nl_store_records.specs.Filed.{after, before, IsFiled, IsHeld, KeepsOthers, Redirects, Stays};
 ghost use Rattle.nl_index.specs.Rows.{borders_in, put_in, take_from, IsIn};
 
-use nl_records::{PackedBorder, Records, place_at, set_next, set_place, set_previous};
+use nl_store_records::{PackedBorder, Records, place_at, set_next, set_place, set_previous};
 
 fn last_of(row: &Vec<PackedBorder>, number: usize) -> Option<usize>
     requires { number < length row.now.items }

@@ -2,7 +2,7 @@
 use Rattle.std.proofs.Common.{◌≡◌, ℕ, true, false, Option, Some, None, IsSome, is_some, eqb, cond, refl, sym, ap, ◌∙◌, inl, inr, arith, subst}
 use Rattle.std.specs.Option.{option_map}
 use Rattle.std.proofs.lemmas.Bool.{cases_eq}
-use Rattle.nl_records.specs.declared.places.Border.{Border}
+use Rattle.nl_store_records.specs.declared.places.Border.{Border}
 use Rattle.nl_links.specs.declared.sides.Side.{Side}
 use Rattle.nl_links.specs.declared.sides.Side.TheVariants.{First, Second}
 use Rattle.nl_links.specs.declared.sides.Sides.{Sides}

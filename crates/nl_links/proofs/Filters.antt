@@ -1,12 +1,12 @@
 -- Chains of links are filters.
 use Rattle.std.proofs.Common.{◌≡◌, ℕ, Bool, true, false, Option, Some, None, cond, ◌&&◌, refl, ◌∙◌}
-use Rattle.nl_threads.specs.Threads.{is_in}
-use Rattle.nl_threads.proofs.Threaded.{lists_are_one}
-use Rattle.nl_records.specs.Records.{fields_at}
-use Rattle.nl_records.specs.declared.fields.Body.{Body}
-use Rattle.nl_records.specs.declared.fields.Body.TheVariants.{Turtle, Link}
-use Rattle.nl_records.specs.declared.fields.Fields.{Fields}
-use Rattle.nl_records.specs.declared.record.Record.{Record}
+use Rattle.nl_store_lists.specs.Threads.{is_in}
+use Rattle.nl_store_lists.proofs.Threaded.{lists_are_one}
+use Rattle.nl_store_records.specs.Records.{fields_at}
+use Rattle.nl_store_records.specs.declared.fields.Body.{Body}
+use Rattle.nl_store_records.specs.declared.fields.Body.TheVariants.{Turtle, Link}
+use Rattle.nl_store_records.specs.declared.fields.Fields.{Fields}
+use Rattle.nl_store_records.specs.declared.record.Record.{Record}
 use Rattle.nl_index.specs.Index.{chain_of}
 use Rattle.nl_links.specs.declared.ends.Ends.{Ends}
 use Rattle.nl_links.specs.Ends.{by_first, by_second, first_end, second_end, IsEnded, LinkLists}

@@ -1,16 +1,16 @@
 -- Lemmas on turtles that are held or let go.
 use Rattle.std.proofs.Common.{◌≡◌, ◌≢◌, ℕ, Bool, true, false, List, [], ◌∷◌, Option, Some, None, IsSome, IsSomeAnd, is_some, eqb, cond, refl, sym, ap, ap₂, ◌∙◌, subst}
 use mathlib.Core.Path.{fun_ext}
-use Rattle.nl_threads.specs.Threads.{has, IsPlace, IsWalk}
-use Rattle.nl_threads.proofs.Threaded.{listed}
-use Rattle.nl_threads.proofs.Threaded.{no_keys as none_threaded}
-use Rattle.nl_records.specs.Records.{fields_at}
-use Rattle.nl_records.specs.Filed.{after, before, no_keys, IsFiled}
-use Rattle.nl_records.specs.declared.fields.Body.{Body}
-use Rattle.nl_records.specs.declared.fields.Body.TheVariants.{Turtle, Link}
-use Rattle.nl_records.specs.declared.fields.Fields.{Fields}
-use Rattle.nl_records.specs.declared.places.Border.{Border}
-use Rattle.nl_records.specs.declared.record.Record.{Record}
+use Rattle.nl_store_lists.specs.Threads.{has, IsPlace, IsWalk}
+use Rattle.nl_store_lists.proofs.Threaded.{listed}
+use Rattle.nl_store_lists.proofs.Threaded.{no_keys as none_threaded}
+use Rattle.nl_store_records.specs.Records.{fields_at}
+use Rattle.nl_store_records.specs.Filed.{after, before, no_keys, IsFiled}
+use Rattle.nl_store_records.specs.declared.fields.Body.{Body}
+use Rattle.nl_store_records.specs.declared.fields.Body.TheVariants.{Turtle, Link}
+use Rattle.nl_store_records.specs.declared.fields.Fields.{Fields}
+use Rattle.nl_store_records.specs.declared.places.Border.{Border}
+use Rattle.nl_store_records.specs.declared.record.Record.{Record}
 use Rattle.nl_index.specs.Index.{chain_of, first_of, home_by}
 use Rattle.nl_index.proofs.Moves.{home-here}
 use Rattle.nl_links.specs.declared.sides.Side.{Side}

@@ -1,14 +1,14 @@
 -- Lemmas on links that come, go, and whose records, or whose test, are others.
 use Rattle.std.proofs.Common.{◌≡◌, ℕ, Bool, true, false, List, Option, Some, None, IsSome, IsSomeAnd, is_some, cond, refl, sym, ap, ◌∙◌, subst}
 use mathlib.Core.Path.{fun_ext}
-use Rattle.nl_threads.specs.Threads.{IsPlace}
-use Rattle.nl_threads.proofs.Threaded.{stays_threaded}
-use Rattle.nl_records.specs.Records.{fields_at}
-use Rattle.nl_records.specs.Filed.{after, before, IsFiled}
-use Rattle.nl_records.specs.declared.fields.Fields.{Fields}
-use Rattle.nl_records.specs.declared.places.Border.{Border}
-use Rattle.nl_records.specs.declared.record.Record.{Record}
-use Rattle.nl_records.proofs.Filing.{filed-home}
+use Rattle.nl_store_lists.specs.Threads.{IsPlace}
+use Rattle.nl_store_lists.proofs.Threaded.{stays_threaded}
+use Rattle.nl_store_records.specs.Records.{fields_at}
+use Rattle.nl_store_records.specs.Filed.{after, before, IsFiled}
+use Rattle.nl_store_records.specs.declared.fields.Fields.{Fields}
+use Rattle.nl_store_records.specs.declared.places.Border.{Border}
+use Rattle.nl_store_records.specs.declared.record.Record.{Record}
+use Rattle.nl_store_records.proofs.Filing.{filed-home}
 use Rattle.nl_index.specs.Index.{chain_of, home_by}
 use Rattle.nl_index.proofs.Moves.{home-filed}
 use Rattle.nl_links.specs.declared.ends.Ends.{Ends}

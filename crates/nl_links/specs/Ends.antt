@@ -3,12 +3,12 @@
 -- Which keys are filed is told by a test.
 use Rattle.std.specs.Prelude.{◌≡◌, ℕ, ◌==◌, Bool, true, false, List, [], Option, Some, None, IsSome, IsSomeAnd, is_some, if◌then◌else◌}
 use Rattle.std.specs.Option.{option_map}
-use Rattle.nl_records.specs.Records.{fields_at, no_place}
-use Rattle.nl_records.specs.Filed.{IsFiled}
-use Rattle.nl_records.specs.declared.fields.Body.{Body}
-use Rattle.nl_records.specs.declared.fields.Body.TheVariants.{Turtle, Link}
-use Rattle.nl_records.specs.declared.fields.Fields.{Fields}
-use Rattle.nl_records.specs.declared.record.Record.{Record}
+use Rattle.nl_store_records.specs.Records.{fields_at, no_place}
+use Rattle.nl_store_records.specs.Filed.{IsFiled}
+use Rattle.nl_store_records.specs.declared.fields.Body.{Body}
+use Rattle.nl_store_records.specs.declared.fields.Body.TheVariants.{Turtle, Link}
+use Rattle.nl_store_records.specs.declared.fields.Fields.{Fields}
+use Rattle.nl_store_records.specs.declared.record.Record.{Record}
 use Rattle.nl_index.specs.Rows.{put_in, take_from}
 use Rattle.nl_index.specs.Index.{home_by}
 use Rattle.nl_links.specs.declared.sides.Side.TheVariants.{First, Second}

@@ -1,9 +1,9 @@
 -- Where the chains of a turtle's links begin and end.
 use Rattle.std.specs.Prelude.{◌≡◌, ℕ, ◌==◌, List, Option, Some, None, nat_eq, is_some, if◌then◌else◌}
 use Rattle.indexmap.specs.IndexMap.{get}
-use Rattle.nl_records.specs.Filed.{no_keys, IsFiled}
-use Rattle.nl_records.specs.declared.places.Border.{Border}
-use Rattle.nl_records.specs.declared.record.Record.{Record}
+use Rattle.nl_store_records.specs.Filed.{no_keys, IsFiled}
+use Rattle.nl_store_records.specs.declared.places.Border.{Border}
+use Rattle.nl_store_records.specs.declared.record.Record.{Record}
 use Rattle.nl_links.specs.declared.sides.Side.{Side}
 use Rattle.nl_links.specs.declared.sides.Side.TheVariants.{First, Second}
 use Rattle.nl_links.specs.declared.sides.Sides.{Sides}

@@ -1,11 +1,11 @@
 //! The chains of links by their ends.
 ghost use Rattle.std.specs.Prelude.{◌≡◌, ◌==◌, ℕ, Bool, true, false, [], Option, Some, None, IsSome, IsSomeAnd, OnOk, OnErr};
 ghost use Rattle.std.specs.Option.{option_map};
-ghost use Rattle.nl_threads.specs.Threads.{at_number};
-ghost use Rattle.nl_records.specs.Packed.{IsSmall};
-ghost use Rattle.nl_records.specs.Records.{record_at, fields_at};
-ghost use Rattle.nl_records.specs.declared.fields.Fields.{Fields};
-ghost use Rattle.nl_records.specs.declared.record.Record.{Record};
+ghost use Rattle.nl_store_lists.specs.Threads.{at_number};
+ghost use Rattle.nl_store_records.specs.Packed.{IsSmall};
+ghost use Rattle.nl_store_records.specs.Records.{record_at, fields_at};
+ghost use Rattle.nl_store_records.specs.declared.fields.Fields.{Fields};
+ghost use Rattle.nl_store_records.specs.declared.record.Record.{Record};
 ghost use Rattle.nl_index.specs.Index.{chain_of, first_of};
 ghost use Rattle.nl_links.specs.Sides.{sides_at, with_first, with_last, no_links, HoldsSame, SameSides, SetsSides};
 ghost use Rattle.nl_links.specs.Ends.{by_first, by_second, lists_joined, lists_parted, no_link_lists, HasEnds, Holds, IsEnded, IsFree, IsHeldBy, IsJoined, LinkLists, MayJoin, SameUnjoined};
@@ -16,7 +16,7 @@ use crate::sides::{Side, Sides};
 use indexmap::IndexMap;
 use nl_agents::Steps;
 use nl_fixed::NoMemory;
-use nl_records::{Body, Records};
+use nl_store_records::{Body, Records};
 use std::alloc::Global;
 use std::marker::Brand;
 use std::sync::ledger::{Blank, Ledger};

@@ -1,15 +1,15 @@
 //! One chain of a turtle's links.
 ghost use Rattle.std.specs.Prelude.{◌≡◌, ◌<◌, ℕ, List, Option, Some, None, IsSome};
 ghost use Rattle.std.specs.Option.{option_map};
-ghost use Rattle.nl_threads.specs.Threads.{at_number};
-ghost use Rattle.nl_records.specs.Records.{record_at};
-ghost use Rattle.nl_records.specs.Filed.{after, before, IsFiled, IsHeld, KeepsOthers, Redirects, Stays};
+ghost use Rattle.nl_store_lists.specs.Threads.{at_number};
+ghost use Rattle.nl_store_records.specs.Records.{record_at};
+ghost use Rattle.nl_store_records.specs.Filed.{after, before, IsFiled, IsHeld, KeepsOthers, Redirects, Stays};
 ghost use Rattle.nl_index.specs.Rows.{put_in, take_from};
 ghost use Rattle.nl_links.specs.Sides.{borders_of, kind_of, sides_at, with_first, with_last, IsAmong, KeepsBeside, SetsSides};
 
 use crate::ends::Ends;
 use crate::sides::Side;
-use nl_records::{Records, place_at, set_next, set_place, set_previous};
+use nl_store_records::{Records, place_at, set_next, set_place, set_previous};
 
 fn last_of(ends: &Ends, side: Side, turtle: u64) -> Option<usize>
     requires { IsSome (sides_at ends.now turtle) }

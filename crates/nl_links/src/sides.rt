@@ -1,9 +1,9 @@
 //! Where the chains of a turtle's links begin and end.
 ghost use Rattle.std.specs.Prelude.{◌≡◌, ◌<◌};
-ghost use Rattle.nl_records.specs.Packed.{IsSmall};
+ghost use Rattle.nl_store_records.specs.Packed.{IsSmall};
 ghost use Rattle.nl_links.specs.Sides.{border_of, kind_of, with_first, with_last, no_links};
 
-use nl_records::{Border, PackedBorder};
+use nl_store_records::{Border, PackedBorder};
 
 /// By which end of a link.
 #[derive(Clone, Copy, PartialEq, Debug)]

@@ -8,8 +8,8 @@ use Rattle.nl_value.specs.Living.{no_life}
 use Rattle.nl_draw.specs.Stream.{first_state, next_state, word_of, state_after, words_from, drawn, shuffled, shuffled_from}
 use Rattle.nl_words.specs.declared.codes.TheConstants as code
 use Rattle.nl_words.specs.Row.{Code}
-use Rattle.nl_series.specs.declared.fail.ListFail.TheVariants.{WrongType, OutOfList, ZeroDivide, Domain, TooFew}
-use Rattle.nl_series.specs.Outcomes.{Outcome, outcome_map}
+use Rattle.nl_listops_series.specs.declared.fail.ListFail.TheVariants.{WrongType, OutOfList, ZeroDivide, Domain, TooFew}
+use Rattle.nl_listops_series.specs.Outcomes.{Outcome, outcome_map}
 use Rattle.nl_listops.specs.Answers.{applied}
 
 -- values

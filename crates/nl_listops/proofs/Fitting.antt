@@ -12,13 +12,13 @@ use Rattle.nl_value.specs.Limits.{within_limits}
 use Rattle.nl_value.specs.Order.{comes_first}
 use Rattle.nl_value.specs.Views.{plain}
 use Rattle.nl_value.specs.declared.values.Value.{Value}
-use Rattle.nl_series.specs.declared.fail.ListFail.TheVariants.{OutOfList, TooLarge}
-use Rattle.nl_series.specs.Outcomes.{Outcome, and_then, outcome_map, or_fail, list_value}
-use Rattle.nl_series.specs.Lists.{items_in, sentence_of}
-use Rattle.nl_series.specs.Places.{first_of, last_of, without_first, without_last, item_at, without_at, part_of, between, place_of, place_below}
-use Rattle.nl_series.specs.Ranges.{range_of, number_list}
-use Rattle.nl_series.specs.Searches.{each_once, without_item, times_in, most_times}
-use Rattle.nl_series.specs.Sorts.{sortable, is_of, sorted_kind}
+use Rattle.nl_listops_series.specs.declared.fail.ListFail.TheVariants.{OutOfList, TooLarge}
+use Rattle.nl_listops_series.specs.Outcomes.{Outcome, and_then, outcome_map, or_fail, list_value}
+use Rattle.nl_listops_series.specs.Lists.{items_in, sentence_of}
+use Rattle.nl_listops_series.specs.Places.{first_of, last_of, without_first, without_last, item_at, without_at, part_of, between, place_of, place_below}
+use Rattle.nl_listops_series.specs.Ranges.{range_of, number_list}
+use Rattle.nl_listops_series.specs.Searches.{each_once, without_item, times_in, most_times}
+use Rattle.nl_listops_series.specs.Sorts.{sortable, is_of, sorted_kind}
 use Rattle.nl_listops.specs.declared.words.ValueWord.{ValueWord}
 use Rattle.nl_listops.specs.declared.words.ValueWord.TheVariants as word
 use Rattle.nl_listops.specs.declared.words.Fixed.{Fixed}

@@ -5,8 +5,8 @@ use Rattle.nl_value.specs.Plain.{Plain}
 use Rattle.nl_value.specs.Living.{Living}
 use Rattle.nl_value.specs.Limits.{within_limits}
 use Rattle.nl_value.specs.Views.{plain}
-use Rattle.nl_series.specs.declared.fail.ListFail.TheVariants.{TooLarge}
-use Rattle.nl_series.specs.Outcomes.{Outcome, and_then, outcome_map, kept_within, limited, Gives}
+use Rattle.nl_listops_series.specs.declared.fail.ListFail.TheVariants.{TooLarge}
+use Rattle.nl_listops_series.specs.Outcomes.{Outcome, and_then, outcome_map, kept_within, limited, Gives}
 use Rattle.nl_listops.specs.declared.words.ValueWord.{ValueWord}
 use Rattle.nl_listops.specs.declared.words.ValueWord.TheVariants as word
 use Rattle.nl_listops.specs.declared.words.Draw.{Draw}

@@ -8,8 +8,8 @@ use Rattle.nl_value.specs.Living.{Living, fits}
 use Rattle.nl_value.specs.declared.values.Value.{Value}
 use Rattle.nl_value.specs.Plain.{Plain, Plains, no_items, item_then, PlainNumber, PlainTruth, PlainWords, PlainItems, PlainTurtle, PlainPatch, PlainLink, PlainNobody, PlainSet, plains, items_of}
 use Rattle.nl_value.specs.Views.{plain}
-use Rattle.nl_series.specs.declared.fail.ListFail.{ListFail}
-use Rattle.nl_series.specs.Outcomes.{Outcome, and_then}
+use Rattle.nl_listops_series.specs.declared.fail.ListFail.{ListFail}
+use Rattle.nl_listops_series.specs.Outcomes.{Outcome, and_then}
 use Rattle.nl_listops.specs.Inputs.{as_number, as_list, value_at, list_at, numbers_in}
 
 -- the items of a list as a value are the list

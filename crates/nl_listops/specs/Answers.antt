@@ -12,14 +12,14 @@ use Rattle.nl_value.specs.Colors.{primary_numbers}
 use Rattle.nl_value.specs.Limits.{within_limits}
 use Rattle.nl_draw.specs.Stream.{drawn, shuffled}
 use Rattle.nl_words.specs.Row.{Code}
-use Rattle.nl_series.specs.declared.fail.ListFail.TheVariants.{WrongType, TooLarge}
-use Rattle.nl_series.specs.Outcomes.{Outcome, and_then, outcome_map, numbered, list_value, Gives}
-use Rattle.nl_series.specs.Lists.{sentence_of, put_first, put_last, counted}
-use Rattle.nl_series.specs.Places.{first_of, last_of, without_first, without_last, item_at, without_at, replaced_at, inserted_at, part_of}
-use Rattle.nl_series.specs.Ranges.{range_of, number_list}
-use Rattle.nl_series.specs.Searches.{has_item, place_of_item, without_item, each_once, modes_of, has_text, place_of_text, text_without}
-use Rattle.nl_series.specs.Sorts.{sorted_items}
-use Rattle.nl_series.specs.Texts.{first_character, last_character, character_at, text_without_first, text_without_last, text_without_at, text_replaced_at, text_inserted_at, text_part_of, text_reversed, word_of}
+use Rattle.nl_listops_series.specs.declared.fail.ListFail.TheVariants.{WrongType, TooLarge}
+use Rattle.nl_listops_series.specs.Outcomes.{Outcome, and_then, outcome_map, numbered, list_value, Gives}
+use Rattle.nl_listops_series.specs.Lists.{sentence_of, put_first, put_last, counted}
+use Rattle.nl_listops_series.specs.Places.{first_of, last_of, without_first, without_last, item_at, without_at, replaced_at, inserted_at, part_of}
+use Rattle.nl_listops_series.specs.Ranges.{range_of, number_list}
+use Rattle.nl_listops_series.specs.Searches.{has_item, place_of_item, without_item, each_once, modes_of, has_text, place_of_text, text_without}
+use Rattle.nl_listops_series.specs.Sorts.{sorted_items}
+use Rattle.nl_listops_series.specs.Texts.{first_character, last_character, character_at, text_without_first, text_without_last, text_without_at, text_replaced_at, text_inserted_at, text_part_of, text_reversed, word_of}
 use Rattle.nl_listops.specs.declared.words.ValueWord.{ValueWord}
 use Rattle.nl_listops.specs.declared.words.ValueWord.TheVariants as word
 use Rattle.nl_listops.specs.declared.words.OfNumber.{OfNumber}
@@ -50,7 +50,7 @@ use Rattle.nl_listops.specs.Arithmetic.{number_of, number_of_two, circle_ratio, 
 use Rattle.nl_listops.specs.Inputs.{value_at, number_at, truth_at, text_at, list_at, as_text, numbers_in}
 use Rattle.nl_listops.specs.Kinds.{is_kind}
 use Rattle.nl_listops.specs.Shades.{are_shades, scaled_color}
-use Rattle.nl_series.specs.Statistics.{numbers_among}
+use Rattle.nl_listops_series.specs.Statistics.{numbers_among}
 use Rattle.nl_listops.specs.Statistics.{statistic_of}
 use Rattle.nl_listops.specs.Truths.{truth_of_two, comparison_of}
 use Rattle.nl_listops.specs.Words.{value_word}

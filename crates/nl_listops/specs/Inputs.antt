@@ -3,8 +3,8 @@
 use Rattle.std.specs.Prelude.{ℕ, ℤ, Bool, Ok, Err, List, [], ◌∷◌, slice_get}
 use Rattle.nl_fixed.specs.Nouns.{Bytes}
 use Rattle.nl_value.specs.Plain.{Plain, PlainNumber, PlainTruth, PlainWords, PlainItems, items_of}
-use Rattle.nl_series.specs.declared.fail.ListFail.TheVariants.{WrongType}
-use Rattle.nl_series.specs.Outcomes.{Outcome, and_then, or_fail}
+use Rattle.nl_listops_series.specs.declared.fail.ListFail.TheVariants.{WrongType}
+use Rattle.nl_listops_series.specs.Outcomes.{Outcome, and_then, or_fail}
 
 abbrev pub value_at : List Plain → ℕ → Outcome Plain
 value_at inputs at = or_fail WrongType (slice_get inputs at)

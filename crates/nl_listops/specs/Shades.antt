@@ -4,8 +4,8 @@ use Rattle.std.specs.Prelude.{ℕ, ◌*◌, ℤ, pos, Bool, Result, Ok, if◌the
 use Rattle.std.specs.Ordering.{int_eq}
 use Rattle.nl_fixed.specs.declared.number.NumFault.{NumFault}
 use Rattle.nl_fixed.specs.Numbers.{one, and_next, sum_of, difference_of, product_of, quotient_of, floor_of}
-use Rattle.nl_series.specs.Outcomes.{Outcome, and_then, numbered}
-use Rattle.nl_series.specs.Statistics.{lesser, larger}
+use Rattle.nl_listops_series.specs.Outcomes.{Outcome, and_then, numbered}
+use Rattle.nl_listops_series.specs.Statistics.{lesser, larger}
 
 -- how many shades a color has
 abbrev pub ten : ℕ

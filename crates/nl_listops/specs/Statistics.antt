@@ -1,7 +1,7 @@
 -- Which statistic a word is.
 use Rattle.std.specs.Prelude.{ℤ, List}
-use Rattle.nl_series.specs.Outcomes.{Outcome}
-use Rattle.nl_series.specs.Statistics.{total_of, least_of, greatest_of, mean_of, median_of, variance_of, deviation_of}
+use Rattle.nl_listops_series.specs.Outcomes.{Outcome}
+use Rattle.nl_listops_series.specs.Statistics.{total_of, least_of, greatest_of, mean_of, median_of, variance_of, deviation_of}
 use Rattle.nl_listops.specs.declared.words.Statistic.{Statistic}
 use Rattle.nl_listops.specs.declared.words.Statistic.TheVariants.{Sum, Min, Max, Mean, Median, Variance, StandardDeviation}
 

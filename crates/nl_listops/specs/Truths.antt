@@ -5,8 +5,8 @@ use Rattle.nl_value.specs.Plain.{Plain}
 use Rattle.nl_value.specs.Living.{Living}
 use Rattle.nl_value.specs.Equality.{same_values}
 use Rattle.nl_value.specs.Order.{comes_before}
-use Rattle.nl_series.specs.declared.fail.ListFail.TheVariants.{WrongType}
-use Rattle.nl_series.specs.Outcomes.{Outcome, outcome_map, or_fail}
+use Rattle.nl_listops_series.specs.declared.fail.ListFail.TheVariants.{WrongType}
+use Rattle.nl_listops_series.specs.Outcomes.{Outcome, outcome_map, or_fail}
 use Rattle.nl_listops.specs.declared.words.OfTruths.{OfTruths}
 use Rattle.nl_listops.specs.declared.words.OfTruths.TheVariants.{And, Or, Xor}
 use Rattle.nl_listops.specs.declared.words.Comparison.{Comparison}

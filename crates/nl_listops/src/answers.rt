@@ -3,7 +3,7 @@ ghost use Rattle.std.specs.Prelude.{◌≡◌, map, is_some, IsTrue, IfOk, OnErr
 ghost use Rattle.std.specs.List.{list_all};
 ghost use Rattle.nl_value.specs.Living.{fits};
 ghost use Rattle.nl_value.specs.Views.{plain};
-ghost use Rattle.nl_series.specs.Outcomes.{Gives, and_then, outcome_map, limited};
+ghost use Rattle.nl_listops_series.specs.Outcomes.{Gives, and_then, outcome_map, limited};
 ghost use Rattle.nl_listops.specs.Answers.{number_word, numbers_word, not_word, truths_word, compare_word, kind_word, list_word, end_word, series_word, place_word, put_word, search_word, sublist_word, substring_word, statistic_word, shade_word, scale_word, drawn_answer, kept_answer, word_answer, applied, Answers};
 ghost use Rattle.nl_listops.specs.inner.Steps.{within_or_not};
 ghost use Rattle.nl_listops.specs.Words.{value_word};
@@ -16,9 +16,9 @@ use crate::words::{
     PutAtEnd, PutAtPlace, Search, Statistic, ValueWord, value_word,
 };
 use nl_draw::Stream;
-use nl_series::ListFail;
-use nl_series::lists::part_of;
-use nl_series::texts::text_part_of;
+use nl_listops_series::ListFail;
+use nl_listops_series::lists::part_of;
+use nl_listops_series::texts::text_part_of;
 use nl_value::{Life, Value};
 use std::alloc::Global;
 

@@ -3,15 +3,15 @@ ghost use Rattle.std.specs.Prelude.{◌≡◌, ◌≢◌, ◌≤◌, map, pos, u
 ghost use Rattle.nl_draw.specs.Stream.{shuffled};
 ghost use Rattle.nl_fixed.specs.Numbers.{limit, whole_limit};
 ghost use Rattle.nl_value.specs.Views.{plain};
-ghost use Rattle.nl_series.specs.Outcomes.{Gives, outcome_map};
+ghost use Rattle.nl_listops_series.specs.Outcomes.{Gives, outcome_map};
 ghost use Rattle.nl_listops.specs.Answers.{signed_as, whole_size, whole_below, count_below, drawn_answer};
 
 use crate::inputs::{list_at, number_at};
 use crate::words::Draw;
 use nl_draw::Stream;
 use nl_fixed::Num;
-use nl_series::ListFail;
-use nl_series::lists::copies;
+use nl_listops_series::ListFail;
+use nl_listops_series::lists::copies;
 use nl_value::{Items, Value};
 use std::alloc::Global;
 

@@ -2,11 +2,11 @@
 ghost use Rattle.std.specs.Prelude.{◌≡◌, map};
 ghost use Rattle.nl_value.specs.Views.{plain};
 ghost use Rattle.nl_value.specs.Plain.{PlainWords};
-ghost use Rattle.nl_series.specs.Outcomes.{Gives, outcome_map};
+ghost use Rattle.nl_listops_series.specs.Outcomes.{Gives, outcome_map};
 ghost use Rattle.nl_listops.specs.Inputs.{value_at, number_at, truth_at, text_at, list_at, numbers_in, as_number, as_truth, as_text, as_list};
 
 use nl_fixed::{Num, Str};
-use nl_series::ListFail;
+use nl_listops_series::ListFail;
 use nl_value::{Items, Value};
 use std::alloc::Global;
 

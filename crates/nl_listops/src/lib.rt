@@ -14,5 +14,5 @@ mod truths;
 pub mod words;
 
 pub use answers::apply;
-pub use nl_series::ListFail;
+pub use nl_listops_series::ListFail;
 pub use words::{ValueWord, value_word};

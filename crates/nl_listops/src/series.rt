@@ -3,16 +3,16 @@ ghost use Rattle.std.specs.Prelude.{◌≡◌, IsTrue, IfOk};
 ghost use Rattle.std.specs.List.{list_all};
 ghost use Rattle.nl_value.specs.Living.{fits};
 ghost use Rattle.nl_value.specs.Views.{plain};
-ghost use Rattle.nl_series.specs.Outcomes.{Gives, outcome_map};
+ghost use Rattle.nl_listops_series.specs.Outcomes.{Gives, outcome_map};
 ghost use Rattle.nl_listops.specs.Answers.{place_answer, list_answer, of_items, of_text, of_series, at_place_of_items, at_place_of_text, at_place, put_in_items, put_in_text, put_at_place, sought_in_items, sought_in_text, not_in_text, value_in_text, sought_in};
 
 use crate::inputs::as_text;
 use crate::words::{AtPlace, OfSeries, PutAtPlace, Search};
 use nl_fixed::{NoMemory, Num, Str};
-use nl_series::occurrences::{place_of_text, text_without};
-use nl_series::searches::{place_of_item, without_item};
-use nl_series::statistics::counted;
-use nl_series::{ListFail, lists, texts};
+use nl_listops_series::occurrences::{place_of_text, text_without};
+use nl_listops_series::searches::{place_of_item, without_item};
+use nl_listops_series::statistics::counted;
+use nl_listops_series::{ListFail, lists, texts};
 use nl_value::{Items, Life, Value};
 use std::alloc::Global;
 

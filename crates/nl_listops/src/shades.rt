@@ -3,7 +3,7 @@ ghost use Rattle.std.specs.Prelude.{◌≡◌, pos};
 ghost use Rattle.nl_listops.specs.Shades.{ten, lightest, range_of_shades, are_shades, darkest, held, part_way, shade_at, scaled_from, scaled_color};
 
 use nl_fixed::{Num, NumFault};
-use nl_series::ListFail;
+use nl_listops_series::ListFail;
 
 /// Ten, as a number.
 fn ten() -> Num

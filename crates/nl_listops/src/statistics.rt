@@ -1,11 +1,11 @@
 //! Which statistic a word is.
-ghost use Rattle.nl_series.specs.Outcomes.{Gives};
-ghost use Rattle.nl_series.specs.Statistics.{numbers_among};
+ghost use Rattle.nl_listops_series.specs.Outcomes.{Gives};
+ghost use Rattle.nl_listops_series.specs.Statistics.{numbers_among};
 ghost use Rattle.nl_listops.specs.Statistics.{statistic_of};
 
 use crate::words::Statistic;
 use nl_fixed::Num;
-use nl_series::{ListFail, statistics};
+use nl_listops_series::{ListFail, statistics};
 use nl_value::Items;
 use std::alloc::Global;
 

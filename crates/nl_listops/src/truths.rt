@@ -2,11 +2,11 @@
 ghost use Rattle.std.specs.Prelude.{◌≡◌, IsTrue};
 ghost use Rattle.nl_value.specs.Living.{fits};
 ghost use Rattle.nl_value.specs.Views.{plain};
-ghost use Rattle.nl_series.specs.Outcomes.{Gives};
+ghost use Rattle.nl_listops_series.specs.Outcomes.{Gives};
 ghost use Rattle.nl_listops.specs.Truths.{truth_of_two, ordered, comparison_of};
 
 use crate::words::{Comparison, OfTruths};
-use nl_series::ListFail;
+use nl_listops_series::ListFail;
 use nl_value::equality::same;
 use nl_value::order::before;
 use nl_value::{Life, Value};

@@ -4,7 +4,7 @@ use Rattle.std.specs.Prelude.{int_le}
 use Rattle.std.proofs.lemmas.Int.{ints}
 use Rattle.nl_grid.proofs.TallyLemmas.{and_first, and_second}
 use Rattle.nl_fixed.specs.Numbers.{one}
-use Rattle.nl_layout.specs.Nouns.{Slot}
+use Rattle.nl_agents_layout.specs.Nouns.{Slot}
 use Rattle.nl_agents.specs.World.{World}
 use Rattle.nl_motion.specs.Diffusion.{is_part, are_numbers, are_in_range, field_of, diffused_field, diffuse_fault}
 use Rattle.nl_motion.specs.declared.faults.MoveFault.{MoveFault}

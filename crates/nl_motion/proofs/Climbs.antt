@@ -3,7 +3,7 @@ use Rattle.std.proofs.Common.{◌≡◌, ℕ, ℤ, Bool, true, false, if◌then�
 use Rattle.std.specs.Prelude.{is_some}
 use Rattle.nl_grid.specs.Geometry.{center_of, heading_between}
 use Rattle.nl_value.specs.Plain.{PlainNumber}
-use Rattle.nl_layout.specs.BuiltIn.{heading_slot}
+use Rattle.nl_agents_layout.specs.BuiltIn.{heading_slot}
 use Rattle.nl_agents.specs.World.{World}
 use Rattle.nl_agents.specs.Changes.{value_of, revalued}
 use Rattle.nl_agents.specs.declared.agents.Owner.TheVariants as owner

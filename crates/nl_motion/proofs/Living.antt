@@ -3,7 +3,7 @@ use Rattle.std.proofs.Common.{◌≡◌, ℕ, ◌==◌, Bool, true, false, if◌
 use Rattle.std.specs.Prelude.{is_some, Result, Ok, Err, OnOk, OnErr, Option}
 use Rattle.nl_grid.specs.declared.point.Point.{Point}
 use Rattle.nl_value.specs.Plain.{Plain}
-use Rattle.nl_layout.specs.Nouns.{Slot}
+use Rattle.nl_agents_layout.specs.Nouns.{Slot}
 use Rattle.nl_agents.specs.World.{Rest, World}
 use Rattle.nl_agents.specs.Changes.{is_turtle, turtle_of, turtle_changed, TurtleLives, moved, revalued, value_set}
 use Rattle.nl_agents.specs.declared.agents.Turtle.{Turtle}

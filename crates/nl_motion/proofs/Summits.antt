@@ -13,8 +13,8 @@ use Rattle.nl_grid.specs.declared.point.Point.{Point}
 use Rattle.nl_grid.proofs.RangeLemmas.{by_test, in_kept}
 use Rattle.nl_draw.specs.Stream.{chosen}
 use Rattle.nl_draw.proofs.Shuffles.{chosen-member}
-use Rattle.nl_layout.specs.Nouns.{Slot}
-use Rattle.nl_layout.specs.BuiltIn.{heading_slot}
+use Rattle.nl_agents_layout.specs.Nouns.{Slot}
+use Rattle.nl_agents_layout.specs.BuiltIn.{heading_slot}
 use Rattle.nl_agents.specs.World.{World}
 use Rattle.nl_agents.specs.Changes.{is_turtle, turtle_of, TurtleLives, moved, revalued, value_of}
 use Rattle.nl_agents.specs.declared.agents.Turtle.{Turtle}

@@ -7,8 +7,8 @@ use Rattle.nl_value.specs.Plain.{PlainNumber}
 use Rattle.nl_grid.specs.Nouns.{Patches}
 use Rattle.nl_grid.specs.Geometry.{Plane, patch_at, center_of, heading_between, neighbors_of, neighbors4_of}
 use Rattle.nl_draw.specs.Stream.{chosen}
-use Rattle.nl_layout.specs.Nouns.{Slot}
-use Rattle.nl_layout.specs.BuiltIn.{heading_slot}
+use Rattle.nl_agents_layout.specs.Nouns.{Slot}
+use Rattle.nl_agents_layout.specs.BuiltIn.{heading_slot}
 use Rattle.nl_agents.specs.World.{Rest, World}
 use Rattle.nl_agents.specs.Changes.{turtle_of, value_of, moved, revalued}
 use Rattle.nl_agents.specs.declared.agents.Turtle.{Turtle}

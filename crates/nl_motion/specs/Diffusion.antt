@@ -5,7 +5,7 @@ use Rattle.std.specs.List.{list_all}
 use Rattle.nl_fixed.specs.Numbers.{one, floor_quotient, in_range}
 use Rattle.nl_value.specs.Plain.{PlainNumber}
 use Rattle.nl_grid.specs.Geometry.{Plane, all_patches}
-use Rattle.nl_layout.specs.Nouns.{Slot, Slots}
+use Rattle.nl_agents_layout.specs.Nouns.{Slot, Slots}
 use Rattle.nl_agents.specs.Nouns.{Vars}
 use Rattle.nl_agents.specs.World.{World}
 use Rattle.nl_agents.specs.Changes.{on_rest, value_set}

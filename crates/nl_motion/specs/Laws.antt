@@ -3,7 +3,7 @@ use Rattle.std.specs.Prelude.{◌≡◌, ℕ, ℤ, pos, ◌+ℤ◌, ◌*ℤ◌, 
 use Rattle.nl_grid.specs.Geometry.{Plane, IsWithinLimits, length_of, patches_of, center_of, point_ahead}
 use Rattle.nl_grid.specs.declared.axis.Axis.{Axis}
 use Rattle.nl_grid.specs.declared.point.Point.{Point}
-use Rattle.nl_layout.specs.Nouns.{Slot}
+use Rattle.nl_agents_layout.specs.Nouns.{Slot}
 use Rattle.nl_agents.specs.World.{World}
 use Rattle.nl_agents.specs.Changes.{TurtleLives, turtle_of}
 use Rattle.nl_motion.specs.Climbing.{ring_of, patch_number, surpasses, choice_around, climb_end, home_of, centered, climbed, state_climbed}

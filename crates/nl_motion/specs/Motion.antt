@@ -5,7 +5,7 @@ use Rattle.nl_fixed.specs.declared.number.NumFault.{NumFault}
 use Rattle.nl_value.specs.Plain.{Plain, PlainNumber, PlainTruth, PlainWords, PlainItems, PlainTurtle, PlainPatch, PlainLink, PlainNobody, PlainSet}
 use Rattle.nl_grid.specs.Geometry.{point_ahead, wrapped_point}
 use Rattle.nl_grid.specs.declared.point.Point.{Point}
-use Rattle.nl_layout.specs.BuiltIn.{heading_slot}
+use Rattle.nl_agents_layout.specs.BuiltIn.{heading_slot}
 use Rattle.nl_agents.specs.World.{Rest, World}
 use Rattle.nl_agents.specs.Changes.{turtle_of, value_in, moved}
 use Rattle.nl_agents.specs.declared.agents.Turtle.{Turtle}

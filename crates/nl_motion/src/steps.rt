@@ -2,7 +2,7 @@
 ghost use Rattle.std.specs.Prelude.{◌≡◌};
 ghost use Rattle.nl_grid.specs.Geometry.{wrapped_point};
 ghost use Rattle.nl_agents.specs.Changes.{TurtleLives, turtle_of, value_of};
-ghost use Rattle.nl_layout.specs.BuiltIn.{heading_slot};
+ghost use Rattle.nl_agents_layout.specs.BuiltIn.{heading_slot};
 ghost use Rattle.nl_motion.specs.Motion.{or_zero, number_in, step_end, step_answer, stepped, place_answer, placed};
 
 use crate::faults::MoveFault;

@@ -11,18 +11,18 @@ use Rattle.nl_tree.specs.Tokens.{Tok, end, mark, marked, span_of}
 use Rattle.nl_tree.specs.Tokens as plain
 use Rattle.nl_tree.specs.Grammar.{span_of_first}
 use Rattle.nl_tree.specs.BodyFault.{IsGood, IsTextFault, ends_at, deepest}
-use Rattle.nl_text.specs.Texts.{plain_token, plain_tokens}
-use Rattle.nl_grammar.specs.Machine.{State, st, Frame, Over, Step, go, stop, feed, run_from, run, start}
-use Rattle.nl_grammar.specs.Depth.{least_depth}
-use Rattle.nl_grammar.specs.Fault.{reading_to}
-use Rattle.nl_grammar.specs.Completion.{HasWords}
+use Rattle.nl_parse_grammar.specs.Texts.{plain_token, plain_tokens}
+use Rattle.nl_parse_grammar.specs.Machine.{State, st, Frame, Over, Step, go, stop, feed, run_from, run, start}
+use Rattle.nl_parse_grammar.specs.Depth.{least_depth}
+use Rattle.nl_parse_grammar.specs.Fault.{reading_to}
+use Rattle.nl_parse_grammar.specs.Completion.{HasWords}
 use Rattle.nl_parse.specs.Outcome.{Refuses}
 use Rattle.nl_parse.specs.inner.Stops.{first_span, Stops, StopsAt, StopsIn}
 use Rattle.nl_tree.specs.declared.faults.BodyKind.{BodyKind}
 use Rattle.nl_parse.specs.declared.body.BodyRefusal.{BodyRefusal}
-use Rattle.nl_grammar.proofs.Taken.{taken_text}
-use Rattle.nl_grammar.proofs.Good.{run_append}
-use Rattle.nl_grammar.proofs.FaultKinds.{faults_are_told}
+use Rattle.nl_parse_grammar.proofs.Taken.{taken_text}
+use Rattle.nl_parse_grammar.proofs.Good.{run_append}
+use Rattle.nl_parse_grammar.proofs.FaultKinds.{faults_are_told}
 
 -- the tokens of a text with what the rows of their words make of them
 abbrev pub toks_of : List Term → List ℕ → List Token → List Tok
@@ -62,7 +62,7 @@ toks_length table text (t ∷ ts) = ap suc (toks_length table text ts)
 span_marked : (table : List Term) (text : List ℕ) (t : Token) → span_of (tok_of table text t) ≡ t.span
 span_marked table text t = at t.lexeme
   where
-    at : (l : _) → span_of (plain.marked_as table t.span (Rattle.nl_text.specs.Texts.lexeme_as text t l)) ≡ t.span
+    at : (l : _) → span_of (plain.marked_as table t.span (Rattle.nl_parse_grammar.specs.Texts.lexeme_as text t l)) ≡ t.span
     at scanned.Word = refl
     at (scanned.Number n) = refl
     at scanned.Text = refl

@@ -3,18 +3,18 @@ use Rattle.std.proofs.Common.{◌≡◌, ℕ, suc, true, false, List, [], ◌∷
 use Rattle.nl_fixed.specs.declared.span.Span.{Span}
 use Rattle.nl_tree.specs.Tree.{Node, Nodes, node, none, more}
 use Rattle.nl_tree.specs.declared.tree.Label.TheVariants as label
-use Rattle.nl_reading.specs.inner.Limit.{is_one}
+use Rattle.nl_parse_reading.specs.inner.Limit.{is_one}
 use Rattle.nl_tree.specs.Tokens.{Tok, Constant, number, text, word, open_bracket, close_bracket, open_paren}
 use Rattle.nl_tree.specs.declared.needs.Need.{Need}
-use Rattle.nl_grammar.specs.declared.pending.Shape.{Shape}
-use Rattle.nl_grammar.specs.declared.pending.Shape.TheVariants.{Literal}
-use Rattle.nl_grammar.specs.declared.pending.Last.TheVariants as lasts
-use Rattle.nl_grammar.specs.Machine.{Have, closed, end_list, Frame, InNear, InCall, InItems, InLet, InMany, InOf, InList, InBracket, Begin, Listing, st, go, stop, next, begin_call, begin_many, begin_bracket, feed_of, InStatements, InStatementParen, begins_statement, feed_statement, feed_stating, feed_optional, feed_items, Stating, accept, Shut, got, settle}
+use Rattle.nl_parse_grammar.specs.declared.pending.Shape.{Shape}
+use Rattle.nl_parse_grammar.specs.declared.pending.Shape.TheVariants.{Literal}
+use Rattle.nl_parse_grammar.specs.declared.pending.Last.TheVariants as lasts
+use Rattle.nl_parse_grammar.specs.Machine.{Have, closed, end_list, Frame, InNear, InCall, InItems, InLet, InMany, InOf, InList, InBracket, Begin, Listing, st, go, stop, next, begin_call, begin_many, begin_bracket, feed_of, InStatements, InStatementParen, begins_statement, feed_statement, feed_stating, feed_optional, feed_items, Stating, accept, Shut, got, settle}
 use Rattle.nl_parse.specs.inner.Asked.{more_sides, is_at_side, is_in_list, is_in_call, is_waiting, may_follow_item, feed_missing, is_stating, ends_newest}
 use Rattle.nl_tree.specs.declared.needs.Ending.TheVariants.{AtBracket}
-use Rattle.nl_reading.specs.inner.View.{mark_of}
-use Rattle.nl_reading.specs.declared.marks.Mark.{Mark}
-use Rattle.nl_reading.specs.declared.marks.Mark.TheVariants as marks
+use Rattle.nl_parse_reading.specs.inner.View.{mark_of}
+use Rattle.nl_parse_reading.specs.declared.marks.Mark.{Mark}
+use Rattle.nl_parse_reading.specs.declared.marks.Mark.TheVariants as marks
 
 pub no_call : (w : List ℕ) (s : Span) (is : List Need) (e : List (List ℕ)) (K : List Frame) → more_sides K ≡ true → begin_call w s is e K ≡ stop
 no_call w s is e (InNear v r ts (suc n) ∷ K) h = refl

@@ -3,13 +3,13 @@ ghost use Rattle.std.specs.Prelude.{◌≡◌, ◌∷◌, ℕ, List, OnOk};
 ghost use Rattle.nl_fixed.specs.Nouns.{Names};
 ghost use Rattle.std.specs.Result.{IsErrOf};
 ghost use Rattle.nl_tree.specs.Vocabulary.{among};
-ghost use Rattle.nl_grammar.specs.Machine.{go, stop, feed_begin, feed_local, begin_call, begin_many, begin_minus, begin_bracket, end_bracket, end_many, closed, InMany};
-ghost use Rattle.nl_grammar.specs.Machine as M;
+ghost use Rattle.nl_parse_grammar.specs.Machine.{go, stop, feed_begin, feed_local, begin_call, begin_many, begin_minus, begin_bracket, end_bracket, end_many, closed, InMany};
+ghost use Rattle.nl_parse_grammar.specs.Machine as M;
 ghost use Rattle.nl_parse.specs.declared.reader.Refusal.TheVariants.{Unexpected};
-ghost use Rattle.nl_reading.specs.inner.View.{class_of, mark_of, needs_of};
+ghost use Rattle.nl_parse_reading.specs.inner.View.{class_of, mark_of, needs_of};
 ghost use Rattle.nl_parse.specs.inner.State.{stack_of, names_of, state_of};
 ghost use Rattle.nl_parse.specs.inner.Steps.{Follows, Reaches};
-ghost use Rattle.nl_reading.specs.inner.Reading.{frame_of};
+ghost use Rattle.nl_parse_reading.specs.inner.Reading.{frame_of};
 ghost use Rattle.nl_parse.specs.inner.Asked.{more_sides};
 ghost use Rattle.nl_tree.specs.Tokens.{word};
 ghost use Rattle.nl_tree.specs.Grammar.{leaf};
@@ -17,10 +17,10 @@ ghost use Rattle.nl_tree.specs.declared.tree.Label.TheVariants as label;
 
 use crate::reader::{Reader, Refusal, let_go, refuse};
 use nl_fixed::Span;
-use nl_grammar::{Last, Shape};
-use nl_reading::frames::{Frame, Mode};
-use nl_reading::marks::{Class, Head, Inputs, Mark};
-use nl_reading::parts::{Grouped, Grown};
+use nl_parse_grammar::{Last, Shape};
+use nl_parse_reading::frames::{Frame, Mode};
+use nl_parse_reading::marks::{Class, Head, Inputs, Mark};
+use nl_parse_reading::parts::{Grouped, Grown};
 use nl_tree::Label;
 
 impl<'a> Reader<'a> {

@@ -4,25 +4,25 @@ ghost use Rattle.nl_fixed.specs.Nouns.{Names};
 ghost use Rattle.nl_tree.specs.Grammar.{leaf, and_last, one};
 ghost use Rattle.nl_tree.specs.Tokens.{Tok, close_paren, word};
 ghost use Rattle.std.specs.Result.{IsErrOf};
-ghost use Rattle.nl_grammar.specs.Machine.{go, stop, feed_blocked, feed_items, feed_listing, feed_bracket, feed_paren, feed_minus, feed_reporter, feed_whole, feed_shut, feed_ended, st, Listing, InList};
+ghost use Rattle.nl_parse_grammar.specs.Machine.{go, stop, feed_blocked, feed_items, feed_listing, feed_bracket, feed_paren, feed_minus, feed_reporter, feed_whole, feed_shut, feed_ended, st, Listing, InList};
 ghost use Rattle.nl_parse.specs.declared.reader.Refusal.TheVariants.{Unexpected};
 ghost use Rattle.nl_parse.specs.inner.Asked.{feed_more, may_follow_item};
 ghost use Rattle.nl_parse.specs.inner.Around.{shut_in};
 ghost use Rattle.nl_parse.specs.declared.closing.Around.TheVariants as Around;
-ghost use Rattle.nl_grammar.specs.Machine as M;
-ghost use Rattle.nl_grammar.specs.declared.pending.Shape.{Shape};
+ghost use Rattle.nl_parse_grammar.specs.Machine as M;
+ghost use Rattle.nl_parse_grammar.specs.declared.pending.Shape.{Shape};
 ghost use Rattle.nl_tree.specs.Tree.{Node};
-ghost use Rattle.nl_reading.specs.inner.View.{class_of, mark_of};
-ghost use Rattle.nl_reading.specs.inner.Reading.{frame_of, names_with, maybe_over};
+ghost use Rattle.nl_parse_reading.specs.inner.View.{class_of, mark_of};
+ghost use Rattle.nl_parse_reading.specs.inner.Reading.{frame_of, names_with, maybe_over};
 ghost use Rattle.nl_parse.specs.inner.State.{stack_of, names_of, state_of, HasRoom};
 ghost use Rattle.nl_parse.specs.inner.Steps.{Follows, Reaches};
 
 use crate::reader::{Reader, Refusal, let_go, refuse};
 use nl_fixed::{Span, Str};
-use nl_grammar::Shape;
-use nl_reading::frames::{Frame, Mode};
-use nl_reading::marks::{Class, Head, Mark};
-use nl_reading::parts::{Grouped, Grown};
+use nl_parse_grammar::Shape;
+use nl_parse_reading::frames::{Frame, Mode};
+use nl_parse_reading::marks::{Class, Head, Mark};
+use nl_parse_reading::parts::{Grouped, Grown};
 use nl_tree::Label;
 
 /// What stands around an expression that is over.

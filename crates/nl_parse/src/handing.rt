@@ -4,28 +4,28 @@ ghost use Rattle.nl_fixed.specs.Nouns.{Names};
 ghost use Rattle.nl_tree.specs.Tree.{node};
 ghost use Rattle.nl_tree.specs.Grammar.{and_last, leaf, two};
 ghost use Rattle.nl_tree.specs.declared.tree.Label.TheVariants as label;
-ghost use Rattle.nl_grammar.specs.Machine as M;
-ghost use Rattle.nl_grammar.specs.declared.pending.Shape.{Shape};
-ghost use Rattle.nl_grammar.specs.Machine.{end_statement, next, closed, supply, accept, end_list, settle, got, InMany, InNear};
+ghost use Rattle.nl_parse_grammar.specs.Machine as M;
+ghost use Rattle.nl_parse_grammar.specs.declared.pending.Shape.{Shape};
+ghost use Rattle.nl_parse_grammar.specs.Machine.{end_statement, next, closed, supply, accept, end_list, settle, got, InMany, InNear};
 ghost use Rattle.std.specs.Result.{IsErrOf};
 ghost use Rattle.nl_parse.specs.declared.reader.Refusal.TheVariants.{Unexpected};
-ghost use Rattle.nl_reading.specs.inner.View.{needs_of};
-ghost use Rattle.nl_reading.specs.inner.Reading.{frame_of, maybe_over};
+ghost use Rattle.nl_parse_reading.specs.inner.View.{needs_of};
+ghost use Rattle.nl_parse_reading.specs.inner.Reading.{frame_of, maybe_over};
 ghost use Rattle.nl_parse.specs.inner.State.{stack_of, names_of, state_of};
 ghost use Rattle.nl_parse.specs.inner.Asked.{ends_newest, is_waiting};
 ghost use Rattle.nl_parse.specs.inner.Steps.{Reaches};
 
 use crate::reader::{Reader, Refusal};
 use nl_fixed::Str;
-use nl_grammar::{Last, Shape};
-use nl_reading::frames::{Frame, Mode, begin_mode, build, closes};
-use nl_reading::marks::{Head, Inputs};
-use nl_reading::parts::{Grouped, Grown};
+use nl_parse_grammar::{Last, Shape};
+use nl_parse_reading::frames::{Frame, Mode, begin_mode, build, closes};
+use nl_parse_reading::marks::{Head, Inputs};
+use nl_parse_reading::parts::{Grouped, Grown};
 use nl_tree::Label;
 
 impl<'a> Reader<'a> {
     /// Ends a statement that makes this name.
-    #[tactic(auto, using(nl_reading::proofs::Framed::made_push))]
+    #[tactic(auto, using(nl_parse_reading::proofs::Framed::made_push))]
     pub fn end_statement(&mut self, tree: Grown, made: Option<Str>) -> Result<(), Refusal>
         ensures { Reaches result self.old self.new
             (λ e K. end_statement tree (maybe_over made e) K) }
@@ -105,7 +105,7 @@ impl<'a> Reader<'a> {
     }
 
     // A right side of an operator that has so many more.
-    #[tactic(auto, using(nl_reading::proofs::Needs::one_less))]
+    #[tactic(auto, using(nl_parse_reading::proofs::Needs::one_less))]
     fn another_side(
         &mut self,
         head: Head,
@@ -213,7 +213,7 @@ impl<'a> Reader<'a> {
     }
 
     // An item of a call that has so many more as a rule.
-    #[tactic(auto, using(nl_reading::proofs::Needs::one_less))]
+    #[tactic(auto, using(nl_parse_reading::proofs::Needs::one_less))]
     fn another_item(
         &mut self,
         head: Head,
@@ -246,7 +246,7 @@ impl<'a> Reader<'a> {
     }
 
     /// Ends all that an operator of this level ends.
-    #[tactic(auto, using(nl_reading::proofs::Framed::closed_makes_none, crate::proofs::Stacked::nothing_ends))]
+    #[tactic(auto, using(nl_parse_reading::proofs::Framed::closed_makes_none, crate::proofs::Stacked::nothing_ends))]
     pub fn settle(
         &mut self,
         level: u8,

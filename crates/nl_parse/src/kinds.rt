@@ -4,17 +4,17 @@ ghost use Rattle.nl_fixed.specs.Nouns.{Names};
 ghost use Rattle.nl_tree.specs.Vocabulary.{among};
 ghost use Rattle.nl_tree.specs.Tree.{Node};
 ghost use Rattle.nl_tree.specs.Grammar.{top};
-ghost use Rattle.nl_grammar.specs.Machine as M;
-ghost use Rattle.nl_grammar.specs.Machine.{got, settle};
-ghost use Rattle.nl_grammar.specs.Fault.{known, known_got, kind_at};
-ghost use Rattle.nl_reading.specs.inner.View.{mark_of};
-ghost use Rattle.nl_reading.specs.inner.Reading.{frame_of, frames_onto, maybe_over, mode_names, names_within};
+ghost use Rattle.nl_parse_grammar.specs.Machine as M;
+ghost use Rattle.nl_parse_grammar.specs.Machine.{got, settle};
+ghost use Rattle.nl_parse_grammar.specs.Fault.{known, known_got, kind_at};
+ghost use Rattle.nl_parse_reading.specs.inner.View.{mark_of};
+ghost use Rattle.nl_parse_reading.specs.inner.Reading.{frame_of, frames_onto, maybe_over, mode_names, names_within};
 ghost use Rattle.nl_parse.specs.inner.State.{state_of};
 
 use crate::reader::Reader;
-use nl_reading::frames::Mode;
-use nl_reading::known::{makes_next, mode_makes};
-use nl_reading::marks::{Class, Mark};
+use nl_parse_reading::frames::Mode;
+use nl_parse_reading::known::{makes_next, mode_makes};
+use nl_parse_reading::marks::{Class, Mark};
 use nl_tree::BodyKind;
 
 impl<'a> Reader<'a> {

@@ -3,18 +3,18 @@ ghost use Rattle.std.specs.Prelude.{◌≡◌, ◌∷◌, [], ◌+◌, length, I
 ghost use Rattle.std.specs.Result.{IsErrOf};
 ghost use Rattle.nl_parse.specs.declared.reader.Refusal.TheVariants as Refusal;
 ghost use Rattle.nl_tree.specs.Vocabulary.{among};
-ghost use Rattle.nl_grammar.specs.Machine.{st};
-ghost use Rattle.nl_grammar.specs.Depth.{least_depth};
-ghost use Rattle.nl_reading.specs.inner.Limit.{capped};
-ghost use Rattle.nl_reading.specs.inner.Reading.{frame_of, mode_of, mode_names, names_with};
+ghost use Rattle.nl_parse_grammar.specs.Machine.{st};
+ghost use Rattle.nl_parse_grammar.specs.Depth.{least_depth};
+ghost use Rattle.nl_parse_reading.specs.inner.Limit.{capped};
+ghost use Rattle.nl_parse_reading.specs.inner.Reading.{frame_of, mode_of, mode_names, names_with};
 ghost use Rattle.nl_parse.specs.inner.State.{stack_of, names_of, state_of, outer_stack_of, outer_names_of, HasRoom};
 ghost use Rattle.nl_parse.specs.inner.Steps.{Reaches};
 ghost use Rattle.nl_parse.specs.inner.Asked.{is_at_side, is_in_list};
 
 use nl_fixed::NoMemory;
-use nl_reading::depths::least_depth;
-use nl_reading::frames::{Frame, Mode, make_name};
-use nl_reading::known_names::KnownNames;
+use nl_parse_reading::depths::least_depth;
+use nl_parse_reading::frames::{Frame, Mode, make_name};
+use nl_parse_reading::known_names::KnownNames;
 use std::alloc::Global;
 use std::mem;
 
@@ -63,7 +63,7 @@ pub struct Reader<'a> {
 
 impl<'a> Reader<'a> {
     /// Puts a frame on the stack.
-    #[tactic(auto, using(nl_reading::proofs::Framed::frames_push, nl_reading::proofs::Framed::names_push))]
+    #[tactic(auto, using(nl_parse_reading::proofs::Framed::frames_push, nl_parse_reading::proofs::Framed::names_push))]
     pub fn put(&mut self, frame: Frame) -> Result<(), Refusal>
         ensures stack { OnOk result
             (stack_of self.new ≡ frame_of (names_of self.old) frame ∷ stack_of self.old) }
@@ -99,7 +99,7 @@ impl<'a> Reader<'a> {
     }
 
     /// Takes the newest frame.
-    #[tactic(auto, using(nl_reading::proofs::Framed::frames_push, nl_reading::proofs::Framed::names_push))]
+    #[tactic(auto, using(nl_parse_reading::proofs::Framed::frames_push, nl_parse_reading::proofs::Framed::names_push))]
     pub fn take(&mut self) -> Option<Frame>
         ensures stack { IfSome result (λ frame.
             stack_of self.old ≡ frame_of (names_of self.new) frame ∷ stack_of self.new) }
@@ -114,7 +114,7 @@ impl<'a> Reader<'a> {
     }
 
     /// Puts a frame where one was taken, which takes no memory.
-    #[tactic(auto, using(nl_reading::proofs::Framed::frames_push, nl_reading::proofs::Framed::names_push))]
+    #[tactic(auto, using(nl_parse_reading::proofs::Framed::frames_push, nl_parse_reading::proofs::Framed::names_push))]
     pub fn put_back(&mut self, frame: Frame)
         requires room { HasRoom self.old }
         ensures stack { stack_of self.new ≡ frame_of (names_of self.old) frame ∷ stack_of self.old }

@@ -1,13 +1,13 @@
 //! Tokens of statements, of blocks and of names.
 ghost use Rattle.std.specs.Prelude.{◌≡◌, ◌∷◌, OnOk};
 ghost use Rattle.std.specs.Result.{IsErrOf};
-ghost use Rattle.nl_grammar.specs.Machine.{go, stop, supply, feed_opening, feed_choosing, feed_ending, feed_statement, feed_stating, feed_naming, st, Stating, InStatements};
+ghost use Rattle.nl_parse_grammar.specs.Machine.{go, stop, supply, feed_opening, feed_choosing, feed_ending, feed_statement, feed_stating, feed_naming, st, Stating, InStatements};
 ghost use Rattle.nl_tree.specs.Tree.{none};
 ghost use Rattle.nl_tree.specs.Grammar.{leaf};
 ghost use Rattle.nl_tree.specs.declared.needs.Ending.TheVariants.{AtBracket};
 ghost use Rattle.nl_tree.specs.declared.tree.Label.TheVariants as label;
 ghost use Rattle.nl_parse.specs.declared.reader.Refusal.TheVariants.{Unexpected};
-ghost use Rattle.nl_reading.specs.inner.View.{class_of, mark_of};
+ghost use Rattle.nl_parse_reading.specs.inner.View.{class_of, mark_of};
 ghost use Rattle.nl_tree.specs.Tokens.{word};
 ghost use Rattle.nl_parse.specs.inner.State.{stack_of, names_of, state_of};
 ghost use Rattle.nl_parse.specs.inner.Asked.{is_stating};
@@ -15,11 +15,11 @@ ghost use Rattle.nl_parse.specs.inner.Steps.{Follows, Reaches};
 
 use crate::reader::{Reader, Refusal, refuse};
 use nl_fixed::Span;
-use nl_grammar::Last;
-use nl_reading::frames::{Frame, Mode};
-use nl_reading::known_names::KnownNames;
-use nl_reading::marks::{Class, Head, Mark, begins_statement};
-use nl_reading::parts::{Grouped, Grown};
+use nl_parse_grammar::Last;
+use nl_parse_reading::frames::{Frame, Mode};
+use nl_parse_reading::known_names::KnownNames;
+use nl_parse_reading::marks::{Class, Head, Mark, begins_statement};
+use nl_parse_reading::parts::{Grouped, Grown};
 use nl_tree::{Block, Ending, Label};
 
 impl<'a> Reader<'a> {

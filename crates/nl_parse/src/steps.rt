@@ -2,21 +2,21 @@
 ghost use Rattle.std.specs.Prelude.{◌≡◌, ◌∷◌, suc, nat_lt, true, OnOk};
 ghost use Rattle.std.specs.Result.{IsErrOf};
 ghost use Rattle.nl_tree.specs.Grammar.{top};
-ghost use Rattle.nl_grammar.specs.Machine.{next, without_maybes, st, go, stop, settle, takes_operator, feed_plain, feed_optional, feed_ready, feed_broken, feed_binary, feed_of, feed_have, feed};
+ghost use Rattle.nl_parse_grammar.specs.Machine.{next, without_maybes, st, go, stop, settle, takes_operator, feed_plain, feed_optional, feed_ready, feed_broken, feed_binary, feed_of, feed_have, feed};
 ghost use Rattle.nl_parse.specs.declared.reader.Refusal.TheVariants.{Unexpected};
-ghost use Rattle.nl_reading.specs.inner.View.{class_of, mark_of, needs_of};
+ghost use Rattle.nl_parse_reading.specs.inner.View.{class_of, mark_of, needs_of};
 ghost use Rattle.nl_tree.specs.Tokens.{word, open_bracket};
-ghost use Rattle.nl_reading.specs.inner.Reading.{mode_of, mode_names};
+ghost use Rattle.nl_parse_reading.specs.inner.Reading.{mode_of, mode_names};
 ghost use Rattle.nl_parse.specs.inner.State.{stack_of, names_of, state_of};
 ghost use Rattle.nl_parse.specs.inner.Steps.{Follows, FollowsLate, sees_first};
 ghost use Rattle.nl_parse.specs.inner.Asked.{feed_missing, is_in_call};
 
 use crate::reader::{Reader, Refusal, refuse};
 use nl_fixed::Span;
-use nl_grammar::{Last, Shape};
-use nl_reading::frames::{Frame, Mode, TOP, takes_operator};
-use nl_reading::marks::{Class, Head, Inputs, Mark};
-use nl_reading::parts::{Grouped, Grown};
+use nl_parse_grammar::{Last, Shape};
+use nl_parse_reading::frames::{Frame, Mode, TOP, takes_operator};
+use nl_parse_reading::marks::{Class, Head, Inputs, Mark};
+use nl_parse_reading::parts::{Grouped, Grown};
 use nl_tree::{Block, Label};
 use std::mem;
 

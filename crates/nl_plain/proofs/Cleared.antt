@@ -3,9 +3,9 @@ use Rattle.std.specs.Prelude.{◌≡◌, ℕ, zero, suc, ◌+◌, Bool, true, fa
 use Rattle.std.proofs.Common.{arith, ap, ◌∙◌, sym, refl}
 use Rattle.std.proofs.lemmas.Option.{same_Some, none-some}
 use Rattle.nl_value.specs.Plain.{Plain}
-use Rattle.nl_layout.specs.Nouns.{Slots}
-use Rattle.nl_layout.specs.BuiltIn.{zero_value}
-use Rattle.nl_layout.specs.Layouts.{has_slot}
+use Rattle.nl_agents_layout.specs.Nouns.{Slots}
+use Rattle.nl_agents_layout.specs.BuiltIn.{zero_value}
+use Rattle.nl_agents_layout.specs.Layouts.{has_slot}
 use Rattle.nl_agents.specs.Changes.{cleared_from}
 use Rattle.nl_agents.proofs.Splices.{spliced, kept}
 

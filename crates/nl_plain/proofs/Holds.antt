@@ -8,11 +8,11 @@ use Rattle.nl_value.specs.Plain.{Plain}
 use Rattle.nl_value.specs.Views.{plain}
 use Rattle.nl_value.specs.declared.values.Value.{Value}
 use Rattle.nl_grid.specs.Geometry.{Plane}
-use Rattle.nl_layout.specs.Nouns.{Slot}
+use Rattle.nl_agents_layout.specs.Nouns.{Slot}
 use Rattle.nl_agents.specs.Nouns.{Vars}
-use Rattle.nl_layout.specs.BuiltIn.{zero_value}
-use Rattle.nl_layout.specs.declared.layout.Layout.{Layout}
-use Rattle.nl_layout.specs.Layouts.{turtle_owns}
+use Rattle.nl_agents_layout.specs.BuiltIn.{zero_value}
+use Rattle.nl_agents_layout.specs.declared.layout.Layout.{Layout}
+use Rattle.nl_agents_layout.specs.Layouts.{turtle_owns}
 use Rattle.nl_agents.specs.World.{World, first_world, first_patches}
 use Rattle.nl_agents.specs.Changes.{is_turtle, is_link, parent_of, AreTurtlesFull, AreLinksFull, value_of, global_set, revalued}
 use Rattle.nl_agents.specs.Standing.{IsWorld, IsTurtleOf, IsLinkOf, MayHold}

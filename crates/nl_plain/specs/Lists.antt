@@ -5,12 +5,12 @@ use Rattle.std.specs.List.Sorted.{IsStrictlyIncreasing}
 use Rattle.nl_value.specs.Plain.{Plain}
 use Rattle.nl_grid.specs.Geometry.{Plane}
 use Rattle.nl_grid.specs.declared.point.Point.{Point}
-use Rattle.nl_layout.specs.Nouns.{Slot, Slots, BreedNumber}
+use Rattle.nl_agents_layout.specs.Nouns.{Slot, Slots, BreedNumber}
 use Rattle.nl_agents.specs.Nouns.{Vars}
 use Rattle.nl_agents.specs.Changes.{is_turtle, is_link, value_in, value_set, changed_at, bred_vars, birth_vars}
 use Rattle.nl_agents.specs.Members.{is_unbreeded}
 use Rattle.nl_agents.specs.World.{World}
-use Rattle.nl_layout.specs.declared.layout.Layout.{Layout}
+use Rattle.nl_agents_layout.specs.declared.layout.Layout.{Layout}
 use Rattle.nl_agents.specs.declared.agents.Turtle.{Turtle}
 use Rattle.nl_agents.specs.declared.agents.Link.{Link}
 

@@ -1,6 +1,6 @@
 //! What agents and global variables hold at first.
 ghost use Rattle.std.specs.Prelude.{◌≡◌, replicate, IfSome, IfOk};
-ghost use Rattle.nl_layout.specs.BuiltIn.{zero_value};
+ghost use Rattle.nl_agents_layout.specs.BuiltIn.{zero_value};
 ghost use Rattle.nl_plain.specs.Lists.{TurtlesAscend, HasTurtle, KeepAll, birth_vars_among};
 
 use crate::finding::turtle_in;

@@ -1,6 +1,6 @@
 //! Clears of whole lists, and first values.
 ghost use Rattle.std.specs.Prelude.{◌≡◌, ◌<◌, map, length, replicate, slice_set, All, IfOk, if◌then◌else◌};
-ghost use Rattle.nl_layout.specs.BuiltIn.{zero_value};
+ghost use Rattle.nl_agents_layout.specs.BuiltIn.{zero_value};
 ghost use Rattle.nl_agents.specs.World.{first_patch_vars};
 ghost use Rattle.nl_agents.specs.Changes.{cleared_from};
 

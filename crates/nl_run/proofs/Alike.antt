@@ -11,7 +11,7 @@ use Rattle.nl_exec.specs.Machines.{first_state}
 use Rattle.nl_run.specs.Course.{Finish, Standing, after_go, after_until, behind, cell_of, cells, commands, commands_by, condition, counted, fails_at_first, go_name, go_step, is_reached, measured, measured_if, metric_name, outcome_of, put_back, regular_end, step_or_end, steps, steps_from, truth_by, unit_by, until_name, value, value_by, with_row}
 use Rattle.nl_run.specs.Job.{Job, Lone}
 use Rattle.nl_run.specs.declared.rows.RunEnd.TheVariants as end_
-use Rattle.nl_acts.specs.declared.fail.ErrorKind.TheVariants.{TooLarge}
+use Rattle.nl_exec_acts.specs.declared.fail.ErrorKind.TheVariants.{TooLarge}
 use Rattle.nl_run.proofs.Thrift.{text_thrifty}
 
 -- the same with so many units at most

@@ -5,8 +5,8 @@ use Rattle.nl_fixed.specs.Nouns.{Bytes, Texts}
 use Rattle.nl_value.specs.Limits.{most_bytes}
 use Rattle.nl_value.specs.Plain.{Plain, PlainNumber, PlainTruth, PlainWords, PlainItems, PlainTurtle, PlainPatch, PlainLink, PlainNobody, PlainSet}
 use Rattle.nl_tree.specs.declared.declared.Form.TheVariants as form
-use Rattle.nl_acts.specs.Stage.{Scene}
-use Rattle.nl_acts.specs.declared.fail.ErrorKind.TheVariants.{TooLarge}
+use Rattle.nl_exec_acts.specs.Stage.{Scene}
+use Rattle.nl_exec_acts.specs.declared.fail.ErrorKind.TheVariants.{TooLarge}
 use Rattle.nl_exec.specs.Endings.{Ending, ending_of}
 use Rattle.nl_exec.specs.Endings as ending
 use Rattle.nl_exec.specs.Machines.{first_state, in_stream, scene_in}

@@ -4,9 +4,9 @@ use Rattle.std.proofs.Math.Nat.{mul-le-mul_right}
 use Rattle.nl_tree.specs.declared.declared.Form.{Form}
 use Rattle.nl_tree.specs.declared.declared.Form.TheVariants as form
 use Rattle.nl_agents.specs.declared.store.Store.{Ghosts}
-use Rattle.nl_acts.specs.Stage.{Scene}
-use Rattle.nl_meaning.specs.State.{Outcome}
-use Rattle.nl_meaning.specs.State as meant
+use Rattle.nl_exec_acts.specs.Stage.{Scene}
+use Rattle.nl_exec_meaning.specs.State.{Outcome}
+use Rattle.nl_exec_meaning.specs.State as meant
 use Rattle.nl_exec.specs.Endings.{Ending, ending_of}
 use Rattle.nl_exec.specs.Endings as ending
 use Rattle.nl_exec.specs.Machines.{scene_in, with_more}

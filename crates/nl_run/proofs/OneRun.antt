@@ -2,7 +2,7 @@
 use Rattle.std.proofs.Common.{◌≡◌, ℕ, ap}
 use Rattle.nl_fixed.specs.Nouns.{Bytes}
 use Rattle.nl_tree.specs.Checked.{Checked}
-use Rattle.nl_fields.specs.declared.fields.Fields.{Fields}
+use Rattle.nl_experiment_fields.specs.declared.fields.Fields.{Fields}
 use Rattle.nl_run.specs.Course.{rows_of}
 use Rattle.nl_run.specs.Experiments.{job_by}
 use Rattle.nl_run.specs.Job.{Trees}

@@ -5,14 +5,14 @@ use Rattle.nl_draw.specs.Stream.{first_state as first_of_stream}
 use Rattle.nl_grid.specs.Geometry.{Plane}
 use Rattle.nl_tree.specs.Checked.{Checked}
 use Rattle.nl_tree.specs.declared.declared.Form.TheVariants as form
-use Rattle.nl_layout.specs.Layouts.{layout_of}
+use Rattle.nl_agents_layout.specs.Layouts.{layout_of}
 use Rattle.nl_agents.specs.World.{World, first_world}
-use Rattle.nl_acts.specs.Stage.{Scene, scene}
-use Rattle.nl_meaning.specs.Meaning.{text}
-use Rattle.nl_meaning.specs.State.{Outcome}
+use Rattle.nl_exec_acts.specs.Stage.{Scene, scene}
+use Rattle.nl_exec_meaning.specs.Meaning.{text}
+use Rattle.nl_exec_meaning.specs.State.{Outcome}
 use Rattle.nl_exec.specs.Endings.{ending_of}
 use Rattle.nl_exec.specs.Machines.{first_state, in_world, scene_in}
-use Rattle.nl_sweep.specs.Varied.{PlainSetting}
+use Rattle.nl_experiment_sweep.specs.Varied.{PlainSetting}
 use Rattle.nl_run.specs.Course.{Finish, after_setup, commands_by, course_within, setup_name, steps}
 use Rattle.nl_run.specs.Job.{Job, called, scene_at_first, set_all}
 use Rattle.nl_run.specs.Left.{standing}

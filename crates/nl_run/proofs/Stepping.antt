@@ -5,7 +5,7 @@ use Rattle.std.proofs.lemmas.Bool.Decides.{nat_tests}
 use Rattle.nl_fixed.specs.Nouns.{Bytes}
 use Rattle.nl_value.specs.Limits.{most_bytes}
 use Rattle.nl_value.specs.Plain.{Plain, PlainNumber, PlainTruth, PlainWords, PlainItems, PlainTurtle, PlainPatch, PlainLink, PlainNobody, PlainSet}
-use Rattle.nl_acts.specs.declared.fail.ErrorKind.TheVariants.{TooLarge}
+use Rattle.nl_exec_acts.specs.declared.fail.ErrorKind.TheVariants.{TooLarge}
 use Rattle.nl_run.specs.Course.{Finish, Standing, after_until, cell_of, condition, fails_at_first, go_step, is_reached, regular_end, steps, truth_by, until_name, value, with_cell}
 use Rattle.nl_run.specs.Job.{Job, Lone}
 use Rattle.nl_run.specs.declared.rows.RunEnd.TheVariants as end_

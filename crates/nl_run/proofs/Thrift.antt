@@ -5,12 +5,12 @@ use Rattle.nl_tree.specs.Tree.{Node, parts}
 use Rattle.nl_tree.specs.declared.declared.Form.{Form}
 use Rattle.nl_tree.specs.declared.declared.Form.TheVariants as form
 use Rattle.nl_value.specs.Plain.{Plain}
-use Rattle.nl_meaning.specs.Blocks.{leave_by}
-use Rattle.nl_meaning.specs.Laws.{Thrifty}
-use Rattle.nl_meaning.specs.Meaning.{evaluator, is_stopped, nesting_limit, text, text_by, text_end, text_statements}
-use Rattle.nl_meaning.specs.Running.{is_dead}
-use Rattle.nl_meaning.specs.State.{Eval, Exit, Outcome, State, Gives, Stopped, Reported, Left, Budget, Error, choose, spend_by}
-use Rattle.nl_meaning.proofs.Thrift.{thrifty}
+use Rattle.nl_exec_meaning.specs.Blocks.{leave_by}
+use Rattle.nl_exec_meaning.specs.Laws.{Thrifty}
+use Rattle.nl_exec_meaning.specs.Meaning.{evaluator, is_stopped, nesting_limit, text, text_by, text_end, text_statements}
+use Rattle.nl_exec_meaning.specs.Running.{is_dead}
+use Rattle.nl_exec_meaning.specs.State.{Eval, Exit, Outcome, State, Gives, Stopped, Reported, Left, Budget, Error, choose, spend_by}
+use Rattle.nl_exec_meaning.proofs.Thrift.{thrifty}
 
 Few : ℕ → (State → Outcome) → Type 0
 Few n next = (s : State) → s.units ≤ n → (next s).state.units ≤ n

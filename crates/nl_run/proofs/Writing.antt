@@ -18,25 +18,25 @@ use Rattle.nl_scan.specs.declared.token.Token.{Token}
 use Rattle.nl_value.specs.Colors.{color_named}
 use Rattle.nl_value.specs.Plain.{Plain, PlainNumber, PlainTruth, PlainWords, PlainNobody, PlainItems, plains}
 use Rattle.nl_value.proofs.Fitting.{values_fit-plains}
-use Rattle.nl_literal.specs.Literals.{closed, fit, is_fit, literal_from, literal_of, literal_of_tokens, named_value, placed, placed_if, taken, token_value, whole_literal}
-use Rattle.nl_sweep.specs.Sweep.{index_of, settings_of, combination_of}
-use Rattle.nl_sweep.specs.Sweep as sweep
-use Rattle.nl_sweep.specs.Varied.{PlainSetting, value_of}
-use Rattle.nl_sweep.specs.declared.order.Order.{Order}
-use Rattle.nl_sweep.specs.declared.varied.Choice.{Choice}
-use Rattle.nl_sweep.specs.declared.varied.Choice.TheVariants.{Listed, Stepped}
-use Rattle.nl_sweep.specs.declared.varied.Vary.{Vary}
-use Rattle.nl_keys.specs.Document.{file_holds}
-use Rattle.nl_keys.specs.Reading.{◌>>=◌, told_at, only_if, each_item, all_known, required, usual_or}
-use Rattle.nl_keys.specs.declared.faults.PlanKind.{PlanKind}
-use Rattle.nl_keys.specs.declared.faults.PlanKind.TheVariants.{BadLiteral}
-use Rattle.nl_keys.specs.declared.faults.KeyFault.{KeyFault}
-use Rattle.nl_fields.specs.Entries.{all_steps_given, choice_by, choice_in, count_of_steps, entries_from, entry_by, globals_at, in_entry, is_empty, is_right_value, listed_in, right_value, setting_in, settings_in, stepped_in, stepped_number, steps_given, table_at, tables_in, values_in, varied_name, vary_at, world_at}
-use Rattle.nl_fields.specs.File.{fields_in, file_says, head_in, measures_in, scripts_in}
-use Rattle.nl_fields.specs.Keys.{entry_keys, from_key, globals_key, in_globals, known_keys, name_key, step_key, to_key, values_key, vary_key}
-use Rattle.nl_fields.specs.Names.{can_be_widget, lowered}
-use Rattle.nl_fields.specs.Reading.{kind_of_literal, literal_in, literal_or_bad}
-use Rattle.nl_fields.specs.declared.fields.Fields.{Fields}
+use Rattle.nl_experiment_keys.specs.Literals.{closed, fit, is_fit, literal_from, literal_of, literal_of_tokens, named_value, placed, placed_if, taken, token_value, whole_literal}
+use Rattle.nl_experiment_sweep.specs.Sweep.{index_of, settings_of, combination_of}
+use Rattle.nl_experiment_sweep.specs.Sweep as sweep
+use Rattle.nl_experiment_sweep.specs.Varied.{PlainSetting, value_of}
+use Rattle.nl_experiment_sweep.specs.declared.order.Order.{Order}
+use Rattle.nl_experiment_sweep.specs.declared.varied.Choice.{Choice}
+use Rattle.nl_experiment_sweep.specs.declared.varied.Choice.TheVariants.{Listed, Stepped}
+use Rattle.nl_experiment_sweep.specs.declared.varied.Vary.{Vary}
+use Rattle.nl_experiment_keys.specs.Document.{file_holds}
+use Rattle.nl_experiment_keys.specs.Reading.{◌>>=◌, told_at, only_if, each_item, all_known, required, usual_or}
+use Rattle.nl_experiment_keys.specs.declared.faults.PlanKind.{PlanKind}
+use Rattle.nl_experiment_keys.specs.declared.faults.PlanKind.TheVariants.{BadLiteral}
+use Rattle.nl_experiment_keys.specs.declared.faults.KeyFault.{KeyFault}
+use Rattle.nl_experiment_fields.specs.Entries.{all_steps_given, choice_by, choice_in, count_of_steps, entries_from, entry_by, globals_at, in_entry, is_empty, is_right_value, listed_in, right_value, setting_in, settings_in, stepped_in, stepped_number, steps_given, table_at, tables_in, values_in, varied_name, vary_at, world_at}
+use Rattle.nl_experiment_fields.specs.File.{fields_in, file_says, head_in, measures_in, scripts_in}
+use Rattle.nl_experiment_fields.specs.Keys.{entry_keys, from_key, globals_key, in_globals, known_keys, name_key, step_key, to_key, values_key, vary_key}
+use Rattle.nl_experiment_fields.specs.Names.{can_be_widget, lowered}
+use Rattle.nl_experiment_fields.specs.Reading.{kind_of_literal, literal_in, literal_or_bad}
+use Rattle.nl_experiment_fields.specs.declared.fields.Fields.{Fields}
 use Rattle.nl_run.specs.Experiments.{AreWritten}
 use Rattle.nl_run.specs.Written.{all_written, is_written, is_written_choice}
 

@@ -15,11 +15,11 @@ use Rattle.nl_value.specs.Text.{text_of}
 use Rattle.nl_tree.specs.declared.declared.Form.{Form}
 use Rattle.nl_tree.specs.declared.declared.Form.TheVariants as form
 use Rattle.nl_agents.specs.Names.{living_of}
-use Rattle.nl_acts.specs.Stage.{Scene}
-use Rattle.nl_acts.specs.declared.fail.ErrorKind.{ErrorKind}
-use Rattle.nl_acts.specs.declared.fail.ErrorKind.TheVariants.{WrongType, TooLarge}
-use Rattle.nl_meaning.specs.State.{Outcome}
-use Rattle.nl_meaning.specs.Meaning.{text}
+use Rattle.nl_exec_acts.specs.Stage.{Scene}
+use Rattle.nl_exec_acts.specs.declared.fail.ErrorKind.{ErrorKind}
+use Rattle.nl_exec_acts.specs.declared.fail.ErrorKind.TheVariants.{WrongType, TooLarge}
+use Rattle.nl_exec_meaning.specs.State.{Outcome}
+use Rattle.nl_exec_meaning.specs.Meaning.{text}
 pub use Rattle.nl_exec.specs.Endings.{Ending, ending_of}
 pub use Rattle.nl_exec.specs.Endings as ending
 pub use Rattle.nl_exec.specs.Machines.{first_state}

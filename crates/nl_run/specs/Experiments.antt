@@ -5,8 +5,8 @@ use Rattle.std.specs.List.{list_all}
 use Rattle.nl_fixed.specs.Nouns.{Bytes}
 use Rattle.nl_tree.specs.Checked.{Checked}
 use Rattle.nl_tree.specs.Views.{plain}
-use Rattle.nl_sweep.specs.Sweep.{plane_of_run, seed_of, settings_of}
-use Rattle.nl_fields.specs.declared.fields.Fields.{Fields}
+use Rattle.nl_experiment_sweep.specs.Sweep.{plane_of_run, seed_of, settings_of}
+use Rattle.nl_experiment_fields.specs.declared.fields.Fields.{Fields}
 use Rattle.nl_experiment.specs.Plan.{order_of, world_of}
 use Rattle.nl_experiment.specs.declared.texts.Texts as declared
 use Rattle.nl_run.specs.Job.{Job, Trees, lone, lones, maybe_lone}

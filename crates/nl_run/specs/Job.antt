@@ -8,12 +8,12 @@ use Rattle.nl_grid.specs.Geometry.{Plane}
 use Rattle.nl_tree.specs.Checked.{Checked}
 use Rattle.nl_tree.specs.Slots.{global_slot, run_number, experiment_name}
 use Rattle.nl_tree.specs.Tree.{Node}
-use Rattle.nl_layout.specs.Layouts.{layout_of}
+use Rattle.nl_agents_layout.specs.Layouts.{layout_of}
 use Rattle.nl_agents.specs.Changes.{revalued}
 use Rattle.nl_agents.specs.World.{World, first_world}
 use Rattle.nl_agents.specs.declared.agents.Owner.TheVariants.{Observer}
-use Rattle.nl_acts.specs.Stage.{Scene, scene}
-use Rattle.nl_sweep.specs.Varied.{PlainSetting}
+use Rattle.nl_exec_acts.specs.Stage.{Scene, scene}
+use Rattle.nl_experiment_sweep.specs.Varied.{PlainSetting}
 
 -- ---- texts and their trees
 

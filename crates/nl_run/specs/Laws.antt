@@ -2,8 +2,8 @@
 use Rattle.std.specs.Prelude.{◌≡◌, ℕ, ◌≤◌, ◌<◌, ⊤, List, [], ◌∷◌, Option, Some, None}
 use Rattle.nl_fixed.specs.Nouns.{Bytes, Texts}
 use Rattle.nl_tree.specs.Checked.{Checked}
-use Rattle.nl_sweep.specs.Sweep.{plane_of_run, seed_of, settings_of}
-use Rattle.nl_fields.specs.declared.fields.Fields.{Fields}
+use Rattle.nl_experiment_sweep.specs.Sweep.{plane_of_run, seed_of, settings_of}
+use Rattle.nl_experiment_fields.specs.declared.fields.Fields.{Fields}
 use Rattle.nl_experiment.specs.Plan.{order_of, world_of}
 use Rattle.nl_run.specs.Course.{Standing, course_within, rows_of, step_or_end, steps, steps_from}
 use Rattle.nl_run.specs.Experiments.{job_by}

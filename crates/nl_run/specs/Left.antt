@@ -4,8 +4,8 @@ use Rattle.nl_fixed.specs.Nouns.{Texts}
 use Rattle.nl_tree.specs.declared.declared.Form.{Form}
 use Rattle.nl_tree.specs.declared.declared.Form.TheVariants as form
 use Rattle.nl_agents.specs.declared.store.Store.{Ghosts}
-use Rattle.nl_acts.specs.Stage.{Scene}
-use Rattle.nl_meaning.specs.State.{Outcome}
+use Rattle.nl_exec_acts.specs.Stage.{Scene}
+use Rattle.nl_exec_meaning.specs.State.{Outcome}
 use Rattle.nl_exec.specs.Endings.{Ending, ending_of}
 use Rattle.nl_exec.specs.Machines.{IsClosed, IsOpen, form_of, program_of, rest_of, scene_in, scene_of, spent_of, units_left}
 use Rattle.nl_run.specs.Job.{Job}

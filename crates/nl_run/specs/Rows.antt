@@ -2,8 +2,8 @@
 use Rattle.std.specs.Prelude.{ℕ, List, [], ◌∷◌, ◌++◌, codes, Some, None}
 use Rattle.std.specs.Fmt.{decimal}
 use Rattle.nl_fixed.specs.Nouns.{Bytes, Texts}
-use Rattle.nl_acts.specs.declared.fail.ErrorKind.{ErrorKind}
-use Rattle.nl_acts.specs.declared.fail.ErrorKind.TheVariants as kind
+use Rattle.nl_exec_acts.specs.declared.fail.ErrorKind.{ErrorKind}
+use Rattle.nl_exec_acts.specs.declared.fail.ErrorKind.TheVariants as kind
 use Rattle.nl_run.specs.Job.{Job}
 use Rattle.nl_run.specs.declared.rows.Row.{Row}
 use Rattle.nl_run.specs.declared.rows.RunEnd.{RunEnd}

@@ -3,9 +3,9 @@ use Rattle.std.specs.Prelude.{Bool, true, false, List}
 use Rattle.std.specs.List.{list_all}
 use Rattle.nl_value.specs.Fit.{value_fits}
 use Rattle.nl_value.specs.Plain.{Plain}
-use Rattle.nl_sweep.specs.Varied.{PlainSetting}
-use Rattle.nl_sweep.specs.declared.varied.Choice.{Choice}
-use Rattle.nl_sweep.specs.declared.varied.Choice.TheVariants.{Listed, Stepped}
+use Rattle.nl_experiment_sweep.specs.Varied.{PlainSetting}
+use Rattle.nl_experiment_sweep.specs.declared.varied.Choice.{Choice}
+use Rattle.nl_experiment_sweep.specs.declared.varied.Choice.TheVariants.{Listed, Stepped}
 
 abbrev pub is_written : Plain → Bool
 is_written value = value_fits (λ patch. false) (λ set. false) value

@@ -7,7 +7,7 @@ ghost use Rattle.nl_scan.specs.Tokens.{tokens_of};
 ghost use Rattle.nl_run.specs.Rows as rows;
 
 use crate::plan::Plan;
-use nl_acts::ErrorKind;
+use nl_exec_acts::ErrorKind;
 use nl_fixed::{NoMemory, Str};
 use nl_scan::{ScanRefusal, Source, line_column, scan};
 use std::alloc::Global;

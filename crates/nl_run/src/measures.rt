@@ -3,7 +3,7 @@ ghost use Rattle.std.specs.Prelude.{◌≡◌, ℕ, ◌+◌, ◌≤◌, ◌<◌,
 ghost use Rattle.nl_value.specs.Text.{text_of};
 ghost use Rattle.nl_value.specs.Views.{plain};
 ghost use Rattle.nl_agents.specs.Names.{living_of};
-ghost use Rattle.nl_frames.specs.Ground.{fits, ground_of};
+ghost use Rattle.nl_exec_meaning.specs.Ground.{fits, ground_of};
 ghost use Rattle.nl_exec.specs.Machines.{IsClosed, program_of, spent_of, world_of};
 ghost use Rattle.nl_run.specs.Course.{measured_if, regular_end, steps};
 ghost use Rattle.nl_run.specs.Job.{Job};
@@ -149,7 +149,7 @@ pub fn regular_end<'a, S: Store>(
 }
 
 /// The text of a metric's value as the world stands; None where it is too large.
-#[tactic(auto, using(nl_frames::proofs::Grounds::fits_is))]
+#[tactic(auto, using(nl_exec_meaning::proofs::Grounds::fits_is))]
 pub fn cell_of<S: Store>(
     alloc: Global,
     machine: &Machine<'_, S>,

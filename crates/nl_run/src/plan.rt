@@ -3,9 +3,9 @@ ghost use Rattle.std.specs.Prelude.{◌≡◌, ◌≤◌, true, IfOk};
 ghost use Rattle.nl_run.specs.Written.{all_written};
 
 use crate::rows::{Row, RunEnd};
+use nl_experiment_sweep::{Setting, Settings};
 use nl_fixed::{Cells, Names, NoMemory, Str};
 use nl_grid::Shape;
-use nl_sweep::{Setting, Settings};
 use nl_tree::{Program, Tree, Trees};
 use std::alloc::Global;
 

@@ -2,8 +2,8 @@
 ghost use Rattle.std.specs.Prelude.{◌≡◌, OnOk};
 ghost use Rattle.nl_run.specs.Rows.{last_ended};
 
+use nl_experiment_sweep::Settings;
 use nl_fixed::{Cells, NoMemory, Str};
-use nl_sweep::Settings;
 use std::alloc::Global;
 use std::marker::Model;
 

@@ -94,7 +94,7 @@ fn until_in<'a>(text: &'a Option<Str>, tree: &'a Option<Tree>) -> Option<LoneTex
 
 impl<'a, S: Store> Run<'a, S> {
     ghost use Rattle.std.specs.Prelude.{◌≡◌, ℕ, ◌+◌, ◌<◌, [], IfOk, IsErr, OnOk, Ok};
-    ghost use Rattle.nl_sweep.specs.Sweep.{IsRun};
+    ghost use Rattle.nl_experiment_sweep.specs.Sweep.{IsRun};
     ghost use Rattle.nl_experiment.specs.Plan.{order_of};
     ghost use Rattle.nl_run.specs.Experiments.{AreWritten, job_by, trees_seen};
     ghost use Rattle.nl_run.specs.Course.{course, course_within, rows_of};

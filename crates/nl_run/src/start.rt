@@ -16,14 +16,14 @@ use crate::progress::Progress;
 use crate::rows::Rows;
 use nl_agents::Store;
 use nl_exec::Machine;
+use nl_experiment_sweep::Settings;
 use nl_fixed::{NoMemory, Num};
-use nl_sweep::Settings;
 use nl_tree::{Form, Program};
 use nl_value::Value;
 use std::alloc::Global;
 
 // The global variable of a name has a value, if the program has one.
-#[tactic(auto, using(crate::proofs::Settings::fits_each), unfolding(nl_layout::specs::Layouts::layout_of))]
+#[tactic(auto, using(crate::proofs::Settings::fits_each), unfolding(nl_agents_layout::specs::Layouts::layout_of))]
 fn set_named<S: Store>(machine: &mut Machine<'_, S>, program: &Program, name: &[u8], value: Value)
     requires closed { IsClosed machine.old }
     requires program { program_of machine.old ≡ program.now }

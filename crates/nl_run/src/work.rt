@@ -1,6 +1,6 @@
 //! The work of a run, phase by phase, in slices of units.
 ghost use Rattle.std.specs.Prelude.{◌≡◌, ℕ, ◌+◌, ◌*◌, ◌≤◌, ◌<◌, ◌&&◌, ◌==◌, not, nat_lt, length, IfOk};
-ghost use Rattle.nl_frames.specs.Ground.{ground_of};
+ghost use Rattle.nl_exec_meaning.specs.Ground.{ground_of};
 ghost use Rattle.nl_exec.specs.Endings.{EndFits, end_seen};
 ghost use Rattle.nl_exec.specs.Machines.{IsClosed, program_of, spent_of, units_left, world_of};
 ghost use Rattle.nl_run.specs.Course.{after_go, commands, go_name, steps};

@@ -11,10 +11,10 @@ use Rattle.nl_value.specs.Views.{plain}
 use Rattle.nl_value.specs.declared.values.Value.{Value}
 use Rattle.nl_grid.specs.Geometry.{IsPointOf, Plane, patch_at}
 use Rattle.nl_grid.specs.declared.point.Point.{Point}
-use Rattle.nl_layout.specs.Nouns.{BreedNumber, Slot}
-use Rattle.nl_layout.specs.declared.layout.BreedLayout.{BreedLayout}
-use Rattle.nl_layout.specs.declared.layout.Layout.{Layout}
-use Rattle.nl_layout.specs.Layouts.{breeds_count, is_breed_of, is_link_breed, is_turtle_breed, turtle_owns}
+use Rattle.nl_agents_layout.specs.Nouns.{BreedNumber, Slot}
+use Rattle.nl_agents_layout.specs.declared.layout.BreedLayout.{BreedLayout}
+use Rattle.nl_agents_layout.specs.declared.layout.Layout.{Layout}
+use Rattle.nl_agents_layout.specs.Layouts.{breeds_count, is_breed_of, is_link_breed, is_turtle_breed, turtle_owns}
 use Rattle.nl_agents.specs.Nouns.{Vars}
 use Rattle.nl_agents.specs.World.{World, first_world}
 use Rattle.nl_agents.specs.Changes.{birth_vars, bred_vars, is_turtle, is_link, in_link, in_turtle, parent_of, AreTurtlesFull, AreLinksFull, TurtleLives, value_in, value_of, global_set, revalued}
@@ -25,10 +25,10 @@ use Rattle.nl_agents.specs.declared.agents.Owner.{Owner}
 use Rattle.nl_agents.proofs.Finding.{found_all}
 use Rattle.nl_agents.proofs.Holding.{values_fit}
 use Rattle.nl_agents.proofs.Worlds.{revalued_is_world}
-use Rattle.nl_ground.specs.Grounds.{IsFirst, KeepsGlobals, KeepsPatches, globals_set, run_set}
-use Rattle.nl_ground.specs.declared.ground.Ground.{Ground}
-use Rattle.nl_files.specs.Agents.{Agents, KeepAll}
-use Rattle.nl_roster.specs.Sound.{AreSound, IsLinkAmong, IsTurtleAmong}
+use Rattle.nl_agents_ground.specs.Grounds.{IsFirst, KeepsGlobals, KeepsPatches, globals_set, run_set}
+use Rattle.nl_agents_ground.specs.declared.ground.Ground.{Ground}
+use Rattle.nl_store_files.specs.Agents.{Agents, KeepAll}
+use Rattle.nl_store.specs.Sound.{AreSound, IsLinkAmong, IsTurtleAmong}
 use Rattle.nl_store.specs.Worlds.{world_with, AreOf}
 
 -- a breed of turtles has a chain

@@ -1,2 +1,7 @@
+mod Copies
+mod Cutting
 mod Holds
+mod Lists
+mod Rosters
+mod Tallies
 mod Unowned

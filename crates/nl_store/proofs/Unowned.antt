@@ -5,15 +5,15 @@ use Rattle.std.proofs.Common.{arith, ap, ap₂, ◌∙◌, sym, refl, subst}
 use Rattle.std.proofs.lemmas.Bool.{cond-true, cond-false, eqb-true, ne_eqb, or_from}
 use Rattle.std.proofs.lemmas.List.Elements.{All-head, All-tail}
 use Rattle.nl_value.specs.Plain.{Plain}
-use Rattle.nl_layout.specs.Nouns.{Slot, Slots}
-use Rattle.nl_layout.specs.Layouts.{has_slot}
+use Rattle.nl_agents_layout.specs.Nouns.{Slot, Slots}
+use Rattle.nl_agents_layout.specs.Layouts.{has_slot}
 use Rattle.nl_agents.specs.Nouns.{Vars}
 use Rattle.nl_agents.specs.Changes.{set_entry, value_in, value_set}
 use Rattle.nl_agents.specs.declared.agents.Link.{Link}
 use Rattle.nl_agents.specs.declared.agents.Turtle.{Turtle}
 use Rattle.nl_agents.proofs.Entries.{set_nowhere}
 use Rattle.nl_agents.proofs.Keyed.{Ascend, ascend_head, ascend_tail, before, map_none, not_found}
-use Rattle.nl_files.specs.Agents.{entry_of, link_entry, link_serial, links_filled, turtle_entry, turtle_serial, turtles_filled}
+use Rattle.nl_store_files.specs.Agents.{entry_of, link_entry, link_serial, links_filled, turtle_entry, turtle_serial, turtles_filled}
 
 -- ---- what an agent keeps
 

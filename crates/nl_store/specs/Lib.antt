@@ -1,2 +1,4 @@
+pub mod Counts
 pub mod Held
+pub mod Sound
 pub mod Worlds

@@ -1,16 +1,16 @@
 -- The world that a store by records stands for.
 use Rattle.std.specs.Prelude.{◌≡◌, ℕ, List, Option, find}
 use Rattle.std.specs.Option.{option_and_then}
-use Rattle.nl_layout.specs.Nouns.{BreedNumber}
-use Rattle.nl_layout.specs.Layouts.{breeds_count}
-use Rattle.nl_layout.specs.declared.layout.Layout.{Layout}
+use Rattle.nl_agents_layout.specs.Nouns.{BreedNumber}
+use Rattle.nl_agents_layout.specs.Layouts.{breeds_count}
+use Rattle.nl_agents_layout.specs.declared.layout.Layout.{Layout}
 use Rattle.nl_agents.specs.Nouns.{Vars}
 use Rattle.nl_agents.specs.Changes.{birth_vars, is_turtle}
 use Rattle.nl_agents.specs.declared.agents.Turtle.{Turtle}
 use Rattle.nl_agents.specs.World.{World}
-use Rattle.nl_ground.specs.Grounds.{world_on}
-use Rattle.nl_ground.specs.declared.ground.Ground.{Ground}
-use Rattle.nl_files.specs.Agents.{Agents}
+use Rattle.nl_agents_ground.specs.Grounds.{world_on}
+use Rattle.nl_agents_ground.specs.declared.ground.Ground.{Ground}
+use Rattle.nl_store_files.specs.Agents.{Agents}
 
 -- the world of a ground, of agents, and of the serial of the turtle that is called 0
 abbrev pub world_with : Ground → Agents → ℕ → World

@@ -1,12 +1,12 @@
 //! What a turtle keeps at its birth.
 ghost use Rattle.std.specs.Prelude.{◌≡◌, IfSome, IfOk, IsSome, find};
 ghost use Rattle.nl_agents.specs.Changes.{is_turtle};
-ghost use Rattle.nl_files.specs.Agents.{KeepAll};
+ghost use Rattle.nl_store_files.specs.Agents.{KeepAll};
 ghost use Rattle.nl_store.specs.Worlds.{birth_vars_among};
 
 use nl_agents::{Layout, Variables};
-use nl_files::Files;
 use nl_fixed::NoMemory;
+use nl_store_files::Files;
 use std::alloc::Global;
 
 /// First values of a turtle of the breed, or copies of a parent's, by the rule on a change of breed.

@@ -12,12 +12,12 @@ ghost use Rattle.nl_agents.specs.Standing.{IsWorld};
 ghost use Rattle.std.proofs.Props.{props};
 ghost use Rattle.nl_store.specs.Worlds.{world_with, AreOf};
 
+use crate::Roster;
 use crate::births::birth_vars;
 use nl_agents::{BearFail, Layout, Owner, Slots, Steps, Store, TieFail, Variables};
+use nl_agents_ground::Ground;
 use nl_fixed::NoMemory;
 use nl_grid::{Point, Shape};
-use nl_ground::Ground;
-use nl_roster::Roster;
 use nl_value::{Serials, Value};
 use std::alloc::Global;
 use std::sync::ledger::Ledger;

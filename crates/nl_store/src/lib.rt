@@ -1,7 +1,11 @@
-//! The store of records: agents found by serial, by patch, by breed and by the ends of links.
+//! The store by records.
 #![tactic(auto)]
 
 pub mod births;
+pub mod census;
+pub mod copying;
 pub mod indexed;
+pub mod roster;
 
 pub use indexed::Indexed;
+pub use roster::Roster;

@@ -2,7 +2,7 @@
 use Rattle.std.specs.Prelude.{ℤ, Bool, false, Option, None, Some, List, [], ◌∷◌, ◌++◌, codes}
 use Rattle.nl_fixed.specs.Nouns.{Bytes}
 use Rattle.nl_fixed.specs.Spelling.{number_text}
-use Rattle.nl_layout.specs.Nouns.{BreedNumber}
+use Rattle.nl_agents_layout.specs.Nouns.{BreedNumber}
 use Rattle.nl_agents.specs.Members.{is_link_of_breed}
 use Rattle.nl_agents.specs.declared.agents.Link.{Link}
 

@@ -1,6 +1,6 @@
 -- Who is joined already with a caller, found link by link.
 use Rattle.std.specs.Prelude.{◌≡◌, ℕ, ◌==◌, Bool, ◌&&◌, not, if◌then◌else◌, List, [], ◌∷◌, Option, Some, None}
-use Rattle.nl_layout.specs.Nouns.{BreedNumber}
+use Rattle.nl_agents_layout.specs.Nouns.{BreedNumber}
 use Rattle.nl_agents.specs.declared.agents.Link.{Link}
 use Rattle.nl_value.specs.Nouns.{Serials}
 use Rattle.nl_agents.specs.World.{World}

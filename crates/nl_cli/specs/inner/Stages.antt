@@ -15,15 +15,15 @@ use Rattle.nl_value.specs.Living.{no_life}
 use Rattle.nl_value.specs.Plain.{Plain, PlainNumber}
 use Rattle.nl_value.specs.Text.{text_of}
 use Rattle.nl_tree.specs.Checked.{Checked}
-use Rattle.nl_sweep.specs.Sweep.{IsRun}
-use Rattle.nl_sweep.specs.Varied.{PlainSetting}
-use Rattle.nl_keys.specs.declared.faults.PlanKind.{PlanKind}
-use Rattle.nl_fields.specs.declared.fields.Fields.{Fields}
+use Rattle.nl_experiment_sweep.specs.Sweep.{IsRun}
+use Rattle.nl_experiment_sweep.specs.Varied.{PlainSetting}
+use Rattle.nl_experiment_keys.specs.declared.faults.PlanKind.{PlanKind}
+use Rattle.nl_experiment_fields.specs.declared.fields.Fields.{Fields}
 use Rattle.nl_experiment.specs.Plan.{experiment_says, order_of, plan_fault}
 use Rattle.nl_experiment.specs.Texts.{AreTreesFor, IsFirstBad, texts_of, trees_of}
 use Rattle.nl_experiment.specs.declared.texts.Texts as declared
-use Rattle.nl_keys.specs.declared.faults.KeyFault.{KeyFault}
-use Rattle.nl_model.specs.Verdict.{IsVerdict}
+use Rattle.nl_experiment_keys.specs.declared.faults.KeyFault.{KeyFault}
+use Rattle.nl_check_model.specs.Verdict.{IsVerdict}
 use Rattle.nl_run.specs.Experiments.{AreWritten, trees_seen}
 use Rattle.nl_run.specs.declared.rows.Row.{Row}
 use Rattle.nl_run.specs.Rows.{end_text}

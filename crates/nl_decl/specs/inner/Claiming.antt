@@ -2,9 +2,9 @@
 use Rattle.std.specs.Prelude.{◌≡◌, ℕ, ◌+◌, List, ◌++◌, map, length, Option, if◌then◌else◌}
 use Rattle.nl_fixed.specs.Nouns.{Name, Names}
 use Rattle.nl_tree.specs.Vocabulary.{Pattern}
-use Rattle.nl_outline.specs.Lengths.{length_of}
-use Rattle.nl_vocabulary.specs.Made.{name_by}
-use Rattle.nl_outline.specs.declared.declaration.Declaration.{Declaration}
+use Rattle.nl_decl_outline.specs.Lengths.{length_of}
+use Rattle.nl_decl.specs.Made.{name_by}
+use Rattle.nl_decl_outline.specs.declared.declaration.Declaration.{Declaration}
 use Rattle.nl_decl.specs.declared.claims.Claim.{Claim}
 use Rattle.nl_decl.specs.declared.claims.Claim.TheVariants as claim
 use Rattle.nl_decl.specs.declared.claims.Claimed.{Claimed}

@@ -2,10 +2,10 @@
 use Rattle.std.specs.Prelude.{◌≡◌, ℕ, ◌+◌, List, [], ◌∷◌, ◌++◌, Option, Some, None}
 use Rattle.nl_fixed.specs.Nouns.{Names}
 use Rattle.nl_tree.specs.declared.declared.Breed.{Breed}
-use Rattle.nl_outline.specs.declared.declaration.Owner.{Owner}
-use Rattle.nl_outline.specs.declared.declaration.Owner.TheVariants.{AllTurtles, AllPatches, AllLinks, BreedAt}
-use Rattle.nl_outline.specs.declared.declaration.Declaration.{Declaration}
-use Rattle.nl_outline.specs.declared.declaration.Declaration.TheVariants as declaration
+use Rattle.nl_decl_outline.specs.declared.declaration.Owner.{Owner}
+use Rattle.nl_decl_outline.specs.declared.declaration.Owner.TheVariants.{AllTurtles, AllPatches, AllLinks, BreedAt}
+use Rattle.nl_decl_outline.specs.declared.declaration.Declaration.{Declaration}
+use Rattle.nl_decl_outline.specs.declared.declaration.Declaration.TheVariants as declaration
 use Rattle.nl_decl.specs.Claims.{breed_with}
 use Rattle.nl_decl.specs.Gathered.{owned_in}
 

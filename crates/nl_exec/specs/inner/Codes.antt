@@ -1,8 +1,8 @@
 -- The phase of a machine as plain data.
 use Rattle.std.specs.Prelude.{◌≡◌, ℕ, zero, suc, refl}
 use Rattle.std.specs.Coded.{Coded, code_by, coded_ℕ, coded×}
-use Rattle.nl_levels.specs.declared.focus.Wish.{Wish}
-use Rattle.nl_levels.specs.declared.focus.Wish.TheVariants as wish
+use Rattle.nl_exec_levels.specs.declared.focus.Wish.{Wish}
+use Rattle.nl_exec_levels.specs.declared.focus.Wish.TheVariants as wish
 use Rattle.nl_exec.specs.declared.phase.Phase.{Phase}
 use Rattle.nl_exec.specs.declared.phase.Phase.TheVariants as phase
 

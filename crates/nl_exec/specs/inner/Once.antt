@@ -6,26 +6,26 @@ use Rattle.std.specs.List.Sorted.{IsStrictlyIncreasing}
 use Rattle.nl_words.specs.declared.entry.Kinds.{Kinds}
 use Rattle.nl_value.specs.declared.sets.AgentKind.{AgentKind}
 use Rattle.nl_value.specs.declared.sets.AgentKind.TheVariants as kind
-use Rattle.nl_layout.specs.Nouns.{BreedNumber}
-use Rattle.nl_layout.specs.declared.layout.Layout.{Layout}
+use Rattle.nl_agents_layout.specs.Nouns.{BreedNumber}
+use Rattle.nl_agents_layout.specs.declared.layout.Layout.{Layout}
 use Rattle.nl_agents.specs.declared.store.Store.{Ghosts}
-use Rattle.nl_code.specs.declared.words.Making.{Making}
-use Rattle.nl_code.specs.declared.words.Making.TheVariants as making
-use Rattle.nl_meaning.specs.declared.sites.Site.{Site}
-use Rattle.nl_meaning.specs.Walks.{Answer as Told, members_kept}
-use Rattle.nl_frames.specs.Ground.{Ground, SiteFits, fits, agent_fits}
-use Rattle.nl_frames.specs.Seen.{ground}
-use Rattle.nl_frames.specs.Sound.{MakingStands}
-use Rattle.nl_frames.specs.Standing.{AnsweringFits, FrameFits, MembersAscend, MembersFit, TurnsFit}
-use Rattle.nl_frames.specs.declared.hands.Hands.{Hands}
-use Rattle.nl_frames.specs.declared.frames.Frame.{Frame}
-use Rattle.nl_frames.specs.declared.frames.Frame.TheVariants as frame
-use Rattle.nl_frames.specs.declared.turns.Gathered.{Gathered}
-use Rattle.nl_frames.specs.declared.turns.Gathered.TheVariants as gathered
-use Rattle.nl_frames.specs.declared.turns.Turns.{Turns}
-use Rattle.nl_levels.specs.declared.levels.Level.{Level}
+use Rattle.nl_exec_meaning.specs.declared.words.Making.{Making}
+use Rattle.nl_exec_meaning.specs.declared.words.Making.TheVariants as making
+use Rattle.nl_exec_meaning.specs.declared.sites.Site.{Site}
+use Rattle.nl_exec_meaning.specs.Walks.{Answer as Told, members_kept}
+use Rattle.nl_exec_meaning.specs.Ground.{Ground, SiteFits, fits, agent_fits}
+use Rattle.nl_exec_meaning.specs.Seen.{ground}
+use Rattle.nl_exec_meaning.specs.Sound.{MakingStands}
+use Rattle.nl_exec_meaning.specs.Standing.{AnsweringFits, FrameFits, MembersAscend, MembersFit, TurnsFit}
+use Rattle.nl_exec_meaning.specs.declared.hands.Hands.{Hands}
+use Rattle.nl_exec_meaning.specs.declared.frames.Frame.{Frame}
+use Rattle.nl_exec_meaning.specs.declared.frames.Frame.TheVariants as frame
+use Rattle.nl_exec_meaning.specs.declared.turns.Gathered.{Gathered}
+use Rattle.nl_exec_meaning.specs.declared.turns.Gathered.TheVariants as gathered
+use Rattle.nl_exec_meaning.specs.declared.turns.Turns.{Turns}
+use Rattle.nl_exec_levels.specs.declared.levels.Level.{Level}
 use Rattle.nl_exec.specs.declared.phase.Phase.{Phase}
-use Rattle.nl_levels.specs.Steady.{LevelsFit}
+use Rattle.nl_exec_levels.specs.Steady.{LevelsFit}
 use Rattle.nl_exec.specs.Keeping.{HeldIn}
 
 true_once : (b : Bool) → IsProp (IsTrue b)

@@ -2,7 +2,7 @@
 use Rattle.std.specs.Prelude.{List}
 use Rattle.nl_value.specs.Plain.{Plain}
 use Rattle.nl_value.specs.Living.{Living}
-use Rattle.nl_series.specs.Outcomes.{Outcome, limited}
+use Rattle.nl_listops_series.specs.Outcomes.{Outcome, limited}
 use Rattle.nl_listops.specs.declared.words.ValueWord.{ValueWord}
 use Rattle.nl_listops.specs.declared.words.ValueWord.TheVariants as word
 use Rattle.nl_listops.specs.Answers.{answer_of, of_many}

@@ -3,8 +3,8 @@ use Rattle.std.specs.Prelude.{List}
 use Rattle.nl_fixed.specs.Nouns.{Names}
 use Rattle.nl_tree.specs.Tree.{Node}
 use Rattle.nl_tree.specs.Tokens.{Tok}
-use Rattle.nl_grammar.specs.declared.pending.Shape.{Shape}
-use Rattle.nl_grammar.specs.Machine.{Frame, Step, stop, feed_paren, feed_minus, feed_reporter, feed_bracket, feed_whole}
+use Rattle.nl_parse_grammar.specs.declared.pending.Shape.{Shape}
+use Rattle.nl_parse_grammar.specs.Machine.{Frame, Step, stop, feed_paren, feed_minus, feed_reporter, feed_bracket, feed_whole}
 use Rattle.nl_parse.specs.declared.closing.Around.{Around}
 
 -- a token behind it, on what is open outside

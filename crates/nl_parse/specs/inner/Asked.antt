@@ -4,9 +4,9 @@ use Rattle.nl_fixed.specs.Nouns.{Names}
 use Rattle.nl_fixed.specs.declared.span.Span.{Span}
 use Rattle.nl_tree.specs.Tree.{Node, node}
 use Rattle.nl_tree.specs.Tokens.{Tok, Constant, number, text, word, open_bracket, close_bracket}
-use Rattle.nl_grammar.specs.declared.pending.Shape.{Shape}
-use Rattle.nl_grammar.specs.declared.pending.Shape.TheVariants.{Growing}
-use Rattle.nl_grammar.specs.Machine.{Frame, InNear, InCall, InMany, InLet, InList, InItems, InStatements, InStatementParen, closes, next, without_maybes, Step, stop, feed_begin, feed_plain}
+use Rattle.nl_parse_grammar.specs.declared.pending.Shape.{Shape}
+use Rattle.nl_parse_grammar.specs.declared.pending.Shape.TheVariants.{Growing}
+use Rattle.nl_parse_grammar.specs.Machine.{Frame, InNear, InCall, InMany, InLet, InList, InItems, InStatements, InStatementParen, closes, next, without_maybes, Step, stop, feed_begin, feed_plain}
 
 -- a right side is read that others follow
 abbrev pub more_sides : List Frame → Bool

@@ -2,8 +2,8 @@
 use Rattle.std.specs.Prelude.{◌-◌, ◌<◌, List, [], take, length}
 use Rattle.std.specs.Vec.{vec_len, vec_capacity}
 use Rattle.nl_fixed.specs.Nouns.{Names}
-use Rattle.nl_grammar.specs.Machine as M
-use Rattle.nl_reading.specs.inner.Reading.{mode_of, mode_names, frames_onto, names_onto}
+use Rattle.nl_parse_grammar.specs.Machine as M
+use Rattle.nl_parse_reading.specs.inner.Reading.{mode_of, mode_names, frames_onto, names_onto}
 use Rattle.nl_parse.specs.declared.reader.Reader.{Reader}
 
 abbrev pub stack_of : Reader → List M.Frame

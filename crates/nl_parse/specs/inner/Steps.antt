@@ -2,7 +2,7 @@
 use Rattle.std.specs.Prelude.{◌≡◌, Bool, true, false, List, Result, OnOk}
 use Rattle.std.specs.Result.{IsErrOf}
 use Rattle.nl_fixed.specs.Nouns.{Names}
-use Rattle.nl_grammar.specs.Machine.{Frame, Mode, Have, Optional, State, Step, go, stop}
+use Rattle.nl_parse_grammar.specs.Machine.{Frame, Mode, Have, Optional, State, Step, go, stop}
 use Rattle.nl_parse.specs.inner.State.{names_of, stack_of, state_of}
 use Rattle.nl_parse.specs.declared.reader.Reader.{Reader}
 use Rattle.nl_parse.specs.declared.reader.Refusal.{Refusal}

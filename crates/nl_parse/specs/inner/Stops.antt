@@ -7,10 +7,10 @@ use Rattle.nl_tree.specs.declared.faults.BodyKind.{BodyKind}
 use Rattle.nl_tree.specs.Term.{Term}
 use Rattle.nl_tree.specs.Tokens.{Tok, mark, marked}
 use Rattle.nl_tree.specs.BodyFault.{deepest}
-use Rattle.nl_text.specs.Texts.{plain_token, plain_tokens}
-use Rattle.nl_grammar.specs.Machine.{State, go, stop, feed, run_from}
-use Rattle.nl_grammar.specs.Depth.{least_depth}
-use Rattle.nl_grammar.specs.Fault.{kind_at}
+use Rattle.nl_parse_grammar.specs.Texts.{plain_token, plain_tokens}
+use Rattle.nl_parse_grammar.specs.Machine.{State, go, stop, feed, run_from}
+use Rattle.nl_parse_grammar.specs.Depth.{least_depth}
+use Rattle.nl_parse_grammar.specs.Fault.{kind_at}
 use Rattle.nl_parse.specs.declared.body.BodyRefusal.{BodyRefusal}
 
 -- the machine stops at the token for this reason, or goes to where no tree is allowed any more

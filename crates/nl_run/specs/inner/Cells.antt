@@ -5,8 +5,8 @@ use Rattle.nl_value.specs.Limits.{most_bytes}
 use Rattle.nl_value.specs.Plain.{Plain, PlainTruth}
 use Rattle.nl_value.specs.Views.{plain}
 use Rattle.nl_value.specs.declared.values.Value.{Value}
-use Rattle.nl_acts.specs.declared.fail.ErrorKind.TheVariants.{WrongType}
-use Rattle.nl_frames.specs.Ground.{Ground, fits}
+use Rattle.nl_exec_acts.specs.declared.fail.ErrorKind.TheVariants.{WrongType}
+use Rattle.nl_exec_meaning.specs.Ground.{Ground, fits}
 use Rattle.nl_run.specs.Course.{Finish, Standing, ends_as, fails_at_first, until_name}
 use Rattle.nl_run.specs.Job.{Job, Lone}
 use Rattle.nl_run.specs.declared.rows.RunEnd.{RunEnd}

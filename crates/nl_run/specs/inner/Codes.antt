@@ -2,8 +2,8 @@
 use Rattle.std.specs.Prelude.{◌≡◌, ℕ, zero, suc, List, [], Option, refl}
 use Rattle.std.specs.Coded.{Coded, code_by, coded_list, coded_option, coded_ℕ, coded×}
 use Rattle.nl_fixed.specs.Nouns.{Bytes, Texts}
-use Rattle.nl_sweep.specs.Varied.{PlainSetting}
-use Rattle.nl_sweep.specs.inner.Codes.{setting_code}
+use Rattle.nl_experiment_sweep.specs.Varied.{PlainSetting}
+use Rattle.nl_experiment_sweep.specs.inner.Codes.{setting_code}
 use Rattle.nl_run.specs.declared.rows.Row.{Row}
 use Rattle.nl_run.specs.declared.rows.RunEnd.{RunEnd}
 use Rattle.nl_run.specs.declared.rows.RunEnd.TheVariants as end_

@@ -1,6 +1,6 @@
 use Rattle.std.proofs.Common.{◌++◌, [], ◌∷◌, List, ℕ, ap, sym, subst, ◌∙◌}
 use Rattle.std.specs.List.Sorted.{IsStrictlyIncreasing}
-use Rattle.nl_layout.proofs.Ascending.{range_more, range_ascends}
+use Rattle.nl_agents_layout.proofs.Ascending.{range_more, range_ascends}
 use Rattle.nl_agents.proofs.view.all_patches.Goals as goal
 
 pub loop-patch-preserved : goal.loop-patch-preserved

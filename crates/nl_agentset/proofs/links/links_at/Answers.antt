@@ -3,7 +3,7 @@ use Rattle.std.proofs.lemmas.Result.{IfOk-weaker}
 use Rattle.nl_value.specs.Nouns.{Serials}
 use Rattle.nl_agents.specs.Changes.{link_of, has_end, LinkLives}
 use Rattle.nl_agentset.specs.Links.{is_link_at, links_at}
-use Rattle.nl_query.specs.Agents.{link_passes}
+use Rattle.nl_agentset_query.specs.Agents.{link_passes}
 use Rattle.nl_agentset.proofs.Found.{links_live}
 use Rattle.nl_agentset.proofs.Linked.{links_are}
 use Rattle.nl_agentset.proofs.links.links_at.Goals as goal

@@ -1,6 +1,6 @@
 use Rattle.std.proofs.Common.{◌≡◌, take, filter}
 use Rattle.nl_agents.specs.Changes.{link_of}
-use Rattle.nl_query.specs.Agents.{link_passes}
+use Rattle.nl_agentset_query.specs.Agents.{link_passes}
 use Rattle.nl_agentset.specs.Links.{is_link_at}
 use Rattle.nl_agentset.proofs.links.links_kept.Given as goal
 

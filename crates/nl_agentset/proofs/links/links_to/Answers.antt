@@ -4,7 +4,7 @@ use Rattle.nl_value.specs.Nouns.{Serials}
 use Rattle.nl_agents.specs.Changes.{link_of, LinkLives}
 use Rattle.nl_agents.specs.Members.{links_where}
 use Rattle.nl_agentset.specs.Links.{is_link_to, other_end_of}
-use Rattle.nl_query.specs.Agents.{link_passes}
+use Rattle.nl_agentset_query.specs.Agents.{link_passes}
 use Rattle.nl_agentset.proofs.Found.{links_live}
 use Rattle.nl_agentset.proofs.Linked.{links_lead_to}
 use Rattle.nl_agentset.proofs.links.links_to.Goals as goal

@@ -1,7 +1,7 @@
 use Rattle.std.proofs.Common.{◌≡◌, take, filter}
 use Rattle.std.proofs.Common.{◌==◌}
 use Rattle.nl_agents.specs.Changes.{link_of}
-use Rattle.nl_query.specs.Agents.{link_passes}
+use Rattle.nl_agentset_query.specs.Agents.{link_passes}
 use Rattle.nl_agentset.specs.Links.{other_end_of}
 use Rattle.nl_agentset.proofs.links.links_to_other.Given as goal
 

@@ -1,6 +1,6 @@
 use Rattle.std.proofs.Common.{ℕ, Bool, find, sym, ap, ◌∙◌}
 use Rattle.nl_agents.specs.Changes.{link_of}
-use Rattle.nl_query.specs.Agents.{link_passes}
+use Rattle.nl_agentset_query.specs.Agents.{link_passes}
 use Rattle.nl_agentset.specs.Sets.{is_between}
 use Rattle.nl_agentset.proofs.Walking.{found_here, found_later, found_none}
 use Rattle.nl_agentset.proofs.lookups.first_between.Goals as goal

@@ -1,6 +1,6 @@
 use Rattle.std.proofs.Common.{ℕ, List, All, find, ap, sym, subst, ◌∙◌}
 use Rattle.nl_agents.specs.Changes.{link_of, has_end, LinkLives}
-use Rattle.nl_query.specs.Agents.{link_passes}
+use Rattle.nl_agentset_query.specs.Agents.{link_passes}
 use Rattle.nl_agentset.specs.Sets.{is_between}
 use Rattle.nl_agentset.proofs.Found.{links_live}
 use Rattle.nl_agentset.proofs.Linked.{between_is}

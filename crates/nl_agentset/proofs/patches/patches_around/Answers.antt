@@ -2,7 +2,7 @@ use Rattle.std.proofs.Common.{ℕ, List, subst, sym}
 use Rattle.std.specs.List.Sorted.{IsStrictlyIncreasing}
 use Rattle.std.proofs.lemmas.List.Kept.{IsStrictlyIncreasing-filter}
 use Rattle.nl_grid.specs.Geometry.{Plane, neighbors_of, neighbors4_of, patches_near, all_patches}
-use Rattle.nl_layout.proofs.Ascending.{range_ascends}
+use Rattle.nl_agents_layout.proofs.Ascending.{range_ascends}
 use Rattle.nl_agentset.proofs.patches.patches_around.Goals as goal
 
 neighbors_ascend : (plane : Plane) (patch : ℕ) → IsStrictlyIncreasing (neighbors_of plane patch)

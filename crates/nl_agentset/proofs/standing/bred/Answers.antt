@@ -3,7 +3,7 @@ use Rattle.std.specs.List.Sorted.{IsStrictlyIncreasing}
 use Rattle.std.proofs.lemmas.List.{take_all}
 use Rattle.std.proofs.lemmas.List.Kept.{IsStrictlyIncreasing-filter}
 use Rattle.nl_agents.specs.Changes.{turtle_of}
-use Rattle.nl_query.specs.Agents.{is_of, turtle_passes}
+use Rattle.nl_agentset_query.specs.Agents.{is_of, turtle_passes}
 use Rattle.nl_agentset.proofs.standing.bred.Goals as goal
 
 pub of_vec-requires : goal.of_vec-requires

@@ -1,6 +1,6 @@
 use Rattle.std.proofs.Common.{◌≡◌, take, filter}
 use Rattle.nl_agents.specs.Changes.{turtle_of}
-use Rattle.nl_query.specs.Agents.{is_of, turtle_passes}
+use Rattle.nl_agentset_query.specs.Agents.{is_of, turtle_passes}
 use Rattle.nl_agentset.proofs.standing.bred.Given as goal
 
 abbrev pub invariant-loop-number : goal.invariant-loop-number

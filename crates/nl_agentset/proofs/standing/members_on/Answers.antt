@@ -4,9 +4,9 @@ use Rattle.std.proofs.lemmas.List.{take_all}
 use Rattle.std.proofs.lemmas.List.Kept.{IsStrictlyIncreasing-filter}
 use Rattle.nl_value.specs.Sets.{set_kind}
 use Rattle.nl_grid.specs.Geometry.{patches_of}
-use Rattle.nl_members.specs.Near.{stands_where}
+use Rattle.nl_agentset_query.specs.Near.{stands_where}
 use Rattle.nl_agentset.specs.Places.{is_on_one}
-use Rattle.nl_choice.proofs.Inside.{patch_members}
+use Rattle.nl_agentset_query.proofs.Inside.{patch_members}
 use Rattle.nl_agentset.proofs.standing.members_on.Goals as goal
 
 pub is_on_one-requires : goal.is_on_one-requires

@@ -1,6 +1,6 @@
 use Rattle.std.proofs.Common.{◌≡◌, take, filter}
 use Rattle.nl_value.specs.Sets.{set_kind}
-use Rattle.nl_members.specs.Near.{stands_where}
+use Rattle.nl_agentset_query.specs.Near.{stands_where}
 use Rattle.nl_agentset.specs.Places.{is_on_one}
 use Rattle.nl_agentset.proofs.standing.members_on.Given as goal
 

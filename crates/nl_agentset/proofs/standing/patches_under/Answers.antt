@@ -2,7 +2,7 @@ use Rattle.std.proofs.Common.{◌≡◌, ◌<◌, ℕ, List, All, sym, subst, �
 use Rattle.std.proofs.lemmas.Result.{IfOk-weaker}
 use Rattle.nl_grid.specs.Geometry.{patches_of}
 use Rattle.nl_agents.specs.Changes.{TurtleLives}
-use Rattle.nl_choice.proofs.Inside.{patch_members}
+use Rattle.nl_agentset_query.proofs.Inside.{patch_members}
 use Rattle.nl_agentset.proofs.Inside.{turtle_members}
 use Rattle.nl_agentset.proofs.standing.patches_under.Goals as goal
 

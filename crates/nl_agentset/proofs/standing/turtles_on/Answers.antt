@@ -4,7 +4,7 @@ use Rattle.nl_value.specs.Nouns.{Serials}
 use Rattle.nl_grid.specs.Geometry.{patches_of}
 use Rattle.nl_agents.specs.Changes.{turtle_of}
 use Rattle.nl_agentset.specs.Places.{turtles_on}
-use Rattle.nl_query.specs.Agents.{is_of, turtle_passes}
+use Rattle.nl_agentset_query.specs.Agents.{is_of, turtle_passes}
 use Rattle.nl_agentset.proofs.Found.{all_of_same}
 use Rattle.nl_agentset.proofs.OnPatches.{bred_on_several}
 use Rattle.nl_agentset.proofs.standing.turtles_on.Goals as goal

@@ -3,7 +3,7 @@ use Rattle.std.proofs.lemmas.Result.{IfOk-weaker}
 use Rattle.nl_value.specs.Nouns.{Serials}
 use Rattle.nl_agents.specs.Changes.{turtle_of}
 use Rattle.nl_agentset.specs.Places.{turtles_on}
-use Rattle.nl_query.specs.Agents.{is_of, turtle_passes}
+use Rattle.nl_agentset_query.specs.Agents.{is_of, turtle_passes}
 use Rattle.nl_agentset.proofs.OnPatches.{bred_on_one}
 use Rattle.nl_agentset.proofs.standing.turtles_on_patch.Goals as goal
 

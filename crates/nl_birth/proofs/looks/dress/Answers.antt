@@ -1,7 +1,7 @@
 use Rattle.std.proofs.Common.{sym, subst}
 use Rattle.nl_value.specs.Plain.{PlainNumber}
 use Rattle.nl_agents.specs.Changes.{TurtleLives}
-use Rattle.nl_layout.specs.BuiltIn.{color_slot}
+use Rattle.nl_agents_layout.specs.BuiltIn.{color_slot}
 use Rattle.nl_birth.proofs.Setting.{lives_set}
 use Rattle.nl_birth.proofs.looks.dress.Goals as goal
 

@@ -1,6 +1,6 @@
 use Rattle.std.proofs.Common.{◌≡◌, ◌++◌, true, map, length}
 use Rattle.std.specs.List.{list_all}
-use Rattle.nl_sweep.specs.Varied.{plain_setting}
+use Rattle.nl_experiment_sweep.specs.Varied.{plain_setting}
 use Rattle.nl_cli.specs.Table.{setting_text}
 use Rattle.nl_cli.specs.inner.Stages.{is_short}
 use Rattle.nl_cli.proofs.rows.setting_cells.Given as goal

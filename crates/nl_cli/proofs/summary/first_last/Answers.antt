@@ -1,7 +1,7 @@
 use Rattle.std.proofs.Common.{◌≡◌, ◌∙◌, IfOk, List, ap, map, subst}
 use Rattle.nl_fixed.specs.Nouns.{Bytes, Names}
-use Rattle.nl_sweep.specs.declared.varied.Vary.{Vary}
-use Rattle.nl_fields.specs.declared.fields.Fields.{Fields}
+use Rattle.nl_experiment_sweep.specs.declared.varied.Vary.{Vary}
+use Rattle.nl_experiment_fields.specs.declared.fields.Fields.{Fields}
 use Rattle.nl_table.specs.Header.{columns}
 use Rattle.nl_table.specs.Lines.{line_text}
 use Rattle.nl_cli.proofs.summary.first_last.Goals as goal

@@ -1,5 +1,5 @@
 use Rattle.std.proofs.Common.{◌≡◌, ◌++◌, drop, map}
-use Rattle.nl_sweep.specs.declared.varied.Vary.{Vary}
+use Rattle.nl_experiment_sweep.specs.declared.varied.Vary.{Vary}
 use Rattle.nl_cli.proofs.table.names_of.Given as goal
 
 -- the names so far, and those that are left

@@ -1,6 +1,6 @@
 use Rattle.std.proofs.Common.{◌≡◌, ◌++◌, map, drop}
 use Rattle.nl_decl.specs.inner.Claiming.{made_from}
-use Rattle.nl_vocabulary.specs.Made.{pattern_of}
+use Rattle.nl_decl.specs.Made.{pattern_of}
 use Rattle.nl_decl.proofs.claims.claim_made.Given as goal
 
 -- the words so far are claimed, and the rest follows

@@ -1,6 +1,6 @@
 use Rattle.std.proofs.Common.{◌≡◌, ◌+◌, ◌<◌, ◌≤◌, ◌^◌, ◌++◌, drop}
 use Rattle.nl_decl.specs.Claims.{claims_from, claims}
-use Rattle.nl_outline.specs.Lengths.{total_length}
+use Rattle.nl_decl_outline.specs.Lengths.{total_length}
 use Rattle.nl_decl.proofs.claims.claims_of.Given as goal
 
 -- the declarations so far are taken in, and the rest fits

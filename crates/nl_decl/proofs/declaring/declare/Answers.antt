@@ -1,8 +1,8 @@
 use Rattle.std.proofs.Common.{◌≡◌, None, map, sym, ap, subst, ◌∙◌}
 use Rattle.nl_scan.proofs.Order.{tokens_of-in_order}
-use Rattle.nl_text.proofs.Meant.{tokens_are_plain}
-use Rattle.nl_text.specs.Texts.{lexemes_of}
-use Rattle.nl_outline.proofs.NamesOf.{lexemes_plain}
+use Rattle.nl_parse_grammar.proofs.Meant.{tokens_are_plain}
+use Rattle.nl_parse_grammar.specs.Texts.{lexemes_of}
+use Rattle.nl_decl_outline.proofs.NamesOf.{lexemes_plain}
 use Rattle.nl_decl.specs.Claims.{first_clash, widget_claim, claims, duplicate_in}
 use Rattle.nl_decl.specs.Gathered.{Gathers, procedures_in}
 use Rattle.nl_decl.proofs.Accepted.{declared_fits}

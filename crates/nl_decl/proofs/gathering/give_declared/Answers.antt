@@ -1,5 +1,5 @@
 use Rattle.std.proofs.Common.{◌≡◌, ◌∷◌, refl, sym, subst}
-use Rattle.nl_outline.specs.declared.declaration.Declaration.{Declaration}
+use Rattle.nl_decl_outline.specs.declared.declaration.Declaration.{Declaration}
 use Rattle.nl_decl.specs.inner.Gathering.{with_owned}
 use Rattle.nl_decl.proofs.Spread.{plain}
 use Rattle.nl_decl.proofs.gathering.give_declared.Goals as goal

@@ -1,5 +1,5 @@
 use Rattle.std.proofs.Common.{◌≡◌, ◌+◌, ◌<◌, ◌^◌, ◌++◌, drop}
-use Rattle.nl_outline.specs.Lengths.{total_length}
+use Rattle.nl_decl_outline.specs.Lengths.{total_length}
 use Rattle.nl_decl.specs.Gathered.{procedures_from, procedures_in}
 use Rattle.nl_decl.proofs.gathering.procedures_of.Given as goal
 

@@ -4,7 +4,7 @@ use Rattle.std.specs.HashSet.{contains}
 use Rattle.nl_decl.specs.Claims.{is_taken, first_clash, widget_claim}
 use Rattle.nl_decl.specs.inner.Ledger.{same_marked, Notes, Holds}
 use Rattle.nl_decl.proofs.Clashing.{held_before, goes_on}
-use Rattle.nl_vocabulary.proofs.Rows.{next_of}
+use Rattle.nl_decl.proofs.Rows.{next_of}
 use Rattle.nl_decl.proofs.ledger.first_duplicate.Goals as goal
 
 pub claims-init : goal.claims-init

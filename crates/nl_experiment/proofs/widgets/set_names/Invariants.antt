@@ -1,5 +1,5 @@
 use Rattle.std.proofs.Common.{◌≡◌, ◌++◌, drop, map}
-use Rattle.nl_sweep.specs.Varied.{PlainSetting, plain_setting}
+use Rattle.nl_experiment_sweep.specs.Varied.{PlainSetting, plain_setting}
 use Rattle.nl_experiment.proofs.widgets.set_names.Given as goal
 
 -- the names so far, and those that are left

@@ -1,8 +1,8 @@
 use Rattle.std.proofs.Common.{None, Some}
-use Rattle.nl_threads.specs.Threads.{at_number}
-use Rattle.nl_threads.proofs.Places.{at-here}
+use Rattle.nl_store_lists.specs.Threads.{at_number}
+use Rattle.nl_store_lists.proofs.Places.{at-here}
 use Rattle.nl_index.specs.Rows.{take_from}
-use Rattle.nl_records.proofs.Filing.{filed-home, held-kept}
+use Rattle.nl_store_records.proofs.Filing.{filed-home, held-kept}
 use Rattle.nl_index.proofs.Moves.{at-twice}
 use Rattle.nl_index.proofs.row.move_last.Goals as goal
 

@@ -1,6 +1,6 @@
 use Rattle.std.proofs.Common.{Some, sym, subst}
-use Rattle.nl_threads.specs.Threads.{IsPlace}
-use Rattle.nl_records.proofs.Filing.{filed-without, held-kept, keeps-trans, place-held, IsHeld-kept}
+use Rattle.nl_store_lists.specs.Threads.{IsPlace}
+use Rattle.nl_store_records.proofs.Filing.{filed-without, held-kept, keeps-trans, place-held, IsHeld-kept}
 use Rattle.nl_index.proofs.row.unlink.Goals as goal
 
 pub place_at-place-requires-clause-held : goal.place_at-place-requires-clause-held

@@ -1,6 +1,6 @@
 use Rattle.std.proofs.Common.{None, Some, sym, subst, ◌∙◌}
-use Rattle.nl_threads.specs.Threads.{IsPlace}
-use Rattle.nl_records.proofs.Filing.{filed-last, held-kept, keeps-trans, place-held, IsHeld-kept}
+use Rattle.nl_store_lists.specs.Threads.{IsPlace}
+use Rattle.nl_store_records.proofs.Filing.{filed-last, held-kept, keeps-trans, place-held, IsHeld-kept}
 use Rattle.nl_index.proofs.Borders.{last-redirects, last-stays}
 use Rattle.nl_links.specs.Sides.{borders_of, kind_of}
 use Rattle.nl_links.proofs.Borders.{keeps-last, keeps-then, last-set}

@@ -1,5 +1,5 @@
 use Rattle.nl_value.specs.Plain.{PlainNumber}
-use Rattle.nl_layout.specs.BuiltIn.{heading_slot}
+use Rattle.nl_agents_layout.specs.BuiltIn.{heading_slot}
 use Rattle.nl_motion.proofs.Living.{lives_set}
 use Rattle.nl_motion.proofs.climbing.face.Goals as goal
 

@@ -1,7 +1,7 @@
 use Rattle.std.specs.Prelude.{length}
 use Rattle.std.proofs.Common.{arith, ap, ◌∙◌, sym, get_or}
 use Rattle.std.proofs.lemmas.Option.{slice_get-get_or}
-use Rattle.nl_layout.specs.BuiltIn.{zero_value}
+use Rattle.nl_agents_layout.specs.BuiltIn.{zero_value}
 use Rattle.nl_agents.specs.Changes.{cleared_from}
 use Rattle.nl_agents.proofs.Splices.{spliced_length, all_spliced}
 use Rattle.nl_plain.proofs.Cleared.{cleared_length, cleared_more}

@@ -4,8 +4,8 @@ use Rattle.nl_fixed.specs.Nouns.{Bytes}
 use Rattle.nl_value.specs.Plain.{Plain}
 use Rattle.nl_value.specs.Views.{plain}
 use Rattle.nl_value.specs.declared.values.Value.{Value}
-use Rattle.nl_acts.specs.Stage.{Scene}
-use Rattle.nl_frames.specs.Ground.{fits, ground_of}
+use Rattle.nl_exec_acts.specs.Stage.{Scene}
+use Rattle.nl_exec_meaning.specs.Ground.{fits, ground_of}
 use Rattle.nl_exec.specs.Machines.{world_of}
 use Rattle.nl_run.specs.Course.{Standing, metric_name, put_back, with_cell}
 use Rattle.nl_run.specs.Left.{cells_from, standing, stands}

@@ -4,7 +4,7 @@ use Rattle.std.specs.Prelude.{Option}
 use Rattle.nl_value.specs.Plain.{Plain}
 use Rattle.nl_value.specs.Views.{plain}
 use Rattle.nl_value.specs.declared.values.Value.{Value}
-use Rattle.nl_acts.specs.Stage.{Scene}
+use Rattle.nl_exec_acts.specs.Stage.{Scene}
 use Rattle.nl_run.specs.Course.{Standing, after_until, put_back, steps, truth_by}
 use Rattle.nl_run.specs.Left.{standing, stands}
 use Rattle.nl_run.specs.Plans.{job_in, lone_seen}

@@ -1,7 +1,7 @@
 -- What the slots so far have.
 use Rattle.std.proofs.Common.{◌≡◌, take}
-use Rattle.nl_layout.specs.BuiltIn.{first_of_link}
-use Rattle.nl_layout.specs.Layouts.{link_owns}
+use Rattle.nl_agents_layout.specs.BuiltIn.{first_of_link}
+use Rattle.nl_agents_layout.specs.Layouts.{link_owns}
 use Rattle.nl_agents.specs.World.{first_vars}
 use Rattle.nl_agents.proofs.variables.Variables.first_of_link.Given as goal
 

@@ -1,6 +1,6 @@
 -- What the slots so far have.
 use Rattle.std.proofs.Common.{◌≡◌, map, take, Some}
-use Rattle.nl_layout.specs.BuiltIn.{first_of_patch}
+use Rattle.nl_agents_layout.specs.BuiltIn.{first_of_patch}
 use Rattle.nl_agents.proofs.variables.Variables.first_of_patch.Given as goal
 
 abbrev pub invariant-loop-slot : goal.invariant-loop-slot

@@ -1,7 +1,7 @@
 -- What the slots so far have.
 use Rattle.std.proofs.Common.{◌≡◌, take}
-use Rattle.nl_layout.specs.BuiltIn.{first_of_turtle}
-use Rattle.nl_layout.specs.Layouts.{turtle_owns}
+use Rattle.nl_agents_layout.specs.BuiltIn.{first_of_turtle}
+use Rattle.nl_agents_layout.specs.Layouts.{turtle_owns}
 use Rattle.nl_agents.specs.World.{first_vars}
 use Rattle.nl_agents.proofs.variables.Variables.first_of_turtle.Given as goal
 

@@ -5,9 +5,9 @@ use Rattle.std.proofs.lemmas.List.{set-set, length-set}
 use Rattle.std.proofs.lemmas.Option.{slice_get-get_or}
 use Rattle.nl_value.specs.Plain.{Plain}
 use Rattle.nl_value.specs.Views.{plain}
-use Rattle.nl_layout.specs.Nouns.{Slot, Slots}
+use Rattle.nl_agents_layout.specs.Nouns.{Slot, Slots}
 use Rattle.nl_agents.specs.Nouns.{Vars}
-use Rattle.nl_layout.specs.Layouts.{turtle_owns}
+use Rattle.nl_agents_layout.specs.Layouts.{turtle_owns}
 use Rattle.nl_agents.specs.Changes.{bred_entry, bred_entries}
 use Rattle.nl_agents.proofs.Splices.{spliced, spliced_length, all_spliced, not_yet, bred_at, bred_length}
 use Rattle.nl_agents.proofs.variables.Variables.rebreed.Goals as goal

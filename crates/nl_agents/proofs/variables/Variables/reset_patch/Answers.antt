@@ -4,9 +4,9 @@ use Rattle.std.proofs.Common.{arith, ap, ap₂, ◌∙◌, sym, get_or}
 use Rattle.nl_value.specs.Plain.{Plain}
 use Rattle.std.proofs.lemmas.List.{length-map}
 use Rattle.std.proofs.lemmas.Option.{slice_get-map, slice_get-get_or}
-use Rattle.nl_layout.specs.Nouns.{Slot}
+use Rattle.nl_agents_layout.specs.Nouns.{Slot}
 use Rattle.nl_agents.specs.Nouns.{Vars}
-use Rattle.nl_layout.specs.BuiltIn.{first_of_patch}
+use Rattle.nl_agents_layout.specs.BuiltIn.{first_of_patch}
 use Rattle.nl_agents.specs.World.{first_patch_vars}
 use Rattle.nl_agents.proofs.Splices.{spliced, spliced_length, all_spliced}
 use Rattle.nl_agents.proofs.variables.Variables.reset_patch.Goals as goal

@@ -1,13 +1,13 @@
 -- What is kept of a checked program is steady, and where more is to come no unit is left, and all that were asked for could be spent.
 use Rattle.std.proofs.Common.{◌≡◌, ℕ, ◌+◌, Some, ap, subst, ◌∙◌, sym, arith}
-use Rattle.nl_frames.specs.Seen.{ended, state_of}
-use Rattle.nl_frames.specs.Sound.{IsSound}
-use Rattle.nl_levels.specs.declared.focus.Focus.TheVariants as focus
-use Rattle.nl_levels.specs.Rest.{rest, stopped, stop_exit}
+use Rattle.nl_exec_meaning.specs.Seen.{ended, state_of}
+use Rattle.nl_exec_meaning.specs.Sound.{IsSound}
+use Rattle.nl_exec_levels.specs.declared.focus.Focus.TheVariants as focus
+use Rattle.nl_exec_levels.specs.Rest.{rest, stopped, stop_exit}
 use Rattle.nl_exec.specs.Slices.{focus_of, rest_by}
 use Rattle.nl_exec.specs.Machines.{with_more}
 use Rattle.nl_exec.proofs.Opening.{well_open}
-use Rattle.nl_levels.proofs.Stops.{more_by, text_ends}
+use Rattle.nl_exec_levels.proofs.Stops.{more_by, text_ends}
 use Rattle.nl_exec.proofs.slices.Machine.advance.Goals as goal
 
 pub spend_units-requires-clause-steady : goal.spend_units-requires-clause-steady

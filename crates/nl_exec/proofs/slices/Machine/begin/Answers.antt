@@ -1,11 +1,11 @@
 -- With no level, the rest is what the text means.
 use Rattle.std.proofs.Common.{[], ap, ◌∙◌}
 use Rattle.nl_tree.specs.Views.{plain as tree}
-use Rattle.nl_meaning.specs.State.{with_locals, at_site}
-use Rattle.nl_meaning.specs.Meaning.{text_by}
-use Rattle.nl_frames.specs.Kept.{all_held}
+use Rattle.nl_exec_meaning.specs.State.{with_locals, at_site}
+use Rattle.nl_exec_meaning.specs.Meaning.{text_by}
+use Rattle.nl_exec_meaning.specs.Kept.{all_held}
 use Rattle.nl_exec.specs.Machines.{scene_of, first_state}
-use Rattle.nl_levels.proofs.Stops.{rest_start}
+use Rattle.nl_exec_levels.proofs.Stops.{rest_start}
 use Rattle.nl_exec.proofs.slices.Machine.begin.Goals as goal
 
 pub returns-clause-rest : goal.returns-clause-rest

@@ -1,7 +1,7 @@
 use Rattle.std.proofs.Common.{sym, subst, refl, false}
 use Rattle.std.proofs.lemmas.Bool.{both_ways}
 use Rattle.nl_grid.specs.Geometry.{IsWithinLimits}
-use Rattle.nl_sweep.specs.Sweep.{IsRun, plane_of_run}
+use Rattle.nl_experiment_sweep.specs.Sweep.{IsRun, plane_of_run}
 use Rattle.nl_experiment.specs.Plan.{order_of, world_of}
 use Rattle.nl_experiment.proofs.Worlds.{has_world}
 use Rattle.nl_experiment.proofs.experiment.Experiment.shape.Goals as goal

@@ -1,8 +1,8 @@
 use Rattle.std.proofs.Common.{◌≡◌, ◌∙◌, ℕ, true, Some, sym, ap, subst, inl, inr, arith, IsSomeAnd}
 use Rattle.std.proofs.lemmas.Bool.{cases_eq}
-use Rattle.nl_threads.proofs.Places.{at-other}
-use Rattle.nl_records.specs.Records.{record_at, fields_at}
-use Rattle.nl_records.proofs.Filing.{filed-other}
+use Rattle.nl_store_lists.proofs.Places.{at-other}
+use Rattle.nl_store_records.specs.Records.{record_at, fields_at}
+use Rattle.nl_store_records.proofs.Filing.{filed-other}
 use Rattle.nl_index.specs.Index.{by_birth, by_breed, by_patch, home_by, Fits}
 use Rattle.nl_index.proofs.Moves.{home-away}
 use Rattle.nl_index.proofs.Filings.{added-one, fields-kept, fits-kept, rising-added}

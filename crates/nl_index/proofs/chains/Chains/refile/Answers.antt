@@ -1,15 +1,15 @@
 use Rattle.std.proofs.Common.{◌≡◌, ◌≢◌, ◌∙◌, ℕ, Some, None, sym, ap, subst, refl, inl, inr, arith, cond, IsSomeAnd}
 use Rattle.std.proofs.lemmas.Bool.{cases_eq}
-use Rattle.nl_records.specs.Records.{record_at, fields_at}
-use Rattle.nl_records.proofs.Filing.{filed-other, filed-home}
+use Rattle.nl_store_records.specs.Records.{record_at, fields_at}
+use Rattle.nl_store_records.proofs.Filing.{filed-other, filed-home}
 use Rattle.nl_index.specs.Index.{by_birth, by_breed, by_patch, chain_of, home_by, Fits}
 use Rattle.nl_index.proofs.Moves.{home-here}
-use Rattle.nl_records.specs.Records.{settled, Sets}
-use Rattle.nl_records.specs.declared.fields.Body.{Body}
-use Rattle.nl_records.specs.declared.fields.Body.TheVariants.{Turtle}
-use Rattle.nl_records.specs.declared.fields.Fields.{Fields}
+use Rattle.nl_store_records.specs.Records.{settled, Sets}
+use Rattle.nl_store_records.specs.declared.fields.Body.{Body}
+use Rattle.nl_store_records.specs.declared.fields.Body.TheVariants.{Turtle}
+use Rattle.nl_store_records.specs.declared.fields.Fields.{Fields}
 use Rattle.std.specs.Option.{option_map}
-use Rattle.nl_records.specs.Filed.{IsFiled}
+use Rattle.nl_store_records.specs.Filed.{IsFiled}
 use Rattle.nl_index.specs.Rows.{borders_in, put_in, take_from}
 use Rattle.nl_index.specs.Index.{IsTurtle, birth_chain, serial_at, serial_in}
 use Rattle.nl_index.proofs.Filings.{moved-one, fields-kept, fields-settled, filed-settled, fits-kept, rising-settled, serials-settled, settled-other}

@@ -1,9 +1,9 @@
 use Rattle.std.proofs.Common.{◌≡◌, ◌∙◌, ℕ, true, false, Some, sym, subst, inl, inr, arith, IsSomeAnd}
 use Rattle.std.proofs.lemmas.Bool.{cases_eq}
-use Rattle.nl_threads.specs.Threads.{at_number}
-use Rattle.nl_threads.proofs.Places.{at-here, at-other}
-use Rattle.nl_records.specs.Records.{record_at, fields_at}
-use Rattle.nl_records.proofs.Filing.{filed-other}
+use Rattle.nl_store_lists.specs.Threads.{at_number}
+use Rattle.nl_store_lists.proofs.Places.{at-here, at-other}
+use Rattle.nl_store_records.specs.Records.{record_at, fields_at}
+use Rattle.nl_store_records.proofs.Filing.{filed-other}
 use Rattle.nl_index.specs.Index.{home_by}
 use Rattle.nl_index.proofs.Moves.{home-here}
 use Rattle.nl_index.proofs.Filings.{removed-one, fields-kept}

@@ -1,7 +1,7 @@
 use Rattle.std.proofs.Common.{subst, sym, map, List}
 use Rattle.nl_value.specs.Plain.{Plain}
 use Rattle.nl_value.specs.Views.{plain}
-use Rattle.nl_series.specs.Outcomes.{limited}
+use Rattle.nl_listops_series.specs.Outcomes.{limited}
 use Rattle.nl_listops.specs.declared.words.ValueWord.TheVariants as word
 use Rattle.nl_listops.specs.Answers.{Answers, word_answer}
 use Rattle.nl_listops.specs.inner.Steps.{within_or_not}

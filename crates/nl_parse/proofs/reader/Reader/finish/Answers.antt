@@ -1,6 +1,6 @@
-use Rattle.nl_reading.specs.inner.Reading.{mode_of, mode_names}
+use Rattle.nl_parse_reading.specs.inner.Reading.{mode_of, mode_names}
 use Rattle.nl_parse.specs.inner.State.{state_of, names_of, stack_of}
-use Rattle.nl_grammar.proofs.Over.{ends_over, tree_over}
+use Rattle.nl_parse_grammar.proofs.Over.{ends_over, tree_over}
 use Rattle.nl_parse.proofs.reader.Reader.finish.Goals as goal
 
 pub unreachable-requires : goal.unreachable-requires

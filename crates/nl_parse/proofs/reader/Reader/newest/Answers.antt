@@ -1,7 +1,7 @@
 use Rattle.std.proofs.Common.{◌≡◌, arith, ◌-◌, List, [], ◌∷◌, length, take, subst}
-use Rattle.nl_reading.specs.declared.frames.Frame.{Frame}
-use Rattle.nl_reading.specs.inner.Reading.{frame_of, frames_onto, names_onto}
-use Rattle.nl_reading.proofs.Capped.{newest_of}
+use Rattle.nl_parse_reading.specs.declared.frames.Frame.{Frame}
+use Rattle.nl_parse_reading.specs.inner.Reading.{frame_of, frames_onto, names_onto}
+use Rattle.nl_parse_reading.proofs.Capped.{newest_of}
 use Rattle.nl_parse.proofs.reader.Reader.newest.Goals as goal
 
 pub returns-in-len1-up-clause-stack : goal.returns-in-len1-up-clause-stack

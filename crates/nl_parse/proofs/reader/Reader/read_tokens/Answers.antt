@@ -1,7 +1,7 @@
 use Rattle.std.proofs.Common.{◌∙◌, ap, sym, subst}
 use Rattle.nl_scan.specs.Tokens.{IsTokenOf}
 use Rattle.nl_tree.specs.Vocabulary.{terms}
-use Rattle.nl_grammar.specs.Machine.{go, feed}
+use Rattle.nl_parse_grammar.specs.Machine.{go, feed}
 use Rattle.nl_parse.specs.inner.Stops.{StopsAt}
 use Rattle.nl_parse.specs.inner.State.{state_of}
 use Rattle.nl_parse.proofs.Run.{run_next, stops_in}

@@ -1,8 +1,8 @@
 use Rattle.std.proofs.Common.{◌≡◌, ◌≤◌, take}
 use Rattle.nl_tree.specs.Vocabulary.{terms}
 use Rattle.nl_tree.specs.BodyFault.{deepest}
-use Rattle.nl_grammar.specs.Machine.{go, run_from}
-use Rattle.nl_grammar.specs.Depth.{least_depth}
+use Rattle.nl_parse_grammar.specs.Machine.{go, run_from}
+use Rattle.nl_parse_grammar.specs.Depth.{least_depth}
 use Rattle.nl_parse.specs.inner.State.{state_of}
 use Rattle.nl_parse.proofs.Run.{toks_of}
 use Rattle.nl_parse.proofs.reader.Reader.read_tokens.Given as goal

@@ -2,9 +2,9 @@ use Rattle.std.proofs.Common.{◌∙◌, ap, sym}
 use Rattle.std.proofs.lemmas.Result.{IfOk-weaker, IfErr-weaker}
 use Rattle.nl_tree.specs.Vocabulary.{terms}
 use Rattle.nl_tree.specs.Views.{plain}
-use Rattle.nl_grammar.specs.Machine.{go, run_from}
+use Rattle.nl_parse_grammar.specs.Machine.{go, run_from}
 use Rattle.nl_parse.specs.inner.State.{state_of}
-use Rattle.nl_grammar.proofs.Good.{models_have_words}
+use Rattle.nl_parse_grammar.proofs.Good.{models_have_words}
 use Rattle.nl_parse.proofs.Run.{good_text, refused_within, refused_end, toks_of}
 use Rattle.nl_parse.proofs.reader.Reader.read_whole.Goals as goal
 

@@ -1,5 +1,5 @@
 use Rattle.std.proofs.Common.{◌≡◌, length}
-use Rattle.nl_grammar.specs.Machine.{settle}
+use Rattle.nl_parse_grammar.specs.Machine.{settle}
 use Rattle.nl_parse.specs.inner.State.{stack_of, names_of}
 use Rattle.nl_parse.proofs.reader.Reader.settle.Given as goal
 

@@ -5,7 +5,7 @@ use Rattle.nl_agents.specs.Changes.{birth_vars}
 use Rattle.nl_agents.specs.Standing.{IsWorld}
 use Rattle.nl_agents.specs.declared.agents.Turtle.{Turtle}
 use Rattle.nl_agents.proofs.Worlds.{born_is_world}
-use Rattle.nl_files.specs.Agents.{Agents}
+use Rattle.nl_store_files.specs.Agents.{Agents}
 use Rattle.nl_store.specs.Held.{world_in}
 use Rattle.nl_store.specs.Worlds.{birth_vars_among, world_with, AreOf}
 use Rattle.nl_store.proofs.Holds.{either-way, parent-found, room-for-turtles, still-of}

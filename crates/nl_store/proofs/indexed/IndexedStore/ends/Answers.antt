@@ -1,6 +1,6 @@
 use Rattle.std.proofs.Common.{◌≡◌, find, Some, subst}
 use Rattle.std.specs.Option.{option_map}
-use Rattle.nl_files.specs.Agents.{Agents}
+use Rattle.nl_store_files.specs.Agents.{Agents}
 use Rattle.nl_agents.specs.Changes.{is_link}
 use Rattle.nl_store.proofs.Holds.{first-lives, second-lives}
 use Rattle.nl_store.proofs.indexed.IndexedStore.ends.Goals as goal

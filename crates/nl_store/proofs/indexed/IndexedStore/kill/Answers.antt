@@ -1,7 +1,7 @@
 use Rattle.std.proofs.Common.{ap, subst, sym}
 use Rattle.nl_agents.specs.Standing.{IsWorld}
 use Rattle.nl_agents.proofs.Worlds.{killed_is_world}
-use Rattle.nl_files.specs.Agents.{Agents}
+use Rattle.nl_store_files.specs.Agents.{Agents}
 use Rattle.nl_store.specs.Held.{world_in}
 use Rattle.nl_store.specs.Worlds.{world_with}
 use Rattle.nl_store.proofs.Holds.{still-of}

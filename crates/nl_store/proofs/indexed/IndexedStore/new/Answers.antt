@@ -1,8 +1,8 @@
 use Rattle.std.proofs.Common.{◌∙◌, ap, subst, sym}
-use Rattle.nl_layout.specs.Layouts.{breeds_count}
+use Rattle.nl_agents_layout.specs.Layouts.{breeds_count}
 use Rattle.nl_agents.specs.Standing.{IsWorld}
 use Rattle.nl_agents.proofs.Worlds.{first_is_world}
-use Rattle.nl_files.specs.Agents.{Agents}
+use Rattle.nl_store_files.specs.Agents.{Agents}
 use Rattle.nl_store.proofs.Holds.{made-first}
 use Rattle.nl_store.proofs.indexed.IndexedStore.new.Goals as goal
 

@@ -8,8 +8,8 @@ use Rattle.nl_agents.specs.Changes.{changed_at, value_set}
 use Rattle.nl_agents.specs.declared.agents.Link.{Link}
 use Rattle.nl_agents.specs.declared.agents.Turtle.{Turtle}
 use Rattle.nl_agents.specs.declared.agents.Owner.TheVariants as owner
-use Rattle.nl_layout.specs.Nouns.{Slots}
-use Rattle.nl_files.specs.Agents.{links_filled, turtles_filled, Agents}
+use Rattle.nl_agents_layout.specs.Nouns.{Slots}
+use Rattle.nl_store_files.specs.Agents.{links_filled, turtles_filled, Agents}
 use Rattle.nl_store.specs.Held.{world_in}
 use Rattle.nl_store.specs.Worlds.{world_with}
 use Rattle.nl_store.proofs.Holds.{globals-written, observed-anew, of-the-same, patched-anew, revalued-stands, still-of}

@@ -4,7 +4,7 @@ use Rattle.nl_agents.specs.Nouns.{Vars}
 use Rattle.nl_agents.specs.Standing.{IsWorld}
 use Rattle.nl_agents.specs.declared.agents.Link.{Link}
 use Rattle.nl_agents.proofs.Worlds.{tied_is_world}
-use Rattle.nl_files.specs.Agents.{Agents}
+use Rattle.nl_store_files.specs.Agents.{Agents}
 use Rattle.nl_store.specs.Held.{world_in}
 use Rattle.nl_store.specs.Worlds.{world_with, AreOf}
 use Rattle.nl_store.proofs.Holds.{either-way, room-for-links, still-of}

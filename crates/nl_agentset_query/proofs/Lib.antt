@@ -1,0 +1,10 @@
+pub mod Boxes
+pub mod Chosen
+pub mod Counted
+pub mod Fitting
+pub mod Gathering
+pub mod Inside
+pub mod Places
+pub mod Regional
+pub mod United
+pub mod Uniting

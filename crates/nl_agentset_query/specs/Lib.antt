@@ -1,0 +1,10 @@
+pub mod Agents
+pub mod Choices
+pub mod Inputs
+pub mod Laws
+pub mod Near
+pub mod Orders
+pub mod Outcomes
+pub mod Unions
+pub mod Words
+pub mod inner

@@ -1,7 +1,0 @@
--- Whoever asked runs.
-use Rattle.std.proofs.Common.{refl}
-use Rattle.nl_frames.proofs.Standing.{stands_on}
-use Rattle.nl_answers.proofs.answering.back.Goals as goal
-
-pub returns-clause-stands : goal.returns-clause-stands
-returns-clause-stands g c = stands_on _ c.args.hands.now c.requires.fit.locals c.requires.site refl

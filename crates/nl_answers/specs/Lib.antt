@@ -1,3 +1,0 @@
-pub mod Extremes
-pub mod Turns
-pub mod inner

@@ -1,4 +1,0 @@
-pub mod Choosing
-pub mod Counted
-pub mod Inside
-pub mod Places

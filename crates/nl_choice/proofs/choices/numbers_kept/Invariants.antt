@@ -1,6 +1,0 @@
-use Rattle.std.proofs.Common.{◌≡◌, take}
-use Rattle.nl_choice.specs.Choices.{kept_from}
-use Rattle.nl_choice.proofs.choices.numbers_kept.Given as goal
-
-abbrev pub invariant-loop-at : goal.invariant-loop-at
-invariant-loop-at l = l.kept.items ≡ kept_from 0 l.places (take l.at l.numbers)

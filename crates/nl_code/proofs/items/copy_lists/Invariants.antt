@@ -1,6 +1,0 @@
--- Those so far are copied.
-use Rattle.std.proofs.Common.{◌≡◌, take}
-use Rattle.nl_code.proofs.items.copy_lists.Given as goal
-
-abbrev pub invariant-loop-list : goal.invariant-loop-list
-invariant-loop-list l = l.copied.items ≡ take l.list-index l.lists

@@ -1,4 +1,0 @@
-pub mod Words
-pub mod Cases
-pub mod Code
-pub mod inner

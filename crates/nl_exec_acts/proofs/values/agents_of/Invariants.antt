@@ -1,0 +1,6 @@
+use Rattle.std.proofs.Common.{◌≡◌, map, take}
+use Rattle.nl_agentset_query.specs.Agents.{agent_value}
+use Rattle.nl_exec_acts.proofs.values.agents_of.Given as goal
+
+abbrev pub invariant-loop-number : goal.invariant-loop-number
+invariant-loop-number l = l.items ≡ map (agent_value l.kind) (take l.number-index l.numbers)

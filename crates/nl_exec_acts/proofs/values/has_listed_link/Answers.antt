@@ -1,0 +1,23 @@
+use Rattle.std.proofs.Common.{sym, ◌∙◌}
+use Rattle.nl_agents.specs.Changes.{link_lives}
+use Rattle.nl_agents.specs.Members.{is_listed}
+use Rattle.nl_exec_acts.proofs.Membership.{some_links_listed, both_then, both_else}
+use Rattle.nl_exec_acts.proofs.values.has_listed_link.Goals as goal
+
+pub returns-then-contains : goal.returns-then-contains
+returns-then-contains g c =
+    let w = g.S.Store.world c.args.store.now in
+    let z = c.args.link in
+    c.link_lives.ensures
+    ∙ both_then (is_listed c.args.listed.now z) (link_lives w.rest z) _
+    (some_links_listed w c.args.listed.now z c.shape-stands.ensures.stands c.as_slice-ascending.ensures.ascending)
+    (sym c.contains.ensures ∙ c.if-contains.true)
+
+pub returns-else-contains : goal.returns-else-contains
+returns-else-contains g c =
+    let w = g.S.Store.world c.args.store.now in
+    let z = c.args.link in
+    c.contains.ensures
+    ∙ both_else (is_listed c.args.listed.now z) (link_lives w.rest z) _
+    (some_links_listed w c.args.listed.now z c.shape-stands.ensures.stands c.as_slice-ascending.ensures.ascending)
+    (sym c.contains.ensures ∙ c.if-contains.false)

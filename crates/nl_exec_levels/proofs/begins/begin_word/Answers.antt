@@ -1,0 +1,31 @@
+-- A word is one of the cases.
+use Rattle.std.proofs.Common.{◌∙◌, arith}
+use Rattle.nl_exec_meaning.specs.Cases as case
+use Rattle.nl_exec_meaning.specs.Work.{next_work}
+use Rattle.nl_exec_dispatch.proofs.Entering.{falls_below}
+use Rattle.nl_exec_meaning.specs.Code.{node_at}
+use Rattle.nl_exec_meaning.specs.Meaning.{cases}
+use Rattle.nl_exec_meaning.specs.Seen.{state_of}
+use Rattle.nl_exec_dispatch.proofs.Entering.{cases_out}
+use Rattle.nl_exec_levels.proofs.Following.{comes_to}
+use Rattle.nl_exec_levels.proofs.begins.begin_word.Goals as goal
+
+pub returns-clause-rest : goal.returns-clause-rest
+returns-clause-rest g c =
+    let code = c.args.code.now in
+    let t = node_at code c.args.node in
+    comes_to code c.args.levels.now.items c.args.node (λ prev s. cases code.program prev t s)
+    c.follow.new.levels.items c.in_ok-focus.focus c.in_ok-next.next c.enter_word.new.hands c.args.hands.now
+    c.in_ok-focus.ensures.rest (λ prev units thrifty.
+    let s = state_of code.names c.args.hands.now units in
+    c.in_ok-next.ensures.meaning prev units thrifty ∙ cases_out code.program prev t s (case.Word c.args.runs c.args.breed c.args.word) c.requires.is)
+
+pub returns-clause-work : goal.returns-clause-work
+returns-clause-work g c =
+    let code = c.args.code.now in
+    let t = node_at code c.args.node in
+    omega (
+      arith,
+      c.in_ok-focus.ensures.work,
+      falls_below code.program.declared t (case.Word c.args.runs c.args.breed c.args.word) (next_work code c.in_ok-next.next) c.requires.is tt c.in_ok-next.ensures.falls,
+    )

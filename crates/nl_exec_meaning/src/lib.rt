@@ -1,0 +1,33 @@
+//! What a text means: the nodes of a program, what the plain machine does at each, and the frames of what is under way.
+#![tactic(auto)]
+
+pub mod arena;
+pub mod boxed;
+pub mod children;
+pub mod ends;
+pub mod exits;
+pub mod frames;
+pub mod hands;
+pub mod item;
+mod items;
+pub mod laws;
+pub mod local_names;
+pub mod locals;
+mod naming;
+pub mod numbers;
+mod resolve;
+pub mod sites;
+pub mod sound;
+pub mod turns;
+pub mod words;
+
+pub use arena::Code;
+pub use boxed::{BoxedAnswers, BoxedSite, BoxedTurns};
+pub use exits::Exit;
+pub use frames::{Frame, Next};
+pub use hands::Hands;
+pub use item::{Item, Op};
+pub use locals::{Local, Locals};
+pub use sites::Site;
+pub use turns::{Answered, Answers, Gathered, Turns};
+pub use words::{Apart, Built, Control, Making, Over, Spread, apart_word, built_word};

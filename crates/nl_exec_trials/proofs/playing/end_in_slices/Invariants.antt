@@ -1,6 +1,0 @@
--- The text is open.
-use Rattle.nl_exec.specs.Machines.{IsOpen}
-use Rattle.nl_exec_trials.proofs.playing.end_in_slices.Given as goal
-
-abbrev pub invariant-loop : goal.invariant-loop
-invariant-loop g l = IsOpen l.machine

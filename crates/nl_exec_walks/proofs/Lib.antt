@@ -1,0 +1,16 @@
+pub mod Asking
+pub mod Best
+pub mod Births
+pub mod Choosing
+pub mod Collecting
+pub mod Fitting
+pub mod Giving
+pub mod Members
+pub mod Passing
+pub mod Ranking
+pub mod Rising
+pub mod Skipping
+pub mod Still
+pub mod Through
+pub mod Turning
+pub mod Turns

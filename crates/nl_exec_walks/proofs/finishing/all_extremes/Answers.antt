@@ -1,0 +1,27 @@
+-- The extremes are members, which ascend and fit.
+use Rattle.std.proofs.Common.{IsTrue, List, ℕ, ap, ◌∙◌, sym, subst}
+use Rattle.std.specs.List.Sorted.{IsStrictlyIncreasing}
+use Rattle.nl_value.specs.Plain.{Plain}
+use Rattle.nl_agentset_query.specs.Agents.{listed_value}
+use Rattle.nl_exec_meaning.specs.State.{gives}
+use Rattle.nl_exec_meaning.specs.Walks.{extremes, is_extreme}
+use Rattle.nl_exec_meaning.specs.Ground.{fits}
+use Rattle.nl_exec_walks.proofs.Fitting.{kept_ascend, kept_fit, listed_fits}
+use Rattle.nl_exec_walks.proofs.finishing.all_extremes.Goals as goal
+
+pub listed_value-requires : goal.listed_value-requires
+listed_value-requires c =
+    let made = c.args.made.now in
+    subst (λ (ms : List ℕ). IsStrictlyIncreasing ms) (sym (c.in_ok-members.ensures ∙ ap (extremes c.args.up) c.as_slice.ensures)) (kept_ascend (is_extreme c.args.up made) made c.requires)
+
+pub returns-clause-meaning : goal.returns-clause-meaning
+returns-clause-meaning c = λ s.
+    ap (λ (p : Plain). gives p s)
+    (c.listed_value.ensures ∙ ap (listed_value c.args.which) (c.in_ok-members.ensures ∙ ap (extremes c.args.up) c.as_slice.ensures))
+
+pub returns-clause-fits : goal.returns-clause-fits
+returns-clause-fits c = λ now fit.
+    let made = c.args.made.now in
+    subst (λ (p : Plain). IsTrue (fits now p))
+    (sym (c.listed_value.ensures ∙ ap (listed_value c.args.which) (c.in_ok-members.ensures ∙ ap (extremes c.args.up) c.as_slice.ensures)))
+    (listed_fits now c.args.which (extremes c.args.up made) (kept_fit now c.args.which (is_extreme c.args.up made) made fit))

@@ -1,0 +1,4 @@
+mod Depths
+pub mod Keys
+pub mod Texts
+pub mod Walks

@@ -1,0 +1,5 @@
+pub mod Document
+pub mod Literals
+pub mod Reading
+pub mod Rows
+pub mod inner

@@ -1,4 +1,0 @@
-use Rattle.nl_files.proofs.looking.fields_of.Given as goal
-
-abbrev pub ghosts-fields_counted : goal.ghosts-fields_counted
-ghosts-fields_counted a = record { name = a.blank.name; parts = a.blank.parts }

@@ -1,7 +1,0 @@
--- The answers so far are copied.
-use Rattle.std.proofs.Common.{◌≡◌, take, map}
-use Rattle.nl_frames.specs.inner.Seen.{answered}
-use Rattle.nl_frames.proofs.turns.Answers.copy.Given as goal
-
-abbrev pub invariant-loop-answer : goal.invariant-loop-answer
-invariant-loop-answer l = l.copied ≡ map answered (take l.answer-index l.answer-items)

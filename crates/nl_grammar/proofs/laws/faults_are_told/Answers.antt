@@ -1,5 +1,0 @@
-use Rattle.nl_grammar.proofs.FaultKinds.{faults_are_told}
-use Rattle.nl_grammar.proofs.laws.faults_are_told.Goals as goal
-
-pub returns : goal.returns
-returns c = faults_are_told

@@ -1,5 +1,0 @@
-pub mod Completion
-pub mod Depth
-pub mod Fault
-pub mod Laws
-pub mod Machine

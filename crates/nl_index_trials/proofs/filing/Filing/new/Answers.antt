@@ -1,6 +1,0 @@
-use Rattle.nl_records.specs.Records.{record_at}
-use Rattle.nl_index_trials.proofs.Keeping.{filing-new}
-use Rattle.nl_index_trials.proofs.filing.Filing.new.Goals as goal
-
-pub invariant_of-result : goal.invariant_of-result
-invariant_of-result c = filing-new _ (record_at c.new-2.result) c.args.shape c.args.breeds c.new-2.ensures (c.in_ok-chains.ensures.empty (record_at c.new-2.result)) c.in_ok-chains.ensures.size

@@ -1,6 +1,0 @@
-use Rattle.std.proofs.Common.{rules}
-use Rattle.nl_index_trials.proofs.Keeping.{filing-moved}
-use Rattle.nl_index_trials.proofs.filing.Filing.refile.Goals as goal
-
-pub invariant_of-self : goal.invariant_of-self
-invariant_of-self c = filing-moved _ _ _ _ _ _ _ c.args.key c.args.to c.args.breed c.self.invariant (search rules) c.refile.ensures.refiled c.refile.ensures.others c.refile.ensures.size

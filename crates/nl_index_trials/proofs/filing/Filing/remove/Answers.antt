@@ -1,6 +1,0 @@
-use Rattle.std.proofs.Common.{rules}
-use Rattle.nl_index_trials.proofs.Keeping.{filing-less}
-use Rattle.nl_index_trials.proofs.filing.Filing.remove.Goals as goal
-
-pub invariant_of-self : goal.invariant_of-self
-invariant_of-self c = filing-less _ _ _ _ _ _ _ _ c.args.key c.self.invariant (search rules) c.remove.ensures.removed c.remove.ensures.others c.take.ensures.taken c.remove.ensures.size

@@ -1,4 +1,0 @@
-use Rattle.nl_index_trials.proofs.records.is_held.Given as goal
-
-abbrev pub ghosts-held_counted : goal.ghosts-held_counted
-ghosts-held_counted a = record { name = a.blank.name; parts = a.blank.parts }

@@ -1,5 +1,0 @@
-use Rattle.std.proofs.Common.{◌≡◌, take}
-use Rattle.nl_layout.proofs.layout.BreedLayouts.copy.Given as goal
-
-abbrev pub invariant-loop-breed : goal.invariant-loop-breed
-invariant-loop-breed l = l.copied ≡ take l.breed-index l.self

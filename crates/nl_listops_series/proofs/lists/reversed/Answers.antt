@@ -1,0 +1,7 @@
+use Rattle.std.proofs.Common.{arith}
+use Rattle.nl_value.specs.Views.{plain}
+use Rattle.nl_listops_series.proofs.Cuts.{reverse-map}
+use Rattle.nl_listops_series.proofs.lists.reversed.Goals as goal
+
+pub returns : goal.returns
+returns c = let turned = reverse-map plain c.as_slice.result.now in grind (arith, turned)

@@ -1,8 +1,0 @@
--- Laws that meanings keep.
-use Rattle.std.specs.Prelude.{◌≤◌}
-use Rattle.nl_tree.specs.Tree.{Node}
-use Rattle.nl_meaning.specs.State.{State, Eval}
-
--- no evaluation gives back more units than it was given
-abbrev pub Thrifty : Eval → Type 0
-Thrifty prev = (t : Node) (s : State) → (prev t s).state.units ≤ s.units

@@ -1,6 +1,0 @@
-use Rattle.std.proofs.Common.{◌≡◌, take, filter}
-use Rattle.nl_members.specs.inner.Regions.{is_kept}
-use Rattle.nl_members.proofs.near.Region.turtles_of.Given as goal
-
-abbrev pub invariant-loop-number : goal.invariant-loop-number
-invariant-loop-number g l = l.kept.items ≡ filter (is_kept (g.S.Store.world l.store).rest l.self l.breed) (take l.number-index l.numbers)

@@ -1,5 +1,0 @@
-use Rattle.nl_outline.proofs.Lengths.{have_lengths}
-use Rattle.nl_outline.proofs.laws.declarations_have_lengths.Goals as goal
-
-pub returns : goal.returns
-returns c = have_lengths

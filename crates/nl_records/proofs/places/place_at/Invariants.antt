@@ -1,4 +1,0 @@
-use Rattle.nl_records.proofs.places.place_at.Given as goal
-
-abbrev pub ghosts-place_counted : goal.ghosts-place_counted
-ghosts-place_counted a = record { name = a.blank.name; parts = a.blank.parts }

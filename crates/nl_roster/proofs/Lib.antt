@@ -1,5 +1,0 @@
-mod Copies
-mod Cutting
-mod Lists
-mod Rosters
-mod Tallies

@@ -1,6 +1,0 @@
--- The run has not ended.
-use Rattle.nl_run.specs.Runs.{HasEnded}
-use Rattle.nl_run_trials.proofs.playing.ends_in_slices.Given as goal
-
-abbrev pub invariant-loop : goal.invariant-loop
-invariant-loop g l = HasEnded l.run → ⊥

@@ -1,5 +1,0 @@
-use Rattle.nl_run_trials.proofs.Written.{written}
-use Rattle.nl_run_trials.proofs.playing.experiment_of.Goals as goal
-
-pub returns-in-Ok : goal.returns-in-Ok
-returns-in-Ok c = written c.args.file.now c.in-Ok.experiment c.in-Ok.ensures

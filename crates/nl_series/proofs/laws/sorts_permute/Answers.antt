@@ -1,5 +1,0 @@
-use Rattle.nl_series.proofs.Ascents.{sorts_permute}
-use Rattle.nl_series.proofs.laws.sorts_permute.Goals as goal
-
-pub returns : goal.returns
-returns c = sorts_permute c.all_values_have_an_order.ensures

@@ -1,6 +1,0 @@
-use Rattle.std.proofs.Common.{◌≡◌, ◌+◌, drop}
-use Rattle.nl_series.specs.inner.Pieces.{skipped}
-use Rattle.nl_series.proofs.occurrences.end_of_character.Given as goal
-
-abbrev pub invariant-loop-end : goal.invariant-loop-end
-invariant-loop-end l = skipped (drop l.end l.bytes) ≡ skipped (drop (l.place + 1) l.bytes)

@@ -1,6 +1,0 @@
-use Rattle.std.proofs.Common.{◌≡◌, ◌==◌, map, take}
-use Rattle.std.specs.Prelude.{count_by}
-use Rattle.nl_series.proofs.repeats.times.Given as goal
-
-abbrev pub invariant-loop-number : goal.invariant-loop-number
-invariant-loop-number l = l.times.items ≡ map (λ n. count_by (λ m. m == n) l.numbers) (take l.number-index l.numbers)

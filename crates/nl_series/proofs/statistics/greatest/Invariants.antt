@@ -1,6 +1,0 @@
-use Rattle.std.proofs.Common.{◌≡◌, take, fold}
-use Rattle.nl_series.specs.Statistics.{larger}
-use Rattle.nl_series.proofs.statistics.greatest.Given as goal
-
-abbrev pub invariant-loop-number : goal.invariant-loop-number
-invariant-loop-number l = l.greatest ≡ fold larger l.initial.greatest (take l.number-index l.others)

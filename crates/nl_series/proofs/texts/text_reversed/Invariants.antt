@@ -1,5 +1,0 @@
-use Rattle.nl_series.specs.inner.Turning.{IsTurned}
-use Rattle.nl_series.proofs.texts.text_reversed.Given as goal
-
-abbrev pub invariant-loop-place : goal.invariant-loop-place
-invariant-loop-place l = IsTurned l.bytes l.place l.end l.turned

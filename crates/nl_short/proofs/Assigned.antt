@@ -1,3 +1,0 @@
--- What lemmas say of variables, for who sets them to what is had at once.
-pub use Rattle.nl_variables.proofs.Assigning.{global_revalued}
-pub use Rattle.nl_variables.proofs.LocalValues.{index_within}

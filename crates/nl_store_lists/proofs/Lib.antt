@@ -1,0 +1,11 @@
+pub mod Collected
+pub mod Collecting
+pub mod Examples
+pub mod Inverses
+pub mod Members
+pub mod Places
+pub mod Rising
+pub mod Rolls
+pub mod Threaded
+pub mod Walked
+pub mod Walks

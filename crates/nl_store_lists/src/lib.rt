@@ -1,0 +1,4 @@
+//! Lists of keys that stand after each other, and of numbered items under keys: laws alone.
+#![tactic(auto)]
+
+pub mod laws;

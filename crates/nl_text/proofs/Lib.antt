@@ -1,3 +1,0 @@
-pub mod Meant
-mod Numbers
-mod Split

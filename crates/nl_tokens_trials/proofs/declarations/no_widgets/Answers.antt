@@ -1,5 +1,0 @@
-use Rattle.nl_model.proofs.Widgets.{none_are_widgets}
-use Rattle.nl_tokens_trials.proofs.declarations.no_widgets.Goals as goal
-
-pub returns : goal.returns
-returns c = rw c.empty.ensures none_are_widgets

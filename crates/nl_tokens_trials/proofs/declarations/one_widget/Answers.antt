@@ -1,5 +1,0 @@
-use Rattle.nl_model.proofs.Widgets.{speed_is_a_widget}
-use Rattle.nl_tokens_trials.proofs.declarations.one_widget.Goals as goal
-
-pub returns : goal.returns
-returns c = rw (c.in_ok-push.ensures.ok, c.empty-names.ensures, c.in_ok-name.ensures.ok) speed_is_a_widget

@@ -1,5 +1,0 @@
-use Rattle.nl_trials.proofs.Widgets.{speed_is_a_widget}
-use Rattle.nl_trials.proofs.trial_model.one_widget.Goals as goal
-
-pub returns : goal.returns
-returns c = rw (c.in_ok-push.ensures.ok, c.empty-names.ensures, c.in_ok-name.ensures.ok) speed_is_a_widget

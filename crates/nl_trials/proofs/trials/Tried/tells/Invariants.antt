@@ -1,4 +1,0 @@
-use Rattle.nl_trials.proofs.trials.Tried.tells.Given as goal
-
-abbrev pub ghosts-counts : goal.ghosts-counts
-ghosts-counts g a = record { name = a.blank.name; parts = a.blank.parts }

@@ -1,5 +1,0 @@
--- The count is the one that the call begins.
-use Rattle.nl_turns.proofs.agents.members.Given as goal
-
-abbrev pub ghosts-members_by : goal.ghosts-members_by
-ghosts-members_by g a = record { name = a.blank.name; parts = a.blank.parts }

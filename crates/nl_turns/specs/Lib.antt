@@ -1,4 +1,0 @@
-pub mod Turning
-pub mod Telling
-pub mod Groups
-pub mod Births

@@ -1,3 +1,0 @@
-mod Joining
-mod Sets
-pub mod Rows

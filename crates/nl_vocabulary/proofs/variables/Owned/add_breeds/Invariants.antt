@@ -1,8 +1,0 @@
-use Rattle.std.proofs.Common.{drop}
-use Rattle.nl_vocabulary.specs.inner.Index.{AddsOwn}
-use Rattle.nl_vocabulary.specs.declared.variables.Owned.{Owned}
-use Rattle.nl_vocabulary.proofs.variables.Owned.add_breeds.Given as goal
-
--- the variables of the rest are all that is left to add
-abbrev pub invariant-breeds : goal.invariant-breeds
-invariant-breeds l = (later : Owned) → AddsOwn l.self (drop l.breed-index l.breeds) later → AddsOwn l.fn.self l.breeds later

@@ -1,7 +1,0 @@
-use Rattle.std.proofs.Common.{◌≡◌, ◌++◌, drop}
-use Rattle.nl_vocabulary.specs.inner.Index.{beyond}
-use Rattle.nl_vocabulary.proofs.variables.append_new.Given as goal
-
--- the new names so far stand there, and the rest follows
-abbrev pub invariant-more : goal.invariant-more
-invariant-more l = l.names ++ beyond l.seen (drop l.name-index l.more) ≡ l.fn.names ++ beyond l.seen l.more

@@ -1,0 +1,5 @@
+use Rattle.nl_check_model.proofs.Widgets.{none_are_widgets}
+use Rattle.trial_decl.proofs.declarations.no_widgets.Goals as goal
+
+pub returns : goal.returns
+returns c = rw c.empty.ensures none_are_widgets

@@ -1,0 +1,4 @@
+use Rattle.trial_stores.proofs.trials.Tried.tells.Given as goal
+
+abbrev pub ghosts-counts : goal.ghosts-counts
+ghosts-counts g a = record { name = a.blank.name; parts = a.blank.parts }
