@@ -7,7 +7,7 @@ ends 0
 writes_nothing
 tells ''
 
-mkdir -p "$work"/calls/crates/{low,low_trials}/src
+mkdir -p "$work"/calls/crates/{low,trial_low}/src
 cd -- "$work/calls" || exit 1
 cat > crates/low/src/lib.rt << 'END'
 pub fn any(members: &[u64]) -> bool
@@ -37,7 +37,7 @@ impl Stack {
     }
 }
 END
-cp crates/low/src/lib.rt crates/low_trials/src
+cp crates/low/src/lib.rt crates/trial_low/src
 
 begin 'self-calls: functions and methods that call themselves are told'
 printf '%s\n' 'crates/low/src/lib.rt:1: any' 'crates/low/src/lib.rt:21: drop_all' > wanted
