@@ -40,7 +40,7 @@ sed -i '/^Proved with/d' repo/README.md
 in_repo commit --quiet --all --message 'Say no kit'
 package_refuses 'a commit that says no kit' 'README.md has no line that says by which kit the program is proved'
 in_repo checkout --quiet HEAD~ -- README.md
-sed -i 's/| modellers:/| readers:/' repo/README.md
+sed -i 's/^- \*\*For modellers/- **For readers/' repo/README.md
 in_repo commit --quiet --all --message 'List no page'
 package_refuses 'a commit that lists no page' 'README.md lists no page for modellers'
 in_repo checkout --quiet HEAD~2 -- README.md
