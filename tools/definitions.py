@@ -1,6 +1,6 @@
-"""Read the definitions of the crates: which there are, and which are reached from those that a text names.
+"""Read the crates and their definitions: which there are, and which are reached from those that a text names.
 
-For the tools that make pages of them (headline, word-index). Wanted is Python 3.9 or later.
+For the tools that make pages of them (headline, word-index, gate-table). Wanted is Python 3.9 or later.
 """
 import os
 import re
@@ -10,7 +10,7 @@ TOP = os.path.realpath(os.path.join(os.path.dirname(__file__), ".."))
 START = "crates/nl_cli/src/top.rt"
 CALL = "run"
 HEADER = re.compile(r"^(?:(?:abbrev|pub|unfoldable|opaque|data|record|mutual)\s+)*(?:pub )?(\S+)")
-ITEM = re.compile(r"^(?:abbrev|pub|unfoldable|opaque|data|record)\b")
+ITEM = re.compile(r"^(?:abbrev|pub(?! mod\b)|unfoldable|opaque|data|record)\b")
 IMPORT = re.compile(r"^\s*(?:pub\s+|ghost\s+)?use\s+([^\s{;]+?)(?:\.\{([^}]*)\})?(?:\s+as\s+(\S+?))?;?\s*$")
 MEMBER = re.compile(r"^\s+(?:pub )?(\S+) :(?= |$)")
 WORDS = re.compile(r"[^\s(){},;@\"]+")
@@ -38,6 +38,14 @@ class File:
         for at, block in enumerate(self.blocks):
             for name in defined_in(block):
                 self.defined.setdefault(name, at)
+
+    def crate(self):
+        """Returns the name of the crate that the file belongs to."""
+        return self.path.split("/")[1]
+
+    def is_inner(self):
+        """Returns whether the file is for the proofs of its crate alone."""
+        return "/inner/" in self.path
 
     def take_import(self, path, names, alias):
         """Notes the names, or the module, of one import."""
@@ -70,6 +78,24 @@ def defined_in(block):
         inner = MEMBER.match(re.sub(r"^(\s+)(?:(?:abbrev|pub|data|record|unfoldable)\s+)+", r"\1", line))
         if inner:
             yield inner[1]
+
+
+def read_crates():
+    """Returns the crates as crates.txt has them: of each its room, its name and the names of those that it stands on."""
+    found, room = [], ""
+    with open(f"{TOP}/crates.txt", encoding="utf-8") as file:
+        for line in file:
+            name, colon, below = line.partition(":")
+            if line.startswith("#"):
+                room = line[1:].strip().rstrip(".")
+            elif colon:
+                found.append((room, name.strip(), below.split()))
+    return found
+
+
+def is_of_tests(crate):
+    """Returns whether a crate has tests alone, by its name."""
+    return crate.startswith("trial_") or crate == "nlspace_trials"
 
 
 def module_of(path):
@@ -172,19 +198,23 @@ def write_page(path, text):
 
 
 def is_written(path, text):
-    """Returns whether a page of this repository has this text."""
+    """Returns whether a page of this repository is there and has this text."""
+    if not os.path.isfile(f"{TOP}/{path}"):
+        return False
     with open(f"{TOP}/{path}", encoding="utf-8") as file:
         return file.read() == text
 
 
-def write_or_check(tool, path, text, words):
-    """Writes a page, or with --check tells whether it has this text. Returns the status of the tool."""
+def write_or_check(tool, pages, words):
+    """Writes pages, or with --check tells which of them haven't these texts. Returns the status of the tool."""
     if words not in ([], ["--check"]):
         print(f"{tool}: the only word is --check", file=sys.stderr)
         return 1
-    if not words:
-        write_page(path, text)
-    elif not is_written(path, text):
-        print(f"{tool}: {path} is out of date; tools/{tool} writes it", file=sys.stderr)
-        return 1
-    return 0
+    status = 0
+    for path, text in pages.items():
+        if not words:
+            write_page(path, text)
+        elif not is_written(path, text):
+            print(f"{tool}: {path} is out of date; tools/{tool} writes it", file=sys.stderr)
+            status = 1
+    return status

@@ -1,7 +1,7 @@
 # Tests of headline. Sourced by tools/test.
 # shellcheck shell=bash disable=SC2154
 
-begin 'headline: the page is up to date'
+begin 'headline: the pages are up to date'
 run "$tools/headline" --check
 ends 0
 writes_nothing
@@ -10,7 +10,7 @@ tells ''
 mkdir -p "$work"/headline/{docs,tools,crates/nl_cli/{src,specs},crates/low/{src,specs/inner}}
 cd -- "$work/headline" || exit 1
 cp -- "$tools/headline" "$tools/definitions.py" tools
-printf 'nl_cli: low\nlow:\n' > crates.txt
+printf '# Crates.\n\n# Below.\nlow:\n\n# Above.\nnl_cli: low\n' > crates.txt
 cat > crates/nl_cli/src/top.rt << 'END'
 ghost use Rattle.nl_cli.specs.Answer.{Answered, Unused};
 ghost use Rattle.low.specs.Words as spec;
@@ -66,6 +66,10 @@ abbrev pub parts : Words → Command
 parts words = words
 END
 printf '// Never read\n' > crates/low/specs/Other.antt
+printf -- '-- A list of modules.\npub mod Words\n' > crates/low/specs/Lib.antt
+printf -- '-- Steps.\nabbrev pub Step : Type 0\nStep = Words\n' > crates/low/specs/inner/Aside.antt
+printf -- '-- Other kinds. They are never asked for.\ndata pub Other : Type 0 where\n  pub other : Other\n' > crates/low/specs/Further.antt
+printf -- '-- Laws of\n-- answers.\nabbrev pub Law : Type 0\nLaw = Unused\n' > crates/nl_cli/specs/Laws.antt
 touch crates/low/src/kinds.rt
 
 begin 'headline: what the clauses of the top call reach, and nothing else'
@@ -86,14 +90,39 @@ writes wanted
 run tools/headline --check
 ends 0
 
-begin 'headline: a page that is out of date is told and left'
-printf '\n' >> docs/HEADLINE.md
-cp docs/HEADLINE.md kept
+begin 'headline: each other file with a definition, by rooms'
+cat > wanted << 'END'
+## Below
+| file | what it defines |
+|---|---|
+| `low/specs/Further.antt` | Other kinds |
+| `low/specs/inner/Aside.antt` | Steps |
+## Above
+| file | what it defines |
+|---|---|
+| `nl_cli/specs/Laws.antt` | Laws of answers |
+END
+run grep '^|\|^##' docs/DEFINITIONS.md
+writes wanted
+
+for page in HEADLINE DEFINITIONS; do
+    begin "headline: a page that is out of date is told and left: $page"
+    run tools/headline
+    printf '\n' >> "docs/$page.md"
+    cp "docs/$page.md" kept
+    run tools/headline --check
+    ends 1
+    tells "headline: docs/$page.md is out of date; tools/headline writes it"
+    run cmp "docs/$page.md" kept
+    ends 0
+done
+
+begin 'headline: a page that is not there is told'
+run tools/headline
+rm docs/DEFINITIONS.md
 run tools/headline --check
 ends 1
-tells 'headline: docs/HEADLINE.md is out of date; tools/headline writes it'
-run cmp docs/HEADLINE.md kept
-ends 0
+tells 'headline: docs/DEFINITIONS.md is out of date; tools/headline writes it'
 
 begin 'headline: another word'
 run tools/headline low

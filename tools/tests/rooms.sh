@@ -1,4 +1,4 @@
-# Tests of the list of crates, by rooms. Sourced by tools/test.
+# Tests of what pages say of crates and their files. Sourced by tools/test.
 # shellcheck shell=bash disable=SC2154
 
 begin 'rooms: the README has each crate of crates.txt once, by the same rooms and in their order'
@@ -11,3 +11,11 @@ awk '/^## / { is_list = /What is proved/ }
 run diff "$work/rooms" "$work/listed"
 ends 0
 [[ -s $work/rooms ]] || fail 'there are no rooms'
+
+begin 'rooms: each file of a crate that a page for developers names is there'
+cat "$tools"/../docs/{ARCHITECTURE,GATE,TRIALS}.md | grep --only-matching --extended-regexp '`(nl|nlspace|trial)_?[a-z_]*/[^` ]*`' |
+    tr --delete '`' | sort --unique > "$work/named"
+while read -r file; do
+    [[ -e $tools/../crates/$file || -f $tools/../crates/$file.antt ]] || fail "there is no $file"
+done < "$work/named"
+(($(wc --lines < "$work/named") > 50)) || fail 'it names hardly any file'

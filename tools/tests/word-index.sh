@@ -11,6 +11,10 @@ begin 'word-index: each word has a section, a definition and code'
 run grep --extended-regexp '^\| `[^`]+` \|( *\||.*\| +\| [^|]*\|$|.*\| +\|$)' "$tools/../docs/INDEX.md"
 ends 1
 
+begin 'word-index: no crate of tests alone does what a word says'
+run grep --extended-regexp '`(trial_[a-z_]+|nlspace_trials)/' "$tools/../docs/INDEX.md"
+ends 1
+
 begin 'word-index: each file that it names is there'
 grep --only-matching --extended-regexp '`nl_[a-z_]+/[^`]+`' "$tools/../docs/INDEX.md" | tr --delete '`' | sort --unique > "$work/named"
 while read -r file; do
