@@ -62,7 +62,9 @@ pub trait Files {
         ensures cause { IsErrOf result ReadFail.Failed → Rose (faults self.old) (faults self.new) }
         ensures place { IsErrOf result ReadFail.Failed → last_fault self.new ≡ path.now }
         ensures ok { OnOk result (faults self.new ≡ faults self.old) }
+        ensures same_place { OnOk result (last_fault self.new ≡ last_fault self.old) }
         ensures want { IsErrOf result ReadFail.NoMemory → faults self.new ≡ faults self.old }
+        ensures want_place { IsErrOf result ReadFail.NoMemory → last_fault self.new ≡ last_fault self.old }
         ensures later { faults self.old ≤ faults self.new }
         ensures same_folder { folder self.new ≡ folder self.old }
         ensures same_paths { serves self.new ≡ serves self.old };

@@ -61,7 +61,9 @@ impl<'a, R: rt::Files> Files for HostFiles<'a, R> {
         ensures cause { IsErrOf result ReadFail.Failed → Rose self.old.faults self.new.faults }
         ensures place { IsErrOf result ReadFail.Failed → self.new.last_fault ≡ path.now }
         ensures ok { OnOk result (self.new.faults ≡ self.old.faults) }
+        ensures same_place { OnOk result (self.new.last_fault ≡ self.old.last_fault) }
         ensures want { IsErrOf result ReadFail.NoMemory → self.new.faults ≡ self.old.faults }
+        ensures want_place { IsErrOf result ReadFail.NoMemory → self.new.last_fault ≡ self.old.last_fault }
         ensures later { self.old.faults ≤ self.new.faults }
 
         // A fault counts once, and without one nothing changes.

@@ -90,7 +90,9 @@ impl Files for MemFiles {
         ensures cause { IsErrOf result ReadFail.Failed → Rose self.old.faults self.new.faults }
         ensures place { IsErrOf result ReadFail.Failed → self.new.last_fault ≡ path.now }
         ensures ok { OnOk result (self.new.faults ≡ self.old.faults) }
+        ensures same_place { OnOk result (self.new.last_fault ≡ self.old.last_fault) }
         ensures want { IsErrOf result ReadFail.NoMemory → self.new.faults ≡ self.old.faults }
+        ensures want_place { IsErrOf result ReadFail.NoMemory → self.new.last_fault ≡ self.old.last_fault }
         ensures later { self.old.faults ≤ self.new.faults }
 
         // A fault comes exactly where this read is listed or no file has the path, unless memory is
