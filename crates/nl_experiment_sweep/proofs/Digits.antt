@@ -16,14 +16,14 @@ use Rattle.nl_experiment_sweep.proofs.Radix.{first_has, has_some, index_below, o
 
 -- ---- what is more than a whole round of the variables left doesn't matter
 
-regrouped : (q n m : ℕ) → q * (n * m) ≡ q * n * m
+pub regrouped : (q n m : ℕ) → q * (n * m) ≡ q * n * m
 regrouped q n m = grind arith
 
 round_index : (q c n m : ℕ) → 0 < m → (q * (n * m) + c) / m % n ≡ c / m % n
 round_index q c n m some =
     ap (λ k. (k + c) / m % n) (regrouped q n m) ∙ ap (λ k. k % n) (mul-add-div_right some (q * n) c) ∙ mul-add-mod_self_right q n (c / m)
 
-low_index : (q c : ℕ) (v : Vary) (vs : List Vary) → AllHaveValues (v ∷ vs) → index_of (q * combinations (v ∷ vs) + c) v vs ≡ index_of c v vs
+pub low_index : (q c : ℕ) (v : Vary) (vs : List Vary) → AllHaveValues (v ∷ vs) → index_of (q * combinations (v ∷ vs) + c) v vs ≡ index_of c v vs
 low_index q c v vs all = round_index q c (count_of v.choice) (combinations vs) (some_combination vs (others_have v vs all))
 
 pub settings_low : (q c : ℕ) (vs : List Vary) → AllHaveValues vs → settings_in (q * combinations vs + c) vs ≡ settings_in c vs
@@ -111,7 +111,7 @@ same_name a b is = (bytes_eq-Decides a b).0 is
 named_itself : (a : Name) → bytes_eq a a ≡ true
 named_itself a = (bytes_eq-Decides a a).1 refl
 
-joined_below : (i c n m : ℕ) → i < n → c < m → i * m + c < n * m
+pub joined_below : (i c n m : ℕ) → i < n → c < m → i * m + c < n * m
 joined_below i c n m a b = omega (arith, mul-add-lt i m c n a b)
 
 pub combined : (wanted : Name → ℕ) (vs : List Vary) → AllHaveValues vs → ((name : Name) → wanted name < bound_count (choice_among name vs)) → Combined wanted vs

@@ -5,3 +5,5 @@ pub mod Digits
 pub mod Each
 pub mod EachWorld
 pub mod Repeated
+pub mod Chosen
+pub mod Seeds

@@ -1,21 +1,9 @@
 -- Runs as places of combinations and repetitions.
 use Rattle.std.proofs.Common.{◌≡◌, ℕ, ◌+◌, ◌*◌, ◌-◌, ◌/◌, ◌%◌, ◌<◌, ◌≤◌, Bool, true, false, refl, ap, ◌∙◌, arith}
 use Rattle.std.proofs.lemmas.Nat.{div-add-mod', div-mul-add, div_below, mod-mul-add, mod_below, mul-add-lt}
-use Rattle.nl_experiment_sweep.specs.Laws.{EachPlaceHasARun, EachRunHasAPlace, HasAPlace, HasARun, SeedsCountUp, SettingsAreTheCombinations, WorldsAreTheCombinations}
-use Rattle.nl_experiment_sweep.specs.Sweep.{combinations, plane_in, plane_of_run, seed_by, seed_of, settings_in, settings_of}
+use Rattle.nl_experiment_sweep.specs.Laws.{EachPlaceHasARun, EachRunHasAPlace, HasAPlace, HasARun}
+use Rattle.nl_experiment_sweep.specs.Sweep.{combinations}
 use Rattle.nl_experiment_sweep.proofs.Radix.{some_combination}
-
-pub settings_are_the_combinations : SettingsAreTheCombinations
-unfolding settings_of
-settings_are_the_combinations order vs j k same = ap (λ c. settings_in c vs) same
-
-pub worlds_are_the_combinations : WorldsAreTheCombinations
-unfolding plane_of_run settings_of
-worlds_are_the_combinations world order vs j k same = ap (λ c. plane_in world (settings_in c vs)) same
-
-pub seeds_count_up : SeedsCountUp
-unfolding seed_of
-seeds_count_up order vs seed run none = ap (λ varied. seed_by varied seed run) none
 
 turned : (m n : ℕ) → m * n ≡ n * m
 turned m n = grind arith

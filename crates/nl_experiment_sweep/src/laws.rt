@@ -1,5 +1,5 @@
 //! What the order of runs means. These functions do nothing: the contract of each is a law.
-ghost use Rattle.nl_experiment_sweep.specs.Laws.{EachPlaceHasARun, EachRunHasAPlace, FirstIsSlowest, SeedsCountUp, SettingsAreTheCombinations, WorldsAreTheCombinations};
+ghost use Rattle.nl_experiment_sweep.specs.Laws.{ChoicesHaveOneCombination, CombinationsAreChoices, EachPlaceHasARun, EachRunHasAPlace, FirstIsSlowest, SeedsDiffer, SettingsAreTheCombinations};
 
 /// Each run has one combination of values and one repetition, and each pair of these is that of one run. So every combination comes as often
 /// as there are repetitions.
@@ -8,11 +8,16 @@ pub fn runs_go_through_all_combinations()
     ensures runs { EachPlaceHasARun }
 {}
 
-/// Runs of one combination differ in their seeds alone.
-pub fn repetitions_differ_in_seeds()
+/// Each choice of one value for each variable is that of one combination, and each combination is that of a choice.
+pub fn combinations_are_choices()
     ensures settings { SettingsAreTheCombinations }
-    ensures worlds { WorldsAreTheCombinations }
-    ensures seeds { SeedsCountUp }
+    ensures choices { CombinationsAreChoices }
+    ensures once { ChoicesHaveOneCombination }
+{}
+
+/// Where no seed is varied, any two runs of an experiment have different seeds.
+pub fn runs_differ_in_seeds()
+    ensures { SeedsDiffer }
 {}
 
 /// The first varied variable is the slowest.

@@ -402,6 +402,7 @@ fn long_values_are_set(rt: HostRuntime) {
 #[test]
 fn laws_are_stated() {
     crate::laws::runs_go_through_all_combinations();
-    crate::laws::repetitions_differ_in_seeds();
+    crate::laws::combinations_are_choices();
+    crate::laws::runs_differ_in_seeds();
     crate::laws::the_first_variable_is_the_slowest();
 }
