@@ -1,5 +1,5 @@
 -- The model and the experiment of the measure.
-use Rattle.std.specs.Prelude.{ℕ, ◌*◌, List, [], ◌∷◌, ◌++◌, codes}
+use Rattle.std.specs.Prelude.{ℕ, ◌*◌, [], ◌∷◌, ◌++◌, codes}
 use Rattle.std.specs.Fmt.{decimal}
 use Rattle.nl_fixed.specs.Nouns.{Bytes, Texts}
 

@@ -37,8 +37,9 @@ max-pycor = 50
 [globals]
 crowd = ";
 
-/// The model of the measure; it is the same for each size.
-pub fn model(alloc: Global) -> Result<Str, NoMemory>
+/// The model of the measure for a size from 1 to 1,000; it is the same for each size.
+pub fn model(alloc: Global, size: u64) -> Result<Str, NoMemory>
+    requires { size ≤ 1000 }
     ensures { IfOk result (λ text. text ≡ model_text) }
 {
     Str::of(alloc, MODEL)

@@ -138,11 +138,12 @@ pub fn gather<F: Files>(alloc: Global, paths: &Paths<'_>, files: &mut F) -> Resu
     judged(alloc, model, experiment.as_slice())
 }
 
-// The model of the measure.
-fn measure_model(alloc: Global) -> Result<Vec<u8>, NoMemory>
+// The model of the measure of a size.
+fn measure_model(alloc: Global, size: u64) -> Result<Vec<u8>, NoMemory>
+    requires { size ≤ most_size }
     ensures { IfOk result (λ bytes. bytes.items ≡ model_text) }
 {
-    let text = nl_bench::model(alloc)?;
+    let text = nl_bench::model(alloc, size)?;
     let bytes = text.as_bytes().to_vec(alloc)?;
     Ok(bytes)
 }
@@ -152,7 +153,7 @@ pub fn made(alloc: Global, size: u64) -> Result<Job, End>
     requires { size ≤ most_size }
     ensures { Makes size result }
 {
-    let Ok(model) = measure_model(alloc) else {
+    let Ok(model) = measure_model(alloc, size) else {
         return Err(End::Memory);
     };
     let Ok(experiment) = nl_bench::experiment(alloc, size) else {

@@ -1,4 +1,5 @@
 pub mod Document
+pub mod Laws
 pub mod Literals
 pub mod Reading
 pub mod Rows

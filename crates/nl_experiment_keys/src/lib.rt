@@ -3,6 +3,7 @@
 
 pub mod document;
 pub mod faults;
+pub mod laws;
 pub mod literals;
 mod nested;
 pub mod rows;

@@ -32,8 +32,11 @@ fn the_experiment_has_the_size_as_its_seed(rt: HostRuntime) {
     assert!(rt; is_experiment(rt.alloc(), 1000, FOR_A_THOUSAND));
 }
 
-fn is_model(alloc: Global, wanted: &str) -> bool {
-    match model(alloc) {
+fn is_model(alloc: Global, size: u64, wanted: &str) -> bool {
+    if size > 1000 {
+        return false;
+    }
+    match model(alloc, size) {
         Ok(text) => text.as_bytes() == wanted.as_bytes(),
         Err(_) => false,
     }
@@ -41,5 +44,6 @@ fn is_model(alloc: Global, wanted: &str) -> bool {
 
 #[test]
 fn the_model_is_the_same_for_each_size(rt: HostRuntime) {
-    assert!(rt; is_model(rt.alloc(), MODEL));
+    assert!(rt; is_model(rt.alloc(), 1, MODEL));
+    assert!(rt; is_model(rt.alloc(), 1000, MODEL));
 }

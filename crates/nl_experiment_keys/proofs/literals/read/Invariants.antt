@@ -1,4 +1,4 @@
-use Rattle.std.proofs.Common.{◌≡◌, [], All, length}
+use Rattle.std.proofs.Common.{[], All, length}
 use Rattle.nl_scan.specs.Tokens.{IsTokenOf}
 use Rattle.nl_experiment_keys.specs.Literals.{literal_from}
 use Rattle.nl_experiment_keys.specs.inner.Taking.{AreAlike}
