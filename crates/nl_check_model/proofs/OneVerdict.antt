@@ -14,10 +14,11 @@ use Rattle.nl_tree.specs.Tree.{Node}
 use Rattle.nl_tree.specs.Vocabulary.{terms}
 use Rattle.nl_parse_grammar.specs.Texts.{lexemes_of}
 use Rattle.nl_check_model.specs.declared.faults.ModelFault.{ModelFault}
-use Rattle.nl_check_model.specs.Laws.{ProgramsAreUnique, ProgramsHaveTheirWidgets, VerdictsAreUnique, bare, told, with_index}
+use Rattle.nl_check_model.specs.Laws.{ProgramsAreUnique, ProgramsHaveTheirBodies, ProgramsHaveTheirWidgets, VerdictsAreUnique, bare, told, with_index}
 use Rattle.nl_check_model.specs.ModelFault.{IsAccepted}
 use Rattle.nl_check_model.specs.Verdict.{FileSays, IsVerdict, ScannedSay, TokensSay, Verdict, fault_at}
 use Rattle.nl_check_model.proofs.OneFault.{accepted_has_no_fault, code_faults_are_unique, declared_once, same_bodies}
+use Rattle.nl_check_model.proofs.Programs.{bodies_many}
 
 -- ---- programs
 
@@ -135,3 +136,17 @@ file_widgets limit false widgets file p a = scanned_widgets widgets (code_of fil
 pub programs_have_their_widgets : ProgramsHaveTheirWidgets
 unfolding IsVerdict
 programs_have_their_widgets widgets file p a = file_widgets text_limit (nat_lt text_limit (length file)) widgets file p a
+
+-- ---- bodies
+
+scanned_many : (widgets : Names) (code : Bytes) (scanned : Result (List Token) ScanFault) (p : Checked) → ScannedSay widgets code scanned (Ok p) → length p.bodies ≡ length p.declared.procedures
+scanned_many widgets code (Ok tokens) p said = bodies_many code tokens (terms p.declared) p.declared.procedures p.bodies said.read.trees
+scanned_many widgets code (Err fault) p said = cc
+
+file_many : (limit : ℕ) (long : Bool) (widgets : Names) (file : Bytes) (p : Checked) → FileSays limit long widgets file (Ok p) → length p.bodies ≡ length p.declared.procedures
+file_many limit true widgets file p said = cc
+file_many limit false widgets file p said = scanned_many widgets (code_of file) (tokens_of (code_of file)) p said
+
+pub programs_have_their_bodies : ProgramsHaveTheirBodies
+unfolding IsVerdict
+programs_have_their_bodies widgets file p said = file_many text_limit (nat_lt text_limit (length file)) widgets file p said

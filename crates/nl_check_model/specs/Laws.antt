@@ -1,5 +1,5 @@
 -- What the definition of verdicts means. No law asks anything of the widgets.
-use Rattle.std.specs.Prelude.{◌≡◌, ◌⊎◌, ℕ, ◌+◌, List, [], take, Ok, Err}
+use Rattle.std.specs.Prelude.{◌≡◌, ◌⊎◌, ℕ, ◌+◌, List, [], length, take, Ok, Err}
 use Rattle.nl_fixed.specs.Nouns.{Bytes, Names}
 use Rattle.nl_scan.specs.declared.token.Token.{Token}
 use Rattle.nl_scan.specs.Tokens.{text_limit, tokens_of}
@@ -62,6 +62,10 @@ ProgramsAreUnique =
 -- a program has just these widgets
 abbrev pub ProgramsHaveTheirWidgets : Type 0
 ProgramsHaveTheirWidgets = (widgets : Names) (file : Bytes) (p : Checked) → IsVerdict widgets file (Ok p) → p.declared.widgets ≡ widgets
+
+-- and as many bodies as procedures
+abbrev pub ProgramsHaveTheirBodies : Type 0
+ProgramsHaveTheirBodies = (widgets : Names) (file : Bytes) (p : Checked) → IsVerdict widgets file (Ok p) → length p.bodies ≡ length p.declared.procedures
 
 -- the first bytes of a file, one more than the limit, say what the file says
 abbrev pub FirstBytesSayAll : Type 0
