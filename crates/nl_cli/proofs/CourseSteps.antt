@@ -13,7 +13,7 @@ use Rattle.nl_cli.specs.Words.{Command, Paths, Task, table, rerun, check, over, 
 use Rattle.nl_cli.specs.Inputs.{Found, IsJob, Job, found_at, found_in, made_for, runs_in}
 use Rattle.nl_cli.specs.Table.{rows_text, summary_text}
 use Rattle.nl_cli.specs.Answer.{ComesTo, done_by, made_by, no_such_run}
-use Rattle.nl_cli.specs.Outcome.{Asked, Given}
+use Rattle.nl_cli.specs.Outcome.{AllRead, Asked, Given, told_over}
 use Rattle.nl_cli.specs.inner.Stages.{Does, Gathers, IsNoRun, IsRunIn, Makes, Measures, NothingPut, Puts, Runs}
 
 -- ---- numbers of runs
@@ -50,39 +50,39 @@ rerun_stops job digits kind sink end e told nothing =
 -- ---- courses
 
 module _ (command : Command) (files : Asked) (out : Given) where
-  puts_run : (bytes : Bytes) (r : Result (Unit {0}) End) → files.faults_after ≡ files.faults_before
-      → ForSome files.folder (λ folder. ComesTo command (found_in command folder) (Ok bytes)) → Puts bytes out r → Runs command files out r
-  puts_run bytes (Ok _) sound comes puts = λ folder is. (bytes, comes folder is, puts.1)
-  puts_run bytes (Err End.Write) sound comes puts = (puts.0, λ folder is. record { bytes = bytes; comes = comes folder is; part = puts.1 })
-  puts_run bytes (Err End.Memory) sound comes puts = (sound, puts.0, λ folder is. inr (record { bytes = bytes; comes = comes folder is; part = puts.1 }))
-  puts_run bytes (Err (End.Model fault)) sound comes puts = absurd puts
-  puts_run bytes (Err (End.Plan fault)) sound comes puts = absurd puts
-  puts_run bytes (Err (End.Read role)) sound comes puts = absurd puts
+  puts_run : (bytes : Bytes) (r : Result (Unit {0}) End) → AllRead files
+      → ForSome (told_over (Some command) files.folder) (λ folder. ComesTo command (found_in command folder) (Ok bytes)) → Puts bytes out r → Runs command files out r
+  puts_run bytes (Ok _) all comes puts = (all, puts.0, λ folder is. (bytes, comes folder is, puts.1))
+  puts_run bytes (Err End.Write) all comes puts = (all, puts.0, λ folder is. record { bytes = bytes; comes = comes folder is; part = puts.1 })
+  puts_run bytes (Err End.Memory) all comes puts = (all, puts.0, λ folder is. inr (record { bytes = bytes; comes = comes folder is; part = puts.1 }))
+  puts_run bytes (Err (End.Model fault)) all comes puts = absurd puts
+  puts_run bytes (Err (End.Plan fault)) all comes puts = absurd puts
+  puts_run bytes (Err (End.Read role)) all comes puts = absurd puts
 
-  plan_run : (kind : PlanKind) (r : Result (Unit {0}) End) → files.faults_after ≡ files.faults_before
-      → ForSome files.folder (λ folder. ComesTo command (found_in command folder) (Err (no_such_run kind))) → Does (Err (no_such_run kind)) out r → Runs command files out r
-  plan_run kind r sound comes (nothing, inl e) = subst (λ x. Runs command files out x) (sym e) (sound, nothing, comes)
-  plan_run kind r sound comes (nothing, inr e) = subst (λ x. Runs command files out x) (sym e) (sound, nothing.sound, λ folder is. inl nothing.nothing)
+  plan_run : (kind : PlanKind) (r : Result (Unit {0}) End) → AllRead files
+      → ForSome (told_over (Some command) files.folder) (λ folder. ComesTo command (found_in command folder) (Err (no_such_run kind))) → Does (Err (no_such_run kind)) out r → Runs command files out r
+  plan_run kind r all comes (nothing, inl e) = subst (λ x. Runs command files out x) (sym e) (all, nothing, comes)
+  plan_run kind r all comes (nothing, inr e) = subst (λ x. Runs command files out x) (sym e) (all, nothing.sound, λ folder is. inl nothing.nothing)
 
 -- what a task comes to over its job
 comes_of : (command : Command) (found : Found) (job : Job) → IsJob found (Ok job) → ComesTo command found (made_by command job)
 comes_of command found job is = (Ok job, (is, refl))
 
 named_run : (paths : Paths) (digits : Bytes) (files : Asked) (out : Given) (job : Job) (x : Result ℕ PlanKind) (r : Result (Unit {0}) End)
-    → files.faults_after ≡ files.faults_before
+    → AllRead files
     → ForSome files.folder (λ folder. ComesTo (over paths (rerun digits)) (found_in (over paths (rerun digits)) folder) (with_fault no_such_run x >>= λ n. Ok (rows_text job n)))
     → Does (with_fault no_such_run x >>= λ n. Ok (rows_text job n)) out r → Runs (over paths (rerun digits)) files out r
-named_run paths digits files out job (Ok number) r sound comes does = puts_run (over paths (rerun digits)) files out (rows_text job number) r sound comes does
-named_run paths digits files out job (Err kind) r sound comes does = plan_run (over paths (rerun digits)) files out kind r sound comes does
+named_run paths digits files out job (Ok number) r all comes does = puts_run (over paths (rerun digits)) files out (rows_text job number) r all comes does
+named_run paths digits files out job (Err kind) r all comes does = plan_run (over paths (rerun digits)) files out kind r all comes does
 
-pub task_runs : (paths : Paths) (task : Task) (files : Asked) (out : Given) (job : Job) (r : Result (Unit {0}) End) → files.faults_after ≡ files.faults_before
+pub task_runs : (paths : Paths) (task : Task) (files : Asked) (out : Given) (job : Job) (r : Result (Unit {0}) End) → AllRead files
     → ForSome files.folder (λ folder. IsJob (found_at paths folder) (Ok job)) → Does (done_by paths.model task job) out r → Runs (over paths task) files out r
-task_runs paths table files out job r sound is does =
-    puts_run (over paths table) files out _ r sound (λ folder at. comes_of (over paths table) (found_at paths folder) job (is folder at)) does
-task_runs paths check files out job r sound is does =
-    puts_run (over paths check) files out _ r sound (λ folder at. comes_of (over paths check) (found_at paths folder) job (is folder at)) does
-task_runs paths (rerun digits) files out job r sound is does =
-    named_run paths digits files out job (run_among (runs_in job) (number_of digits)) r sound
+task_runs paths table files out job r all is does =
+    puts_run (over paths table) files out _ r all (λ folder at. comes_of (over paths table) (found_at paths folder) job (is folder at)) does
+task_runs paths check files out job r all is does =
+    puts_run (over paths check) files out _ r all (λ folder at. comes_of (over paths check) (found_at paths folder) job (is folder at)) does
+task_runs paths (rerun digits) files out job r all is does =
+    named_run paths digits files out job (run_among (runs_in job) (number_of digits)) r all
     (λ folder at. comes_of (over paths (rerun digits)) (found_at paths folder) job (is folder at)) does
 
 -- the inputs of a task stop it
@@ -112,7 +112,7 @@ measure_stops size out End.Write nothing stops = absurd stops
 
 pub measure_puts : (size : ℕ) (model : Bytes) (out : Given) (job : Job) (r : Result (Unit {0}) End) → made_by (bench size) job ≡ Ok (summary_text model job)
     → IsJob (made_for size) (Ok job) → Puts (summary_text model job) out r → Measures size out r
-measure_puts size model out job (Ok _) called is puts = (summary_text model job, (Ok job, (is, sym called)), puts.1)
+measure_puts size model out job (Ok _) called is puts = (puts.0, (summary_text model job, (Ok job, (is, sym called)), puts.1))
 measure_puts size model out job (Err End.Write) called is puts =
     (puts.0, record { bytes = summary_text model job; comes = (Ok job, (is, sym called)); part = puts.1 })
 measure_puts size model out job (Err End.Memory) called is puts =
@@ -122,10 +122,10 @@ measure_puts size model out job (Err (End.Plan fault)) called is puts = absurd p
 measure_puts size model out job (Err (End.Read role)) called is puts = absurd puts
 
 -- a measure reads no file
-pub measure_runs : (size : ℕ) (files : Asked) (out : Given) (r : Result (Unit {0}) End) → files.faults_after ≡ files.faults_before → Measures size out r → Runs (bench size) files out r
-measure_runs size files out (Ok _) sound does = λ folder is. does
-measure_runs size files out (Err (End.Model fault)) sound does = (sound, does.0, λ folder is. does.1)
-measure_runs size files out (Err (End.Plan fault)) sound does = (sound, does.0, λ folder is. does.1)
-measure_runs size files out (Err End.Write) sound does = (does.0, λ folder is. does.1)
-measure_runs size files out (Err End.Memory) sound does = (sound, does.0, λ folder is. does.1)
-measure_runs size files out (Err (End.Read role)) sound does = absurd does
+pub measure_runs : (size : ℕ) (files : Asked) (out : Given) (r : Result (Unit {0}) End) → AllRead files → Measures size out r → Runs (bench size) files out r
+measure_runs size files out (Ok _) all does = (all, does.0, λ folder is. does.1)
+measure_runs size files out (Err (End.Model fault)) all does = (all, does.0, λ folder is. does.1)
+measure_runs size files out (Err (End.Plan fault)) all does = (all, does.0, λ folder is. does.1)
+measure_runs size files out (Err End.Write) all does = (all, does.0, λ folder is. does.1)
+measure_runs size files out (Err End.Memory) all does = (all, does.0, λ folder is. does.1)
+measure_runs size files out (Err (End.Read role)) all does = absurd does

@@ -1,22 +1,18 @@
 -- Words over a folder have an answer, since each step of it leads to one.
-use Rattle.std.proofs.Common.{◌≡◌, inl, inr, ℕ, ◌+◌, Bool, true, false, List, [], ◌∷◌, ◌++◌, Option, Some, None, Result, Ok, Err, length, nat_lt, refl}
+use Rattle.std.proofs.Common.{◌≡◌, inl, inr, ℕ, ◌+◌, List, [], ◌∷◌, ◌++◌, Option, Some, None, Result, Ok, Err, length, refl}
 use Rattle.nl_fixed.specs.Nouns.{Bytes, Names}
 use Rattle.nl_scan.specs.CodePart.{code_of}
-use Rattle.nl_scan.specs.Faults.{ScanFault}
-use Rattle.nl_scan.specs.Tokens.{text_limit, tokens_of}
-use Rattle.nl_scan.specs.declared.token.Token.{Token}
 use Rattle.nl_tree.specs.Checked.{Checked}
 use Rattle.nl_tree.specs.Tree.{Node}
-use Rattle.nl_tree.specs.Vocabulary.{terms}
 use Rattle.nl_experiment_fields.specs.declared.fields.Fields.{Fields}
 use Rattle.nl_experiment.specs.Laws.{HaveTrees}
 use Rattle.nl_experiment.specs.Plan.{experiment_says}
 use Rattle.nl_experiment.specs.Texts.{metrics_from, texts_of, until_texts}
 use Rattle.nl_experiment.specs.Widgets.{widgets_of}
 use Rattle.nl_experiment.proofs.OneThing.{texts_have_trees_or_faults}
-use Rattle.nl_check_model.specs.Verdict.{FileSays, IsVerdict, ScannedSay, Verdict}
+use Rattle.nl_check_model.specs.Verdict.{IsVerdict, Verdict}
 use Rattle.nl_check_model.proofs.EachVerdict.{files_have_verdicts}
-use Rattle.nl_check_model.proofs.Programs.{bodies_many}
+use Rattle.nl_check_model.proofs.OneVerdict.{programs_have_their_bodies}
 use Rattle.nl_run.specs.Job.{Trees}
 use Rattle.nl_cli.specs.Steps.{◌>>=◌, with_fault}
 use Rattle.nl_cli.specs.declared.words.Role.{Role}
@@ -26,20 +22,6 @@ use Rattle.nl_cli.specs.Inputs.{AreTreesOf, Found, InputsSay, IsJob, Job, MaybeT
 use Rattle.nl_cli.specs.Answer.{Answer, AnswersTo, answer_to, made_by, usage_answer}
 use Rattle.nl_cli.specs.Laws.{WordsHaveAnswers}
 use Rattle.nl_cli.proofs.InputSteps.{experiment_read, goes}
-
--- ---- programs have as many bodies as procedures
-
-scanned_many : (widgets : Names) (code : Bytes) (scanned : Result (List Token) ScanFault) (p : Checked) → ScannedSay widgets code scanned (Ok p) → length p.bodies ≡ length p.declared.procedures
-scanned_many widgets code (Ok tokens) p said = bodies_many code tokens (terms p.declared) p.declared.procedures p.bodies said.read.trees
-scanned_many widgets code (Err fault) p said = cc
-
-file_many : (limit : ℕ) (long : Bool) (widgets : Names) (file : Bytes) (p : Checked) → FileSays limit long widgets file (Ok p) → length p.bodies ≡ length p.declared.procedures
-file_many limit true widgets file p said = cc
-file_many limit false widgets file p said = scanned_many widgets (code_of file) (tokens_of (code_of file)) p said
-
-verdict_many : (widgets : Names) (file : Bytes) (p : Checked) → IsVerdict widgets file (Ok p) → length p.bodies ≡ length p.declared.procedures
-unfolding IsVerdict
-verdict_many widgets file p said = file_many text_limit (nat_lt text_limit (length file)) widgets file p said
 
 -- ---- texts
 
@@ -67,7 +49,7 @@ texts_say f p source many = elim (texts_have_trees_or_faults p f many) [
 ]
 
 by_verdict : (f : Fields) (model : Bytes) (verdict : Verdict) → IsVerdict (widgets_of f) model verdict → (job : Result Job End) × ModelSays f model job
-by_verdict f model (Ok p) said = let (job, says) = texts_say f p (code_of model) (verdict_many (widgets_of f) model p said) in (job, (Ok p, (said, says)))
+by_verdict f model (Ok p) said = let (job, says) = texts_say f p (code_of model) (programs_have_their_bodies (widgets_of f) model p said) in (job, (Ok p, (said, says)))
 by_verdict f model (Err fault) said = (Err (End.Model fault), (Err fault, (said, refl)))
 
 inputs_say : (model experiment : Bytes) → (job : Result Job End) × InputsSay model experiment job

@@ -5,6 +5,7 @@ use Rattle.std.specs.Option.{ForSome, option_map}
 use Rattle.nl_fixed.specs.Nouns.{Bytes, Names}
 use Rattle.nl_outer.specs.Faults.{Rose}
 use Rattle.nl_outer.specs.Folder.{Folder, read_of}
+use Rattle.nl_outer.specs.Nouns.{Path}
 use Rattle.nl_tree.specs.Checked.{Checked}
 use Rattle.nl_tree.specs.Tree.{Node}
 use Rattle.nl_tree.specs.Views.{plain}
@@ -22,7 +23,7 @@ use Rattle.nl_cli.specs.declared.ends.End.{End}
 use Rattle.nl_cli.specs.declared.job.Job.{Job as CodeJob}
 use Rattle.nl_cli.specs.Words.{Paths}
 use Rattle.nl_cli.specs.Inputs.{InputsSay, IsJob, Job, MaybeTree, MetricTrees, found_at, made_for}
-use Rattle.nl_cli.specs.Outcome.{Asked}
+use Rattle.nl_cli.specs.Outcome.{AllRead, Asked, asked}
 use Rattle.nl_cli.specs.inner.Stages.{ExperimentSays, Gathers, Judges, Makes, ProgramSays, Reads, TreesSay, job_in}
 use Rattle.nl_cli.proofs.InputSteps.{all_said, experiment_bad, experiment_missing, inputs_there, model_bad, model_missing, texts_bad}
 use Rattle.nl_cli.proofs.Reading.{IsRead-read_of, inputs_say-take}
@@ -101,21 +102,26 @@ model_read_stops paths files (End.Model _) stopped = absurd stopped
 model_read_stops paths files (End.Plan _) stopped = absurd stopped
 model_read_stops paths files End.Write stopped = absurd stopped
 
+-- two calls in a row in which no read failed
+pub all_read_then : {F : Type 0} (faults : F → ℕ) (last : F → Path) (known : F → Option Folder) (old mid new : F)
+    → AllRead (asked faults last known old mid) → AllRead (asked faults last known mid new) → AllRead (asked faults last known old new)
+all_read_then faults last known old mid new first second =
+    record { faults = second.faults ∙ first.faults; last = second.last ∙ first.last }
+
 -- the experiment's read stops
-pub experiment_read_stops : (paths : Paths) (before between after : ℕ) (last : Bytes) (known now : Option Folder) (model : Bytes) (end : End)
-    → between ≡ before → now ≡ known → Got paths.model known model
-    → Reads Role.Experiment paths.experiment (record { faults_before = between; faults_after = after; last_fault = last; folder = now }) (Err end)
-    → Gathers paths (record { faults_before = before; faults_after = after; last_fault = last; folder = known }) (Err end)
-experiment_read_stops paths before between after last known now model (End.Read at) sound same got stopped =
+pub experiment_read_stops : {F : Type 0} (faults : F → ℕ) (last : F → Path) (known : F → Option Folder) (old mid new : F) (paths : Paths) (model : Bytes) (end : End)
+    → AllRead (asked faults last known old mid) → Got paths.model (known old) model
+    → Reads Role.Experiment paths.experiment (asked faults last known mid new) (Err end) → Gathers paths (asked faults last known old new) (Err end)
+experiment_read_stops faults last known old mid new paths model (End.Read at) first got stopped =
     rw stopped.0 (record {
-      rose = subst (λ n. Rose n after) sound stopped.1;
+      rose = subst (λ n. Rose n (faults new)) first.faults stopped.1;
       named = sym stopped.2;
       turn = λ folder is. let read = IsRead-read_of paths.model file_limit folder model (got folder is) in experiment_missing (found_at paths folder) read.whole read.there;
     })
-experiment_read_stops paths before between after last known now model End.Memory sound same got stopped = stopped ∙ sound
-experiment_read_stops paths before between after last known now model (End.Model _) sound same got stopped = absurd stopped
-experiment_read_stops paths before between after last known now model (End.Plan _) sound same got stopped = absurd stopped
-experiment_read_stops paths before between after last known now model End.Write sound same got stopped = absurd stopped
+experiment_read_stops faults last known old mid new paths model End.Memory first got stopped = all_read_then faults last known old mid new first stopped
+experiment_read_stops faults last known old mid new paths model (End.Model _) first got stopped = absurd stopped
+experiment_read_stops faults last known old mid new paths model (End.Plan _) first got stopped = absurd stopped
+experiment_read_stops faults last known old mid new paths model End.Write first got stopped = absurd stopped
 
 -- what was read says what the files say
 files_say : (paths : Paths) (folder : Folder) (model experiment : Bytes) (job : Result Job End) → read_of paths.model file_limit folder ≡ Some model
@@ -127,17 +133,17 @@ files_say paths folder model experiment job got_model got_experiment says =
     inputs_there (found_at paths folder) a.whole b.whole job a.there b.there
     (inputs_say-take a.whole b.whole job (subst (λ e. InputsSay (take (file_limit + 1) a.whole) e job) b.first here))
 
-pub read_gathers : (paths : Paths) (files : Asked) (model experiment : Bytes) (r : Result CodeJob End) → files.faults_after ≡ files.faults_before
+pub read_gathers : (paths : Paths) (files : Asked) (model experiment : Bytes) (r : Result CodeJob End) → AllRead files
     → Got paths.model files.folder model → Got paths.experiment files.folder experiment → Judges model experiment r → Gathers paths files r
-read_gathers paths files model experiment (Ok job) sound got_model got_experiment judges =
-    (sound, judges.0, λ folder is. files_say paths folder model experiment (Ok (job_in job)) (got_model folder is) (got_experiment folder is) judges.1)
-read_gathers paths files model experiment (Err (End.Plan fault)) sound got_model got_experiment judges =
-    (sound, λ folder is. files_say paths folder model experiment (Err (End.Plan fault)) (got_model folder is) (got_experiment folder is) judges)
-read_gathers paths files model experiment (Err (End.Model fault)) sound got_model got_experiment judges =
-    (sound, λ folder is. files_say paths folder model experiment (Err (End.Model fault)) (got_model folder is) (got_experiment folder is) judges)
-read_gathers paths files model experiment (Err End.Memory) sound got_model got_experiment judges = sound
-read_gathers paths files model experiment (Err (End.Read role)) sound got_model got_experiment judges = absurd judges
-read_gathers paths files model experiment (Err End.Write) sound got_model got_experiment judges = absurd judges
+read_gathers paths files model experiment (Ok job) all got_model got_experiment judges =
+    (all, judges.0, λ folder is. files_say paths folder model experiment (Ok (job_in job)) (got_model folder is) (got_experiment folder is) judges.1)
+read_gathers paths files model experiment (Err (End.Plan fault)) all got_model got_experiment judges =
+    (all, λ folder is. files_say paths folder model experiment (Err (End.Plan fault)) (got_model folder is) (got_experiment folder is) judges)
+read_gathers paths files model experiment (Err (End.Model fault)) all got_model got_experiment judges =
+    (all, λ folder is. files_say paths folder model experiment (Err (End.Model fault)) (got_model folder is) (got_experiment folder is) judges)
+read_gathers paths files model experiment (Err End.Memory) all got_model got_experiment judges = all
+read_gathers paths files model experiment (Err (End.Read role)) all got_model got_experiment judges = absurd judges
+read_gathers paths files model experiment (Err End.Write) all got_model got_experiment judges = absurd judges
 
 -- ---- the inputs of the measure
 

@@ -29,7 +29,6 @@ use Rattle.nl_experiment_fields.specs.Entries.{all_steps_given, choice_by, count
 use Rattle.nl_experiment_fields.specs.File.{fields_in, file_says, head_in, measures_in, scripts_in}
 use Rattle.nl_experiment_fields.specs.declared.fields.Fields.{Fields}
 use Rattle.nl_experiment.specs.Plan.{experiment_says, judged, order_of, world_of}
-use Rattle.nl_run.proofs.Writing.{file_written}
 use Rattle.nl_cli.specs.Inputs.{Job}
 use Rattle.nl_cli.specs.inner.Stages.{IsSound, is_short, is_short_value}
 
@@ -253,14 +252,6 @@ varied_are_short file f h =
     (fault_at vary_key TooManyRuns) (fault_at world_key BadWorld) g f judged_is in
     subst (λ x. list_all short_vary x.vary ≡ true) same (vary_short members g.vary (fields_vary members g fields_are))
 
--- what the experiment says, its file says
-file_read : (file : Bytes) (f : Fields) → experiment_says file ≡ Ok f → file_says file ≡ Ok f
-file_read file f h =
-    let (g, said, judged_is) = bound (file_says file) judged f h in
-    let same : g ≡ f = judged_same (nat_le (runs_of (order_of g) g.vary) most_runs) (all_have_worlds (world_of g) (order_of g) g.vary)
-    (fault_at vary_key TooManyRuns) (fault_at world_key BadWorld) g f judged_is in
-    said ∙ ap Ok same
-
 -- ---- settings
 
 item_short : (values : List Plain) (index : ℕ) → list_all is_short_value values ≡ true → is_short_value (unwrap_or (slice_get values index) PlainNobody) ≡ true
@@ -285,7 +276,4 @@ run_short order vs number all = settings_short (combination_of order vs number) 
 
 -- the settings of each run of an experiment that was read
 pub experiments_are_sound : (file : Bytes) (job : Job) → experiment_says file ≡ Ok job.fields → IsSound job
-experiments_are_sound file job is = (
-  file_written file job.fields (file_read file job.fields is),
-  λ number run. run_short (order_of job.fields) job.fields.vary number (varied_are_short file job.fields is),
-)
+experiments_are_sound file job is = λ number run. run_short (order_of job.fields) job.fields.vary number (varied_are_short file job.fields is)

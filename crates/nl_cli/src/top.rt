@@ -79,7 +79,7 @@ pub fn run<F: Files, O: Sink, E: Sink>(
     // Each file that the words name may be asked for, and no other.
     requires { ForSome (command_of words.now) (AllServed (F.serves files.old)) }
 
-    // What was written and why, by the status.
+    // What was written and why, and what failed, by the status.
     ensures outcome { Outcome words.now
         (asked F.faults F.last_fault F.folder files.old files.new)
         (given O.faults O.written out.old out.new)

@@ -1,15 +1,15 @@
 -- What a machine shows.
-use Rattle.std.specs.Prelude.{◌≡◌, ℕ, ◌+◌, ◌-◌, []}
+use Rattle.std.specs.Prelude.{◌≡◌, ℕ, ◌+◌, ◌-◌}
 use Rattle.nl_tree.specs.Checked.{Checked}
 use Rattle.nl_tree.specs.Tree.{Node}
 use Rattle.nl_tree.specs.declared.declared.Form.{Form}
 use Rattle.nl_agents.specs.World.{World}
 use Rattle.nl_agents.specs.declared.store.Store.{Ghosts}
-use Rattle.nl_exec_acts.specs.Stage.{Scene, scene, stage_of}
+use Rattle.nl_exec_acts.specs.Stage.{Scene, scene}
 use Rattle.nl_exec_meaning.specs.State.{State, Outcome}
-use Rattle.nl_exec_meaning.specs.Meaning.{lone_site, text}
+use Rattle.nl_exec_meaning.specs.LoneTexts.{Ending, ending_of, first_state}
+use Rattle.nl_exec_meaning.specs.Meaning.{text}
 use Rattle.nl_exec_meaning.specs.Seen.{state_of}
-use Rattle.nl_exec.specs.Endings.{Ending, ending_of}
 use Rattle.nl_exec.specs.Slices.{focus_of, rest_by}
 use Rattle.nl_exec.specs.declared.phase.Phase.TheVariants.{Closed, Failed}
 use Rattle.nl_exec.specs.declared.slices.Machine.{Machine}
@@ -37,10 +37,6 @@ end_in m o = ending_of m.form o.exit
 -- the world with its global variables, the ticks, and the state of the random stream
 abbrev pub scene_of : {S : Type 0} {G : Ghosts S} → Machine S G → Scene
 scene_of {G = g} m = scene (g.world m.hands.stage.store) m.hands.stage.ticks m.hands.stage.stream
-
--- the same of a state
-abbrev pub scene_in : State → Scene
-scene_in s = scene (record { globals = s.globals; rest = s.stage.rest }) s.stage.ticks s.stage.stream
 
 abbrev pub world_of : {S : Type 0} {G : Ghosts S} → Machine S G → World
 world_of {G = g} m = g.world m.hands.stage.store
@@ -71,16 +67,9 @@ HasFailed m = m.phase ≡ Failed
 abbrev pub HasNotFailed : {S : Type 0} {G : Ghosts S} → Machine S G → Type 0
 HasNotFailed m = HasFailed m → ⊥
 
--- with another world, and with the random stream elsewhere
+-- with another world
 abbrev pub in_world : World → Scene → Scene
 in_world w now = record now { world = w }
-
-abbrev pub in_stream : ℕ → Scene → Scene
-in_stream stream now = record now { stream = stream }
-
--- the state in which a lone text begins
-abbrev pub first_state : Scene → ℕ → State
-first_state now units = record { globals = now.world.globals; stage = stage_of now; locals = []; site = lone_site; units = units }
 
 -- what a lone text means over what the machine has
 abbrev pub meant : {S : Type 0} {G : Ghosts S} → Machine S G → Form → Node → ℕ → Outcome

@@ -3,7 +3,9 @@ ghost use Rattle.std.specs.Prelude.{◌≡◌};
 ghost use Rattle.nl_exec_meaning.specs.Ground.{Ground};
 ghost use Rattle.nl_exec_meaning.specs.Seen.{exit_seen};
 ghost use Rattle.nl_exec_meaning.specs.Standing.{ExitFits};
-ghost use Rattle.nl_exec.specs.Endings.{EndFits, end_seen, ending_of};
+ghost use Rattle.nl_exec_meaning.specs.LoneTexts as ending;
+ghost use Rattle.nl_exec_meaning.specs.LoneTexts.{ending_of};
+ghost use Rattle.nl_exec.specs.Endings.{EndFits, end_seen};
 
 use nl_exec_acts::ErrorKind;
 use nl_exec_meaning::Exit;
@@ -34,6 +36,7 @@ pub enum End {
 pub fn end_of(form: Form, exit: Exit) -> End
     ensures end { end_seen result ≡ ending_of form (exit_seen exit) }
     ensures fits { (g : Ground) → ExitFits g exit → EndFits g result }
+    ensures units { end_seen result ≡ ending.Budget → ⊥ }
 {
     match exit {
         Exit::Gives(value) => match form {
@@ -44,7 +47,6 @@ pub fn end_of(form: Form, exit: Exit) -> End
         Exit::Reported(value) => End::Reported(value),
         // The observer runs a lone text, and never dies.
         Exit::Left => End::Done,
-        Exit::Budget => End::Budget,
         Exit::Error(kind, span, body) => End::Error { kind, span, body },
     }
 }

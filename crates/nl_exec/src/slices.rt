@@ -65,11 +65,13 @@ impl<'a, S: Store> Machine<'a, S> {
     ghost use Rattle.nl_draw.specs.Stream.{first_state as first_of_stream};
     ghost use Rattle.nl_agents.specs.World.{first_world};
     ghost use Rattle.nl_exec_acts.specs.Stage.{scene};
-    ghost use Rattle.nl_exec_meaning.specs.State.{Budget, with_world};
+    ghost use Rattle.nl_exec_meaning.specs.State.{State, Budget, with_world};
+    ghost use Rattle.nl_exec_meaning.specs.LoneTexts as ending;
     ghost use Rattle.nl_exec_meaning.specs.Walks.{at_stream};
     ghost use Rattle.nl_exec_meaning.specs.Ground.{ground_of};
     ghost use Rattle.nl_exec.specs.Endings.{EndFits, end_seen};
-    ghost use Rattle.nl_exec.specs.Machines.{state_with, rest_from, rest_of, with_more, end_in, scene_of, scene_in, in_world, in_stream, world_of, program_of, form_of, spent_of, units_left, IsOpen, IsClosed, HasFailed, HasNotFailed, meant};
+    ghost use Rattle.nl_exec_meaning.specs.LoneTexts.{scene_in, in_stream};
+    ghost use Rattle.nl_exec.specs.Machines.{state_with, rest_from, rest_of, with_more, end_in, scene_of, in_world, world_of, program_of, form_of, spent_of, units_left, IsOpen, IsClosed, HasFailed, HasNotFailed, meant};
     ghost use Rattle.nl_exec.specs.declared.endings.End.{End};
     ghost use Rattle.nl_exec.specs.declared.slices.Turn.TheVariants.{More, Ended};
 
@@ -122,6 +124,9 @@ impl<'a, S: Store> Machine<'a, S> {
     /// The same machine again, with a store and units of its own.
     pub fn copy(&self, alloc: Global) -> Result<Machine<'a, S>, NoMemory>
         ensures rest { IfOk result (λ m. (n : ℕ) → rest_of m n ≡ rest_of self.now n) }
+        // And so from every other state, as where the stream is put back or a global variable is set.
+        ensures from { IfOk result (λ m. (s : State) → rest_from m s ≡ rest_from self.now s) }
+        ensures states { IfOk result (λ m. (n : ℕ) → state_with m n ≡ state_with self.now n) }
         ensures scene { IfOk result (λ m. scene_of m ≡ scene_of self.now) }
         ensures phase { IfOk result (λ m. m.phase ≡ self.now.phase) }
         ensures form { IfOk result (λ m. form_of m ≡ form_of self.now) }
@@ -288,6 +293,8 @@ impl<'a, S: Store> Machine<'a, S> {
         // Where fewer units were asked for than are left, the text itself has ended: it leaves all further units.
         ensures over { (e : End) → result ≡ Ok (Ended e) → units < units_left self.old →
             (n : ℕ) → rest_of self.old (units + n) ≡ with_more n (rest_of self.old units) }
+        // It ends for want of units only where none is left of all.
+        ensures last { (e : End) → result ≡ Ok (Ended e) → end_seen e ≡ ending.Budget → units_left self.new ≡ 0 }
         ensures bounded { units_left self.new + spent_of self.new ≡ units_left self.old + spent_of self.old }
         ensures within { spent_of self.old + units_left self.old < 2 ^ 64 }
         ensures open { result ≡ Ok More → IsOpen self.new }
@@ -343,6 +350,7 @@ impl<'a, S: Store> Machine<'a, S> {
         ensures left { OnOk result
             ((rest_of self.old (units_left self.old)).state.units ≡ units_left self.new) }
         ensures bounded { units_left self.new + spent_of self.new ≡ units_left self.old + spent_of self.old }
+        ensures last { IfOk result (λ e. end_seen e ≡ ending.Budget → units_left self.new ≡ 0) }
         ensures closed { OnOk result (IsClosed self.new) }
         ensures program { program_of self.new ≡ program_of self.old }
         ensures failed { IsErr result → HasFailed self.new }

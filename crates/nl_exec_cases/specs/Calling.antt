@@ -4,11 +4,10 @@ use Rattle.nl_exec_meaning.specs.State.{Held, State}
 use Rattle.nl_exec_meaning.specs.Calls.{back_to}
 use Rattle.nl_exec_meaning.specs.declared.sites.Site.{Site}
 use Rattle.nl_exec_meaning.specs.declared.exits.Exit.{Exit}
-use Rattle.nl_exec_meaning.specs.declared.exits.Exit.TheVariants.{Gives, Stopped, Reported, Left, Budget, Error}
+use Rattle.nl_exec_meaning.specs.declared.exits.Exit.TheVariants.{Gives, Stopped, Reported, Left, Error}
 
 -- an end of the whole text
 abbrev pub ends_text : Exit → Bool
-ends_text Budget = true
 ends_text (Error kind at body) = true
 ends_text (Gives value) = false
 ends_text Stopped = false

@@ -140,7 +140,7 @@ fn back<S: Store>(hands: &mut Hands<S>, ends: bool, saved: Locals, site: Site)
 fn ends_text(exit: &Exit) -> bool
     ensures { result ≡ ends_text exit.now }
 {
-    matches!(exit, Exit::Budget | Exit::Error(..))
+    matches!(exit, Exit::Error(..))
 }
 
 // What the end of a body is to its caller: a command goes on, and a reporter has its value.
@@ -150,7 +150,6 @@ fn returned(reporter: bool, exit: Exit, place: Span, site: Site) -> Exit
     ensures fits { (g : Ground) → ExitFits g exit → ExitFits g result }
 {
     match exit {
-        Exit::Budget => Exit::Budget,
         Exit::Error(kind, at, body) => Exit::Error(kind, at, body),
         Exit::Left => Exit::Left,
         Exit::Gives(_) if !reporter => Exit::Gives(Value::Nobody),

@@ -2,12 +2,10 @@
 use Rattle.std.specs.Prelude.{◌≡◌, ℕ, ◌-◌, ⊤, List, [], ◌∷◌, length}
 use Rattle.nl_tree.specs.Tree.{span}
 use Rattle.nl_exec_meaning.specs.Code.{Code, node_at}
-use Rattle.nl_exec_meaning.specs.State.{State, Outcome, goes_on, spend}
+use Rattle.nl_exec_meaning.specs.State.{State, Exit, Outcome, Budget, goes_on, spend}
 use Rattle.nl_exec_meaning.specs.Meaning.{limited, evaluator, text_by}
 use Rattle.nl_exec_meaning.specs.Frames.{resumed}
-use Rattle.nl_exec_meaning.specs.Seen.{ended}
-use Rattle.nl_exec_meaning.specs.declared.exits.Exit.{Exit}
-use Rattle.nl_exec_meaning.specs.declared.exits.Exit.TheVariants.{Budget}
+use Rattle.nl_exec_meaning.specs.Seen.{ended, exit_seen}
 use Rattle.nl_exec_levels.specs.declared.levels.Level.{Level}
 use Rattle.nl_exec_levels.specs.declared.focus.Wish.{Wish}
 use Rattle.nl_exec_levels.specs.declared.focus.Wish.TheVariants as wish
@@ -57,4 +55,4 @@ IsSpent (stop.End exit) left = ⊤
 -- the end of a slice: that of the text, or of the units
 abbrev pub stop_exit : Stop → Exit
 stop_exit (stop.Wanted w) = Budget
-stop_exit (stop.End exit) = exit
+stop_exit (stop.End exit) = exit_seen exit

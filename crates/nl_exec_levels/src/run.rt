@@ -5,7 +5,7 @@ ghost use Rattle.nl_value.specs.Views.{plain};
 ghost use Rattle.nl_tree.specs.Tree.{span};
 ghost use Rattle.nl_tree.specs.declared.declared.Form.TheVariants.{Commands};
 ghost use Rattle.nl_exec_meaning.specs.Code.{Code as Nodes, node_at};
-ghost use Rattle.nl_exec_meaning.specs.State.{State};
+ghost use Rattle.nl_exec_meaning.specs.State.{State, ends};
 ghost use Rattle.nl_exec_meaning.specs.Meaning.{evaluator, limited};
 ghost use Rattle.nl_exec_meaning.specs.Frames.{going};
 ghost use Rattle.nl_exec_meaning.specs.Ground.{Ground, fits};
@@ -304,7 +304,7 @@ pub fn spend_units<S: Store>(
     // With just these units the end is that of the text, or that of the units.
     ensures now { IfOk result (λ r.
         rest code.now limit levels.old.items start (state_of code.now.names hands.old units)
-        ≡ ended (stop_exit r.0) (state_of code.now.names hands.new r.1)) }
+        ≡ ends (stop_exit r.0) (state_of code.now.names hands.new r.1)) }
     ensures over { IfOk result (λ r. IsOver levels.new.items r.0) }
     ensures wanted { IfOk result (λ r. IsSpent r.0 r.1) }
     ensures left { IfOk result (λ r. r.1 ≤ units) }

@@ -8,6 +8,7 @@ pub mod Frames
 pub mod Ground
 pub mod Kept
 pub mod Laws
+pub mod LoneTexts
 pub mod Makings
 pub mod Meaning
 pub mod Means

@@ -9,7 +9,7 @@ use Rattle.nl_exec_meaning.specs.State.{State, Outcome, ends}
 use Rattle.nl_exec_meaning.specs.Kept.{all_held}
 use Rattle.nl_exec_meaning.specs.Ground.{Ground, ground_of}
 use Rattle.nl_exec_meaning.specs.declared.exits.Exit.{Exit}
-use Rattle.nl_exec_meaning.specs.declared.exits.Exit.TheVariants.{Gives, Stopped, Reported, Left, Budget, Error}
+use Rattle.nl_exec_meaning.specs.declared.exits.Exit.TheVariants.{Gives, Stopped, Reported, Left, Error}
 use Rattle.nl_exec_meaning.specs.declared.hands.Hands.{Hands}
 
 abbrev pub exit_seen : Exit → meant.Exit
@@ -17,7 +17,6 @@ exit_seen (Gives value) = meant.Gives (plain value)
 exit_seen Stopped = meant.Stopped
 exit_seen (Reported value) = meant.Reported (plain value)
 exit_seen Left = meant.Left
-exit_seen Budget = meant.Budget
 exit_seen (Error kind at body) = meant.Error kind at body
 
 -- the outcome of an end in a state

@@ -16,7 +16,7 @@ use Rattle.nl_exec_meaning.specs.declared.turns.Gathered.TheVariants as gathered
 use Rattle.nl_exec_meaning.specs.Sound.{MakingStands}
 use Rattle.nl_exec_meaning.specs.Seen.{ground}
 use Rattle.nl_exec_meaning.specs.declared.exits.Exit.{Exit}
-use Rattle.nl_exec_meaning.specs.declared.exits.Exit.TheVariants.{Gives, Stopped, Reported, Left, Budget, Error}
+use Rattle.nl_exec_meaning.specs.declared.exits.Exit.TheVariants.{Gives, Stopped, Reported, Left, Error}
 use Rattle.nl_exec_meaning.specs.declared.hands.Hands.{Hands}
 use Rattle.nl_exec_meaning.specs.declared.frames.Frame.{Frame}
 use Rattle.nl_exec_meaning.specs.declared.frames.Frame.TheVariants as frame
@@ -31,7 +31,6 @@ ExitFits g (Gives value) = IsTrue (fits g (plain value))
 ExitFits g (Reported value) = IsTrue (fits g (plain value))
 ExitFits g Stopped = ⊤
 ExitFits g Left = ⊤
-ExitFits g Budget = ⊤
 ExitFits g (Error kind at body) = ⊤
 
 -- members that are patches are patches of the world

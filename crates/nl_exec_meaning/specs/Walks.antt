@@ -5,7 +5,7 @@
 use Rattle.std.specs.Prelude.{ℕ, ℤ, pos, int_lt, Bool, true, false, not, if◌then◌else◌, List, [], ◌∷◌, ◌++◌, map, filter, length, take, nat_lt, Result, Ok, Err}
 use Rattle.std.specs.List.{list_any, list_all}
 use Rattle.nl_fixed.specs.declared.span.Span.{Span}
-use Rattle.nl_value.specs.Plain.{Plain, PlainNumber, PlainTruth, PlainItems, PlainSet, plains}
+use Rattle.nl_value.specs.Plain.{Plain, PlainNumber, PlainTruth, PlainItems, PlainLink, PlainSet, plains}
 use Rattle.nl_value.specs.Living.{Living}
 use Rattle.nl_value.specs.Order.{order_kind, have_order, comes_first, count_of}
 use Rattle.nl_value.specs.Sets.{set_kind}
@@ -246,11 +246,16 @@ abbrev pub are_comparable : Living → List Answer → Bool
 are_comparable w [] = true
 are_comparable w (a ∷ others) = list_all (λ b. have_order (order_kind w a.value) (order_kind w b.value)) (a ∷ others)
 
+-- In the order of agents, whether they live or have died since: turtles and patches by their numbers, in which they answered, and links by
+-- their ends and breeds. Of a dead link only its number is left: these come last, by their numbers.
+abbrev pub in_order_of_agents : Living → AgentKind → List Answer → List Answer
+in_order_of_agents w kind.Turtle made = made
+in_order_of_agents w kind.Patch made = made
+in_order_of_agents w kind.Link made = sorted_by (λ a b. comes_first w (PlainLink a.member) (PlainLink b.member)) made
+
 -- ascending by their values; those with equal ones in the order of agents
 abbrev pub in_order_of_values : Living → AgentKind → List Answer → List Answer
-in_order_of_values w which made =
-    sorted_by (λ a b. comes_first w a.value b.value)
-    (sorted_by (λ a b. comes_first w (agent_value which a.member) (agent_value which b.member)) made)
+in_order_of_values w which made = sorted_by (λ a b. comes_first w a.value b.value) (in_order_of_agents w which made)
 
 abbrev pub sorted_on : AgentKind → List Answer → Span → State → Outcome
 sorted_on which made place s =

@@ -6,7 +6,9 @@ use Rattle.std.specs.List.Sorted.{IsStrictlyIncreasing}
 use Rattle.std.proofs.lemmas.Bool.{and_parts, ltb-true}
 use Rattle.std.proofs.lemmas.List.{map-append}
 use Rattle.std.proofs.lemmas.List.Folds.{list_all-append, list_all-map}
-use Rattle.nl_value.specs.Plain.{PlainItems, plains}
+use Rattle.nl_value.specs.Plain.{PlainItems, PlainLink, plains}
+use Rattle.nl_value.specs.Living.{Living}
+use Rattle.nl_value.specs.Order.{comes_first}
 use Rattle.nl_value.specs.Sorting.{inserted, sorted_by}
 use Rattle.nl_value.specs.declared.sets.AgentKind.{AgentKind}
 use Rattle.nl_value.specs.declared.sets.AgentKind.TheVariants as kind
@@ -15,7 +17,7 @@ use Rattle.nl_agents.specs.World.{World}
 use Rattle.nl_agents.specs.Standing.{IsWorld}
 use Rattle.nl_agents.proofs.LivingMembers.{passing_ascend}
 use Rattle.nl_agentset_query.specs.Agents.{agent_value, agent_or_nobody, listed_value}
-use Rattle.nl_exec_meaning.specs.Walks.{Answer, members_kept}
+use Rattle.nl_exec_meaning.specs.Walks.{Answer, in_order_of_agents, in_order_of_values, members_kept}
 use Rattle.nl_exec_meaning.specs.Ground.{Ground, ground_of, patch_in, set_in, fits}
 use Rattle.nl_exec_meaning.specs.Standing.{MembersAscend, MembersFit}
 use Rattle.nl_exec_meaning.specs.declared.turns.Gathered.{Gathered}
@@ -123,13 +125,19 @@ agents_fit g kind.Turtle (a ∷ made) fit = agents_fit g kind.Turtle made tt
 agents_fit g kind.Link [] fit = refl
 agents_fit g kind.Link (a ∷ made) fit = agents_fit g kind.Link made tt
 
--- agents in some order of their answers, sorted twice
-pub sorted_fit : (g : Ground) (which : AgentKind) (first second : Answer → Answer → Bool) (made : List Answer) → MembersFit g which (members_kept made)
-    → IsTrue (fits g (PlainItems (plains (map (λ a. agent_value which a.member) (sorted_by second (sorted_by first made))))))
-sorted_fit g which first second made fit =
+-- agents in the order of their answers
+pass_in_order : (test : Answer → Bool) (w : Living) (which : AgentKind) (made : List Answer) → IsTrue (list_all test made) → IsTrue (list_all test (in_order_of_agents w which made))
+pass_in_order test w kind.Turtle made all = all
+pass_in_order test w kind.Patch made all = all
+pass_in_order test w kind.Link made all = pass_sorted test (λ a b. comes_first w (PlainLink a.member) (PlainLink b.member)) made all
+
+pub in_order_fit : (g : Ground) (w : Living) (which : AgentKind) (made : List Answer) → MembersFit g which (members_kept made)
+    → IsTrue (fits g (PlainItems (plains (map (λ a. agent_value which a.member) (in_order_of_values w which made)))))
+in_order_fit g w which made fit =
     let test = λ (a : Answer). fits g (agent_value which a.member) in
-    let sorted = pass_sorted test second (sorted_by first made) (pass_sorted test first made (agents_fit g which made fit)) in
-    items_fit g (map (λ (a : Answer). agent_value which a.member) (sorted_by second (sorted_by first made))) (list_all-map (fits g) (λ (a : Answer). agent_value which a.member) (sorted_by second (sorted_by first made)) ∙ sorted)
+    let first = in_order_of_agents w which made in
+    let sorted = pass_sorted test (λ a b. comes_first w a.value b.value) first (pass_in_order test w which made (agents_fit g which made fit)) in
+    items_fit g (map (λ (a : Answer). agent_value which a.member) (in_order_of_values w which made)) (list_all-map (fits g) (λ (a : Answer). agent_value which a.member) (in_order_of_values w which made) ∙ sorted)
 
 pub values_fit : (g : Ground) (made : List Answer) → IsTrue (list_all (λ a. fits g a.value) made) → IsTrue (fits g (PlainItems (plains (map (λ a. a.value) made))))
 values_fit g made all = items_fit g (map (λ (a : Answer). a.value) made) (list_all-map (fits g) (λ (a : Answer). a.value) made ∙ all)

@@ -12,12 +12,13 @@ use Rattle.nl_value.specs.Living.{Living}
 use Rattle.nl_value.specs.Order.{comes_first}
 use Rattle.nl_value.specs.Plain.{Plain}
 use Rattle.nl_value.specs.declared.sets.AgentKind.{AgentKind}
+use Rattle.nl_value.specs.declared.sets.AgentKind.TheVariants as kind
 use Rattle.nl_value.proofs.StableSorts.{sorted_by-map}
 use Rattle.nl_agentset_query.specs.Agents.{agent_value}
-use Rattle.nl_exec_meaning.specs.Walks.{Answer, members_kept, is_number, in_order_of_numbers, in_order_of_values}
+use Rattle.nl_exec_meaning.specs.Walks.{Answer, members_kept, is_number, in_order_of_agents, in_order_of_numbers, in_order_of_values}
 use Rattle.nl_exec_meaning.specs.inner.Seen.{answered}
 use Rattle.nl_exec_meaning.specs.declared.turns.Answered.{Answered}
-use Rattle.nl_exec_walks.specs.inner.Passes.{ranked, outranks, paired}
+use Rattle.nl_exec_walks.specs.inner.Passes.{ranked, outranks, paired, placed_in_order}
 use Rattle.nl_exec_walks.specs.declared.several.Ranked.{Ranked}
 use Rattle.nl_exec_walks.proofs.Best.{int_less}
 
@@ -73,13 +74,17 @@ agents_of_paired : (which : AgentKind) (made : List Answer) → map (λ (p : Pla
 agents_of_paired which [] = refl
 agents_of_paired which (a ∷ made) = ap (λ ps. agent_value which a.member ∷ ps) (agents_of_paired which made)
 
+paired_in_order : (w : Living) (which : AgentKind) (made : List Answer) → placed_in_order w which (map (paired which) made) ≡ map (paired which) (in_order_of_agents w which made)
+paired_in_order w kind.Turtle made = refl
+paired_in_order w kind.Patch made = refl
+paired_in_order w kind.Link made = sym (sorted_by-map (paired kind.Link) (λ a b. comes_first w a.0 b.0) made)
+
 pub agents_in_order : (w : Living) (which : AgentKind) (made : List Answer) (first second third : List (Plain × Plain)) (agents : List Plain)
-    → first ≡ map (paired which) made → second ≡ sorted_by (λ a b. comes_first w a.0 b.0) first → third ≡ sorted_by (λ a b. comes_first w a.1 b.1) second
+    → first ≡ map (paired which) made → second ≡ placed_in_order w which first → third ≡ sorted_by (λ a b. comes_first w a.1 b.1) second
     → agents ≡ map (λ p. p.0) third → agents ≡ map (λ a. agent_value which a.member) (in_order_of_values w which made)
 agents_in_order w which made first second third agents one two three told =
-    let by_agents = sorted_by (λ (a b : Answer). comes_first w (agent_value which a.member) (agent_value which b.member)) made in
-    let pairs : second ≡ map (paired which) by_agents =
-    two ∙ ap (sorted_by (λ a b. comes_first w a.0 b.0)) one ∙ sym (sorted_by-map (paired which) (λ a b. comes_first w a.0 b.0) made) in
+    let by_agents = in_order_of_agents w which made in
+    let pairs : second ≡ map (paired which) by_agents = two ∙ ap (placed_in_order w which) one ∙ paired_in_order w which made in
     let by_values : third ≡ map (paired which) (in_order_of_values w which made) =
     three ∙ ap (sorted_by (λ a b. comes_first w a.1 b.1)) pairs ∙ sym (sorted_by-map (paired which) (λ a b. comes_first w a.1 b.1) by_agents) in
     told ∙ ap (map (λ p. p.0)) by_values ∙ agents_of_paired which (in_order_of_values w which made)

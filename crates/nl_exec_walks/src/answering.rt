@@ -161,7 +161,6 @@ fn valued<S: Store>(
             back(hands, site);
             Err(Exit::Reported(value))
         }
-        Exit::Budget => Err(Exit::Budget),
         Exit::Error(kind, at, body) => Err(Exit::Error(kind, at, body)),
     }
 }

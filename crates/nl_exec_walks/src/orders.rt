@@ -12,7 +12,7 @@ ghost use Rattle.nl_exec_meaning.specs.inner.Seen.{answered};
 ghost use Rattle.nl_exec_meaning.specs.Means.{EndsAs, Stands};
 ghost use Rattle.nl_exec_meaning.specs.Seen.{ground};
 ghost use Rattle.nl_exec_meaning.specs.Standing.{ExitFits, HandsFit, MembersFit};
-ghost use Rattle.nl_exec_walks.specs.inner.Passes.{paired, placed};
+ghost use Rattle.nl_exec_walks.specs.inner.Passes.{paired, placed, placed_in_order};
 
 use nl_agents::Store;
 use nl_agents::view::View;
@@ -82,14 +82,29 @@ fn paired(alloc: Global, which: AgentKind, answers: Vec<Answered>) -> Result<Vec
     Ok(all)
 }
 
-// In the order of agents.
-fn by_agents<L: Life>(mut all: Vec<Placed>, life: &L) -> Result<Vec<Placed>, NoMemory>
+// Links in their order: by their ends and breeds, the dead ones last.
+fn by_links<L: Life>(mut all: Vec<Placed>, life: &L) -> Result<Vec<Placed>, NoMemory>
     ensures { let w = L.living life.now in
         IfOk result (λ sorted.
         map placed sorted.items ≡ sorted_by (λ a b. comes_first w a.0 b.0) (map placed all.items)) }
 {
     all.sort_by(|a, b| compare(&a.agent, &b.agent, life))?;
     Ok(all)
+}
+
+// In the order of agents. Turtles and patches stand in it as they answered.
+fn in_order_of_agents<L: Life>(
+    which: AgentKind,
+    all: Vec<Placed>,
+    life: &L,
+) -> Result<Vec<Placed>, NoMemory>
+    ensures { let w = L.living life.now in
+        IfOk result (λ sorted. map placed sorted.items ≡ placed_in_order w which (map placed all.items)) }
+{
+    match which {
+        AgentKind::Turtle | AgentKind::Patch => Ok(all),
+        AgentKind::Link => by_links(all, life),
+    }
 }
 
 // In the order of what they answered; those with equal values stay in place.
@@ -125,7 +140,7 @@ pub fn in_order<L: Life>(
         IfOk result (λ agents. agents ≡ map (λ a. agent_value which a.member) sorted) }
 {
     let pairs = paired(alloc, which, answers.into_vec())?;
-    let first = by_agents(pairs, life)?;
+    let first = in_order_of_agents(which, pairs, life)?;
     let last = by_values(first, life)?;
     agents_of(alloc, last)
 }

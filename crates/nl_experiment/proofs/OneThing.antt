@@ -1,33 +1,14 @@
 -- An experiment says one thing.
-use Rattle.std.proofs.Common.{◌≡◌, ◌⊎◌, inl, inr, List, [], ◌∷◌, length, Result, Ok, Err, Some, refl, sym, ap, ◌∙◌}
+use Rattle.std.proofs.Common.{◌≡◌, ◌⊎◌, inl, inr, List, [], ◌∷◌, length, Some, refl, sym, ap, ◌∙◌}
 use Rattle.nl_tree.specs.Checked.{Checked}
 use Rattle.nl_check_model.specs.LoneText.{IsInner}
 use Rattle.nl_check_model.specs.declared.lone_faults.Inner.{Inner}
 use Rattle.nl_check_model.proofs.OneThing as lone
-use Rattle.nl_experiment_keys.specs.declared.faults.KeyFault.{KeyFault}
 use Rattle.nl_experiment_keys.specs.declared.faults.PlanKind.TheVariants.{BadText}
-use Rattle.nl_experiment_fields.specs.declared.fields.Fields.{Fields}
 use Rattle.nl_experiment.specs.Laws as law
 use Rattle.nl_experiment.specs.Laws.{HaveTrees}
-use Rattle.nl_experiment.specs.Plan.{experiment_says}
 use Rattle.nl_experiment.specs.Texts.{HasTree, IsBadText, IsFirstBad, LoneText, texts_of}
 use Rattle.nl_experiment.specs.declared.faults.PlanFault.{PlanFault}
-
-either : (said : Result Fields KeyFault) → ((f : Fields) × (said ≡ Ok f)) ⊎ ((fault : KeyFault) × (said ≡ Err fault))
-either (Ok f) = inl (f, refl)
-either (Err fault) = inr (fault, refl)
-
-pub files_have_fields_or_faults : law.FilesHaveFieldsOrFaults
-files_have_fields_or_faults file = either (experiment_says file)
-
-not_both : (said : Result Fields KeyFault) (f : Fields) (fault : KeyFault) → said ≡ Ok f → said ≡ Err fault → ⊥
-not_both (Ok g) f fault is bad = cc
-not_both (Err g) f fault is bad = cc
-
-pub fields_have_no_faults : law.FieldsHaveNoFaults
-fields_have_no_faults file f fault is bad = not_both (experiment_says file) f fault is bad
-
--- ---- texts
 
 no_bad : (p : Checked) (t : LoneText) (fault : PlanFault) → HasTree p t → IsBadText p t fault → ⊥
 no_bad p t fault has bad = lone.trees_have_no_faults p t.form t.text has.0 bad.inner has.1 bad.bad

@@ -1,20 +1,20 @@
 -- What the definitions of experiments mean.
-use Rattle.std.specs.Prelude.{◌≡◌, ◌⊎◌, List, [], ◌∷◌, length, Ok, Err}
+use Rattle.std.specs.Prelude.{◌≡◌, ◌⊎◌, All, IsTrue, List, [], ◌∷◌, length, Ok}
 use Rattle.nl_fixed.specs.Nouns.{Bytes}
 use Rattle.nl_tree.specs.Checked.{Checked}
-use Rattle.nl_experiment_keys.specs.declared.faults.KeyFault.{KeyFault}
+use Rattle.nl_tree.specs.Vocabulary.{among}
+use Rattle.nl_experiment_fields.specs.Names.{is_of_run}
 use Rattle.nl_experiment_fields.specs.declared.fields.Fields.{Fields}
 use Rattle.nl_experiment.specs.Plan.{experiment_says}
 use Rattle.nl_experiment.specs.Texts.{HasTree, IsFirstBad, LoneText, texts_of}
+use Rattle.nl_experiment.specs.Widgets.{names_of, widgets_of}
 use Rattle.nl_experiment.specs.declared.faults.PlanFault.{PlanFault}
 
--- a file has fields or a first fault
-abbrev pub FilesHaveFieldsOrFaults : Type 0
-FilesHaveFieldsOrFaults = (file : Bytes) → ((f : Fields) × (experiment_says file ≡ Ok f)) ⊎ ((fault : KeyFault) × (experiment_says file ≡ Err fault))
-
--- and not both
-abbrev pub FieldsHaveNoFaults : Type 0
-FieldsHaveNoFaults = (file : Bytes) (f : Fields) (fault : KeyFault) → experiment_says file ≡ Ok f → experiment_says file ≡ Err fault → ⊥
+-- Each name that an experiment sets or varies is one of the run itself, as a bound of its world or its seed, or a widget's. Widgets differ, so a
+-- name that stands in both is one of them.
+abbrev pub NamesAreWidgets : Type 0
+NamesAreWidgets =
+    (file : Bytes) (f : Fields) → experiment_says file ≡ Ok f → All (λ name. IsTrue (is_of_run name) ⊎ IsTrue (among name (widgets_of f))) (names_of f)
 
 -- each of these texts has a tree
 abbrev pub HaveTrees : Checked → List LoneText → Type 0

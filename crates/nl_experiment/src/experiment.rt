@@ -1,6 +1,7 @@
 //! An experiment: the fields of its file, its runs and its widgets.
 ghost use Rattle.std.specs.Prelude.{◌≡◌, ◌<◌};
 ghost use Rattle.nl_experiment_sweep.specs.Varied.{AllHaveValues};
+ghost use Rattle.nl_experiment_fields.specs.Written.{AreWritten};
 ghost use Rattle.nl_experiment.specs.Plan as spec;
 ghost use Rattle.nl_experiment.specs.Plan.{Says, experiment_says};
 
@@ -21,7 +22,8 @@ use std::marker::Model;
 // A model has fewer widgets. A file isn't long enough for so many.
 const MOST_WIDGETS: usize = 1 << 24;
 
-/// What an experiment says, seen by contracts as its fields. Its runs are not too many, and each has a world.
+/// What an experiment says, seen by contracts as its fields. Its runs are not too many, each has a world, and its values are
+/// written down.
 #[derive(Drop)]
 pub struct Experiment {
     fields: Fields,
@@ -34,6 +36,7 @@ impl Model for Experiment {
     ghost use Rattle.nl_tree.specs.Names.{AreWidgets};
     ghost use Rattle.nl_experiment_sweep.specs.Sweep.{runs_of};
     ghost use Rattle.nl_experiment_fields.specs.declared.fields.Fields.{Fields};
+    ghost use Rattle.nl_experiment_fields.specs.Written.{AreWritten};
     ghost use Rattle.nl_experiment.specs.Plan.{IsPlan, order_of};
     ghost use Rattle.nl_experiment.specs.Widgets.{widgets_of};
     ghost use Rattle.std.specs.Coded.{codes};
@@ -47,7 +50,7 @@ impl Model for Experiment {
     ghost view = { λ e. e.fields };
 
     ghost invariant = { λ e. IsPlan e.fields × (e.widgets ≡ widgets_of e.fields)
-        × AreWidgets e.widgets × (e.runs ≡ runs_of (order_of e.fields) e.fields.vary) };
+        × AreWidgets e.widgets × (e.runs ≡ runs_of (order_of e.fields) e.fields.vary) × AreWritten e.fields };
 }
 
 // How the runs of an experiment follow each other.
@@ -85,6 +88,7 @@ fn world_of(fields: &Fields) -> World
 fn judged(alloc: Global, fields: Fields) -> Result<Experiment, PlanRefusal>
     requires values { AllHaveValues fields.vary }
     requires repeated { 0 < fields.repetitions }
+    requires written { AreWritten fields }
     ensures { Says (spec.judged fields) result }
 {
     let order = order_of(&fields);
@@ -109,6 +113,7 @@ impl Experiment {
     ghost use Rattle.std.specs.Prelude.{◌≡◌, ◌<◌, ◌≤◌, IfOk, IfErr, is_some};
     ghost use Rattle.nl_tree.specs.Names.{AreWidgets};
     ghost use Rattle.nl_experiment_sweep.specs.Sweep.{IsRun, plane_of_run, runs_of, seed_of, settings_of};
+    ghost use Rattle.nl_experiment_fields.specs.Written.{AreWritten};
     ghost use Rattle.nl_experiment.specs.Numbers.{AreDigits, number_of, run_among};
     ghost use Rattle.nl_experiment.specs.Plan.{Says, experiment_says, order_of, world_of};
     ghost use Rattle.nl_experiment.specs.Texts.{AreTreesFor, RefusesTexts, texts_of, trees_of};
@@ -143,7 +148,8 @@ impl Experiment {
 
     /// The fields of the file.
     pub fn fields(&self) -> &Fields
-        ensures { result.now ≡ self.now }
+        ensures same { result.now ≡ self.now }
+        ensures written { AreWritten self.now }
     {
         &self.fields
     }

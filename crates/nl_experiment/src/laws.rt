@@ -1,12 +1,14 @@
-//! What the definitions of experiments mean. This function does nothing: its contract is a law.
-ghost use Rattle.nl_experiment.specs.Laws.{FaultsAreUnique, FieldsHaveNoFaults, FilesHaveFieldsOrFaults, TextsHaveTreesOrFaults, TreesHaveNoFaults};
+//! What the definitions of experiments mean. These functions do nothing: the contract of each is a law.
+ghost use Rattle.nl_experiment.specs.Laws.{FaultsAreUnique, NamesAreWidgets, TextsHaveTreesOrFaults, TreesHaveNoFaults};
 
-/// A file has fields or a first fault, and not both. Beside a program its texts have trees or a first fault, and not both, and one first
-/// fault at most.
+/// Beside a program the texts of an experiment have trees or a first fault, and not both, and one first fault at most.
 pub fn experiments_say_one_thing()
-    ensures fields { FilesHaveFieldsOrFaults }
-    ensures apart { FieldsHaveNoFaults }
     ensures texts { TextsHaveTreesOrFaults }
     ensures trees { TreesHaveNoFaults }
     ensures faults { FaultsAreUnique }
+{}
+
+/// No name that an experiment sets or varies is dropped: it is a widget's, or one of the run itself.
+pub fn names_are_widgets()
+    ensures { NamesAreWidgets }
 {}

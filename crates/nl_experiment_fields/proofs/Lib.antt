@@ -1,6 +1,12 @@
+pub mod Binds
+pub mod FaultKeys
+pub mod FirstFault
 pub mod Forms
 pub mod Gathering
 pub mod Lists
+pub mod Naming
+pub mod Reaching
 pub mod Steps
 pub mod Tables
 pub mod Walks
+pub mod Writing

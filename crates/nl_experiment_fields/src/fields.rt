@@ -4,6 +4,7 @@ ghost use Rattle.toml.specs.View.{table_view};
 ghost use Rattle.nl_experiment_sweep.specs.Varied.{AllHaveValues};
 ghost use Rattle.nl_experiment_keys.specs.Reading.{Reads};
 ghost use Rattle.nl_experiment_fields.specs.File as spec;
+ghost use Rattle.nl_experiment_fields.specs.Written.{AreWritten};
 
 use crate::entries::vary_at;
 use crate::globals::globals_at;
@@ -154,12 +155,14 @@ fn fields_in(alloc: Global, table: &Table) -> Result<Fields, KeyRefusal>
     })
 }
 
-/// The fields that a file has, or its first fault in the order of its keys. Each variable that is varied has a value at least,
-/// and there is a repetition at least.
+/// The fields that a file has, or its first fault in the order of its keys. Each variable that is varied has a value at least, there
+/// is a repetition at least, and all values are written down.
+#[tactic(auto, using(crate::proofs::Writing::fields_are_written))]
 pub fn fields_of(alloc: Global, file: &[u8]) -> Result<Fields, KeyRefusal>
     ensures reads { Reads (spec.file_says file.now) result }
     ensures values { IfOk result (λ fields. AllHaveValues fields.vary) }
     ensures repeated { IfOk result (λ fields. 0 < fields.repetitions) }
+    ensures written { IfOk result AreWritten }
 {
     let table = table_of(alloc, file)?;
     fields_in(alloc, &table)

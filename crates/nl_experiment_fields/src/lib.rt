@@ -6,6 +6,7 @@ pub mod entries;
 pub mod fields;
 pub mod globals;
 mod keys;
+pub mod laws;
 pub mod literals;
 pub mod names;
 mod numbers;

@@ -5,9 +5,8 @@ use Rattle.nl_fixed.specs.Nouns.{Bytes, Texts}
 use Rattle.nl_value.specs.Limits.{most_bytes}
 use Rattle.nl_value.specs.Plain.{Plain, PlainNumber, PlainTruth, PlainWords, PlainItems, PlainTurtle, PlainPatch, PlainLink, PlainNobody, PlainSet}
 use Rattle.nl_tree.specs.declared.declared.Form.TheVariants as form
-use Rattle.nl_exec.specs.Endings.{Ending, ending_of}
-use Rattle.nl_exec.specs.Endings as ending
-use Rattle.nl_exec.specs.Machines.{first_state}
+use Rattle.nl_exec_meaning.specs.LoneTexts.{Ending, ending_of, first_state}
+use Rattle.nl_exec_meaning.specs.LoneTexts as ending
 use Rattle.nl_run.specs.Course.{Finish, Standing, after_go, after_until, behind, cell_of, cells, commands, commands_by, condition, counted, fails_at_first, go_name, go_step, is_reached, measured, measured_if, metric_name, outcome_of, put_back, regular_end, step_or_end, steps, steps_from, truth_by, unit_by, until_name, value, value_by, with_row}
 use Rattle.nl_run.specs.Job.{Job, Lone}
 use Rattle.nl_run.specs.declared.rows.RunEnd.TheVariants as end_

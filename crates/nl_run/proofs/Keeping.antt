@@ -7,9 +7,8 @@ use Rattle.nl_value.specs.Plain.{Plain, PlainNumber, PlainTruth, PlainWords, Pla
 use Rattle.nl_tree.specs.declared.declared.Form.TheVariants as form
 use Rattle.nl_exec_acts.specs.Stage.{Scene}
 use Rattle.nl_exec_acts.specs.declared.fail.ErrorKind.TheVariants.{TooLarge}
-use Rattle.nl_exec.specs.Endings.{Ending, ending_of}
-use Rattle.nl_exec.specs.Endings as ending
-use Rattle.nl_exec.specs.Machines.{first_state, in_stream, scene_in}
+use Rattle.nl_exec_meaning.specs.LoneTexts.{Ending, ending_of, first_state, in_stream, scene_in}
+use Rattle.nl_exec_meaning.specs.LoneTexts as ending
 use Rattle.nl_run.specs.Course.{Finish, Standing, after_go, after_until, at_first, behind, cell_of, cells, commands, commands_by, condition, counted, course_within, ends_as, fails_at_first, go_name, go_step, is_reached, measured_if, metric_name, outcome_of, put_back, regular_end, setup_name, step_or_end, steps, steps_from, truth_by, unit_by, until_name, value, value_by}
 use Rattle.nl_run.specs.Job.{Job, Lone}
 use Rattle.nl_run.specs.declared.rows.RunEnd.TheVariants as end_

@@ -3,9 +3,9 @@ pub mod Budgets
 pub mod Keeping
 pub mod Metrics
 pub mod Moving
-pub mod OneRun
 pub mod RowLaws
 pub mod Settings
+pub mod Spending
 pub mod Starting
 pub mod Stepping
 pub mod Thrift

@@ -7,9 +7,9 @@ use Rattle.nl_agents.specs.declared.store.Store.{Ghosts}
 use Rattle.nl_exec_acts.specs.Stage.{Scene}
 use Rattle.nl_exec_meaning.specs.State.{Outcome}
 use Rattle.nl_exec_meaning.specs.State as meant
-use Rattle.nl_exec.specs.Endings.{Ending, ending_of}
-use Rattle.nl_exec.specs.Endings as ending
-use Rattle.nl_exec.specs.Machines.{scene_in, with_more}
+use Rattle.nl_exec_meaning.specs.LoneTexts.{Ending, ending_of, scene_in}
+use Rattle.nl_exec_meaning.specs.LoneTexts as ending
+use Rattle.nl_exec.specs.Machines.{with_more}
 use Rattle.nl_run.specs.Course.{Finish, ends_as, go_step, steps}
 use Rattle.nl_run.specs.Job.{Job}
 use Rattle.nl_run.specs.Left.{form_in, rest_by, settled, standing, stands}

@@ -8,7 +8,7 @@ use Rattle.nl_value.specs.declared.sets.AgentSet.{AgentSet}
 use Rattle.nl_agents.specs.Names.{patch_fits, set_fits}
 use Rattle.nl_agents.specs.Standing.{fits_rest}
 use Rattle.nl_agents.specs.World.{Rest}
-use Rattle.nl_run.specs.Written.{is_written}
+use Rattle.nl_experiment_fields.specs.Written.{is_written}
 
 module _ (patch : ℕ → Bool) (set : AgentSet → Bool) where
   mutual

@@ -10,8 +10,8 @@ use Rattle.nl_agents.specs.World.{World, first_world}
 use Rattle.nl_exec_acts.specs.Stage.{Scene, scene}
 use Rattle.nl_exec_meaning.specs.Meaning.{text}
 use Rattle.nl_exec_meaning.specs.State.{Outcome}
-use Rattle.nl_exec.specs.Endings.{ending_of}
-use Rattle.nl_exec.specs.Machines.{first_state, in_world, scene_in}
+use Rattle.nl_exec_meaning.specs.LoneTexts.{ending_of, first_state, scene_in}
+use Rattle.nl_exec.specs.Machines.{in_world}
 use Rattle.nl_experiment_sweep.specs.Varied.{PlainSetting}
 use Rattle.nl_run.specs.Course.{Finish, after_setup, commands_by, course_within, setup_name, steps}
 use Rattle.nl_run.specs.Job.{Job, called, scene_at_first, set_all}

@@ -20,10 +20,9 @@ use Rattle.nl_exec_acts.specs.declared.fail.ErrorKind.{ErrorKind}
 use Rattle.nl_exec_acts.specs.declared.fail.ErrorKind.TheVariants.{WrongType, TooLarge}
 use Rattle.nl_exec_meaning.specs.State.{Outcome}
 use Rattle.nl_exec_meaning.specs.Meaning.{text}
-pub use Rattle.nl_exec.specs.Endings.{Ending, ending_of}
-pub use Rattle.nl_exec.specs.Endings as ending
-pub use Rattle.nl_exec.specs.Machines.{first_state}
-use Rattle.nl_exec.specs.Machines.{scene_in, in_stream}
+pub use Rattle.nl_exec_meaning.specs.LoneTexts.{Ending, ending_of, first_state}
+pub use Rattle.nl_exec_meaning.specs.LoneTexts as ending
+use Rattle.nl_exec_meaning.specs.LoneTexts.{scene_in, in_stream}
 use Rattle.nl_run.specs.Job.{Job, Lone, scene_at_first}
 use Rattle.nl_run.specs.Rows.{measure, closed_by, error_text}
 use Rattle.nl_run.specs.declared.rows.Row.{Row}

@@ -1,7 +1,6 @@
 -- The runs of an experiment: what each is made of. Of other runs it has nothing.
-use Rattle.std.specs.Prelude.{◌≡◌, ℕ, true}
+use Rattle.std.specs.Prelude.{ℕ}
 use Rattle.std.specs.Option.{option_map}
-use Rattle.std.specs.List.{list_all}
 use Rattle.nl_fixed.specs.Nouns.{Bytes}
 use Rattle.nl_tree.specs.Checked.{Checked}
 use Rattle.nl_tree.specs.Views.{plain}
@@ -10,7 +9,6 @@ use Rattle.nl_experiment_fields.specs.declared.fields.Fields.{Fields}
 use Rattle.nl_experiment.specs.Plan.{order_of, world_of}
 use Rattle.nl_experiment.specs.declared.texts.Texts as declared
 use Rattle.nl_run.specs.Job.{Job, Trees, lone, lones, maybe_lone}
-use Rattle.nl_run.specs.Written.{all_written, is_written_choice}
 
 abbrev pub trees_seen : declared.Texts → Trees
 trees_seen t = record { setup = plain t.setup; go = plain t.go; until = option_map plain t.until; metrics = t.metrics }
@@ -34,8 +32,3 @@ job_by p source f trees number = record {
   every_step = f.every_step;
   budget = f.budget;
 }
-
--- the values that an experiment sets, and those that it varies, are written down in its file
-pub record AreWritten (f : Fields) : Type 0 where
-  pub globals : all_written f.globals ≡ true
-  pub vary : list_all (λ v. is_written_choice v.choice) f.vary ≡ true

@@ -1,13 +1,11 @@
 -- What the course of a run means: laws above the definition.
-use Rattle.std.specs.Prelude.{◌≡◌, ℕ, ◌≤◌, ◌<◌, ⊤, List, [], ◌∷◌, Option, Some, None}
+use Rattle.std.specs.Prelude.{◌≡◌, ℕ, ◌+◌, ◌-◌, ◌≤◌, ◌<◌, ⊤, Bool, List, [], ◌∷◌, Option, Some, None}
 use Rattle.nl_fixed.specs.Nouns.{Bytes, Texts}
-use Rattle.nl_tree.specs.Checked.{Checked}
-use Rattle.nl_experiment_sweep.specs.Sweep.{plane_of_run, seed_of, settings_of}
-use Rattle.nl_experiment_fields.specs.declared.fields.Fields.{Fields}
-use Rattle.nl_experiment.specs.Plan.{order_of, world_of}
-use Rattle.nl_run.specs.Course.{Standing, course_within, rows_of, step_or_end, steps, steps_from}
-use Rattle.nl_run.specs.Experiments.{job_by}
-use Rattle.nl_run.specs.Job.{Job, Trees}
+use Rattle.nl_value.specs.Plain.{Plain}
+use Rattle.nl_tree.specs.declared.declared.Form.{Form}
+use Rattle.nl_tree.specs.declared.declared.Form.TheVariants as form
+use Rattle.nl_run.specs.Course.{Finish, Standing, commands, condition, course_within, outcome_of, rows_of, step_or_end, steps, steps_from, value}
+use Rattle.nl_run.specs.Job.{Job, Lone}
 use Rattle.nl_run.specs.declared.rows.Row.{Row}
 use Rattle.nl_run.specs.declared.rows.RunEnd.TheVariants as end_
 
@@ -22,6 +20,32 @@ StepsFollowEachOther = (j : Job) (s : Standing) → steps j s ≡ step_or_end j 
 -- it makes no difference how many steps are allowed, as long as they are more than there are units
 abbrev pub UnitsBoundSteps : Type 0
 UnitsBoundSteps = (most : ℕ) (j : Job) (s : Standing) → s.left < most → steps_from most j s ≡ steps j s
+
+-- ---- units of a text
+
+-- the units that a text spends
+abbrev pub spent_by : Job → Form → Lone → Standing → ℕ
+spent_by j f l s = s.left - (outcome_of j f l s).state.units
+
+-- What comes behind commands is told by what it is where there are as many units fewer as they spent: two that are the same there are the same
+-- behind these commands. So it is behind metrics and conditions.
+abbrev pub TextsSpend : Type 0
+TextsSpend =
+    (j : Job) (called : Bytes) (l : Lone) (s : Standing) (next other : Bool → Standing → Finish)
+    → ((b : Bool) (t : Standing) → t.left + spent_by j form.Commands l s ≡ s.left → next b t ≡ other b t)
+    → commands j called l s next ≡ commands j called l s other
+
+abbrev pub MetricsSpend : Type 0
+MetricsSpend =
+    (j : Job) (called : Bytes) (l : Lone) (s : Standing) (next other : Plain → Standing → Finish)
+    → ((v : Plain) (t : Standing) → t.left + spent_by j form.Reporter l s ≡ s.left → next v t ≡ other v t)
+    → value j called l s next ≡ value j called l s other
+
+abbrev pub ConditionsSpend : Type 0
+ConditionsSpend =
+    (j : Job) (l : Lone) (s : Standing) (next other : Bool → Standing → Finish)
+    → ((b : Bool) (t : Standing) → t.left + spent_by j form.Reporter l s ≡ s.left → next b t ≡ other b t)
+    → condition j (Some l) s next ≡ condition j (Some l) s other
 
 -- ---- rows
 
@@ -49,26 +73,3 @@ StepsRise (r ∷ s ∷ rs) = Rises r s × StepsRise (s ∷ rs)
 
 abbrev pub RowsRise : Type 0
 RowsRise = (j : Job) → StepsRise (rows_of j)
-
--- ---- runs of one experiment and of another
-
--- what the two say of a run is the same, and so is all that their runs share
-pub record SayTheSame (f g : Fields) (number : ℕ) : Type 0 where
-  pub settings : settings_of (order_of f) f.vary number ≡ settings_of (order_of g) g.vary number
-  pub seed : seed_of (order_of f) f.vary f.seed number ≡ seed_of (order_of g) g.vary g.seed number
-  pub shape : plane_of_run (world_of f) (order_of f) f.vary number ≡ plane_of_run (world_of g) (order_of g) g.vary number
-  pub name : f.name ≡ g.name
-  pub setup : f.setup ≡ g.setup
-  pub go : f.go ≡ g.go
-  pub until : f.until ≡ g.until
-  pub steps : f.steps ≡ g.steps
-  pub every_step : f.every_step ≡ g.every_step
-  pub budget : f.budget ≡ g.budget
-  pub metrics : f.metrics ≡ g.metrics
-  pub globals : f.globals ≡ g.globals
-
--- then its rows are: they rest on nothing else that the experiment varies or repeats
-abbrev pub RowsAreTheirRuns : Type 0
-RowsAreTheirRuns =
-    (p : Checked) (source : Bytes) (f g : Fields) (trees : Trees) (number : ℕ) → SayTheSame f g number
-    → rows_of (job_by p source f trees number) ≡ rows_of (job_by p source g trees number)

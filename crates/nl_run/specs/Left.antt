@@ -6,8 +6,8 @@ use Rattle.nl_tree.specs.declared.declared.Form.TheVariants as form
 use Rattle.nl_agents.specs.declared.store.Store.{Ghosts}
 use Rattle.nl_exec_acts.specs.Stage.{Scene}
 use Rattle.nl_exec_meaning.specs.State.{Outcome}
-use Rattle.nl_exec.specs.Endings.{Ending, ending_of}
-use Rattle.nl_exec.specs.Machines.{IsClosed, IsOpen, form_of, program_of, rest_of, scene_in, scene_of, spent_of, units_left}
+use Rattle.nl_exec_meaning.specs.LoneTexts.{Ending, ending_of, scene_in}
+use Rattle.nl_exec.specs.Machines.{IsClosed, IsOpen, form_of, program_of, rest_of, scene_of, spent_of, units_left}
 use Rattle.nl_run.specs.Job.{Job}
 use Rattle.nl_run.specs.Plans.{lone_seen}
 use Rattle.nl_run.specs.Course.{Standing, Finish, ends_as, commands_by, value_by, put_back, setup_name, go_name, until_name, metric_name, with_cell, cells, with_row, truth_by, after_setup, after_go, after_until, go_step, steps}

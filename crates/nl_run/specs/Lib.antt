@@ -9,4 +9,3 @@ pub mod Plans
 pub mod Rows
 pub mod Runs
 pub mod inner
-pub mod Written

@@ -1,6 +1,6 @@
 //! What a run is made of.
 ghost use Rattle.std.specs.Prelude.{◌≡◌, ◌≤◌, true, IfOk};
-ghost use Rattle.nl_run.specs.Written.{all_written};
+ghost use Rattle.nl_experiment_fields.specs.Written.{all_written};
 
 use crate::rows::{Row, RunEnd};
 use nl_experiment_sweep::{Setting, Settings};
@@ -72,7 +72,7 @@ impl<'a> Plan<'a> {
     ghost use Rattle.std.specs.Option.{option_map};
     ghost use Rattle.nl_run.specs.Plans.{job_in, lone_seen};
     ghost use Rattle.nl_run.specs.Rows.{further, measure};
-    ghost use Rattle.nl_run.specs.Written.{all_written};
+    ghost use Rattle.nl_experiment_fields.specs.Written.{all_written};
 
     /// The model's program.
     pub fn program(&self) -> &'a Program

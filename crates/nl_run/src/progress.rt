@@ -22,7 +22,8 @@ impl<'a, S: Store> Progress<'a, S> {
     ghost use Rattle.std.specs.Prelude.{◌≡◌, ℕ, ◌≤◌, OnOk};
     ghost use Rattle.nl_tree.specs.Views.{plain};
     ghost use Rattle.nl_exec_meaning.specs.Meaning.{text as meaning};
-    ghost use Rattle.nl_exec.specs.Machines.{IsClosed, IsOpen, first_state, form_of, program_of, rest_of, scene_of, spent_of};
+    ghost use Rattle.nl_exec_meaning.specs.LoneTexts.{first_state};
+    ghost use Rattle.nl_exec.specs.Machines.{IsClosed, IsOpen, form_of, program_of, rest_of, scene_of, spent_of};
     ghost use Rattle.nl_run.specs.Left.{GivesNone, SpendsNone};
 
     /// Opens a text of a form.

@@ -96,7 +96,7 @@ impl<'a, S: Store> Run<'a, S> {
     ghost use Rattle.std.specs.Prelude.{◌≡◌, ℕ, ◌+◌, ◌<◌, [], IfOk, IsErr, OnOk, Ok};
     ghost use Rattle.nl_experiment_sweep.specs.Sweep.{IsRun};
     ghost use Rattle.nl_experiment.specs.Plan.{order_of};
-    ghost use Rattle.nl_run.specs.Experiments.{AreWritten, job_by, trees_seen};
+    ghost use Rattle.nl_run.specs.Experiments.{job_by, trees_seen};
     ghost use Rattle.nl_run.specs.Course.{course, course_within, rows_of};
     ghost use Rattle.nl_run.specs.Runs.{HasEnded, HasFailed, job_of, left_more, rows_in, spent_in};
     ghost use Rattle.nl_run.specs.declared.rows.RunEnd.TheVariants.{Budget};
@@ -112,9 +112,7 @@ impl<'a, S: Store> Run<'a, S> {
         texts: &'a Texts,
         number: u64,
     ) -> Result<Run<'a, S>, NoMemory>
-        requires there { IsRun (order_of experiment.now) experiment.now.vary number }
-        // What an experiment's file sets and varies is written down there: `file_written` of proofs/Writing.
-        requires written { AreWritten experiment.now }
+        requires { IsRun (order_of experiment.now) experiment.now.vary number }
         ensures job { IfOk result (λ run.
             job_of run ≡ job_by program.now source.now experiment.now (trees_seen texts.now) number) }
         ensures going { IfOk result (λ run. HasEnded run → ⊥) }

@@ -2,7 +2,7 @@
 ghost use Rattle.std.specs.Prelude.{◌≡◌, ℕ, ◌≤◌, true, [], IfOk, OnOk};
 ghost use Rattle.nl_value.specs.Views.{plain};
 ghost use Rattle.nl_exec.specs.Machines.{IsClosed, program_of, spent_of, units_left};
-ghost use Rattle.nl_run.specs.Written.{all_written, is_written};
+ghost use Rattle.nl_experiment_fields.specs.Written.{all_written, is_written};
 ghost use Rattle.nl_run.specs.Course.{course_within};
 ghost use Rattle.nl_run.specs.Job as spec;
 ghost use Rattle.nl_run.specs.Left.{IsReady, rest_by};

@@ -6,7 +6,7 @@ ghost use Rattle.nl_exec.specs.declared.slices.Turn.TheVariants.{More, Ended};
 use crate::playing::{SEED, is_end, let_go, program_of, shape_of, tree_of};
 use crate::rows::{Ends, WIDE};
 use nl_agents::Store;
-use nl_exec::{End, Machine, Turn};
+use nl_exec::{End, Machine, Turn, begin_in_slices, run_in_slices};
 use nl_fixed::{NoMemory, Num};
 use nl_plain::Plain;
 use nl_store::Indexed;
@@ -187,7 +187,7 @@ fn another_begins<'a, S: Store>(alloc: Global, program: &'a Program, text: &'a T
     right
 }
 
-// ---- units, variables and the stream
+// ---- texts in slices from their beginning
 
 // A machine that runs no text yet.
 fn idle<'a, S: Store>(alloc: Global, program: &'a Program, budget: u64) -> Option<Machine<'a, S>>
@@ -196,6 +196,66 @@ fn idle<'a, S: Store>(alloc: Global, program: &'a Program, budget: u64) -> Optio
     let shape = shape_of(WIDE)?;
     Machine::<'a, S>::new(alloc, program, shape, SEED, budget).ok()
 }
+
+// Slices that are too short for the text leave more to do.
+fn slices_go_on<'a, S: Store>(alloc: Global, machine: &mut Machine<'a, S>, text: &'a Tree) -> bool
+    requires { IsClosed machine.old }
+    ensures { result ≡ true → IsOpen machine.new }
+{
+    let turn = begin_in_slices(alloc, machine, text, Form::Commands, &[1, 0, 3]);
+    let more = is_more(&turn);
+    let_go(turn);
+    more && stands(machine, 4, 1)
+}
+
+fn in_short_slices<'a, S: Store>(alloc: Global, program: &'a Program, text: &'a Tree) -> bool {
+    let Some(mut machine) = idle::<S>(alloc, program, 100) else {
+        return false;
+    };
+    let right = slices_go_on(alloc, &mut machine, text)
+        && ends(alloc, &mut machine, 9, Ends::Done, 6, 0);
+    let_go(machine);
+    right
+}
+
+// A text comes to its end behind these slices, or within them.
+fn comes_to_its_end<'a, S: Store>(
+    alloc: Global,
+    machine: &mut Machine<'a, S>,
+    text: &'a Tree,
+    slices: &[u64],
+) -> bool
+    requires { IsClosed machine.old }
+{
+    let Ok(end) = run_in_slices(alloc, machine, text, Form::Commands, slices) else {
+        return false;
+    };
+    let done = matches!(end, End::Done);
+    let_go(end);
+    done && stands(machine, 6, 0)
+}
+
+fn in_these_slices<'a, S: Store>(
+    alloc: Global,
+    program: &'a Program,
+    text: &'a Tree,
+    slices: &[u64],
+) -> bool {
+    let Some(mut machine) = idle::<S>(alloc, program, 100) else {
+        return false;
+    };
+    let right = comes_to_its_end(alloc, &mut machine, text, slices);
+    let_go(machine);
+    right
+}
+
+fn in_any_slices<S: Store>(alloc: Global, program: &Program, text: &Tree) -> bool {
+    in_these_slices::<S>(alloc, program, text, &[])
+        && in_these_slices::<S>(alloc, program, text, &[2, 2])
+        && in_these_slices::<S>(alloc, program, text, &[1, 9, 9])
+}
+
+// ---- units, variables and the stream
 
 // Whether a lone reporter says this.
 fn says<'a, S: Store>(
@@ -272,6 +332,8 @@ enum Trial {
     EmptySlice,
     OwnCopy,
     OtherText,
+    ShortSlices,
+    AnySlices,
     Outside,
     Stream,
 }
@@ -299,6 +361,8 @@ fn tried<'a, S: Store>(alloc: Global, trial: Trial, program: &'a Program, text: 
         Trial::EmptySlice => empty_slice::<S>(alloc, program, text),
         Trial::OwnCopy => copy_is_apart::<S>(alloc, program, text),
         Trial::OtherText => another_begins::<S>(alloc, program, text),
+        Trial::ShortSlices => in_short_slices::<S>(alloc, program, text),
+        Trial::AnySlices => in_any_slices::<S>(alloc, program, text),
         Trial::Outside => set_from_outside::<S>(alloc, program, text),
         Trial::Stream => draws_again::<S>(alloc, program, text),
     }
@@ -331,6 +395,12 @@ fn slices_stop_at_any_unit(rt: HostRuntime) {
     assert!(rt; goes_well(rt.alloc(), Trial::SixSlices));
     assert!(rt; goes_well(rt.alloc(), Trial::ScarceSlice));
     assert!(rt; goes_well(rt.alloc(), Trial::EmptySlice));
+}
+
+#[test]
+fn texts_come_to_their_end_in_any_slices(rt: HostRuntime) {
+    assert!(rt; goes_well(rt.alloc(), Trial::ShortSlices));
+    assert!(rt; goes_well(rt.alloc(), Trial::AnySlices));
 }
 
 #[test]

@@ -299,3 +299,9 @@ fn counts(alloc: Global, count: usize) -> Option<(usize, usize)> {
 fn many_names_are_widgets_and_settings(rt: HostRuntime) {
     assert!(rt; counts(rt.alloc(), 2_000) == Some((4_000, 2_000)));
 }
+
+#[test]
+fn the_laws_are_stated() {
+    nl_experiment::laws::experiments_say_one_thing();
+    nl_experiment::laws::names_are_widgets();
+}

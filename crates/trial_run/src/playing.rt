@@ -1,7 +1,6 @@
 //! Runs of experiments beside models.
 ghost use Rattle.std.specs.Prelude.{◌≡◌, IfOk, IfSome};
 ghost use Rattle.nl_tree.specs.Names.{AreWidgets};
-ghost use Rattle.nl_run.specs.Experiments.{AreWritten};
 ghost use Rattle.nl_run.specs.Runs.{HasEnded};
 
 use crate::lines::have_lines;
@@ -26,9 +25,7 @@ pub(crate) fn let_go<T: Drop>(_thing: T) {}
 // ---- inputs
 
 // The experiment that a file is; none where that has a fault.
-fn experiment_of(alloc: Global, file: &[u8]) -> Option<Experiment>
-    ensures { IfSome result AreWritten }
-{
+fn experiment_of(alloc: Global, file: &[u8]) -> Option<Experiment> {
     match Experiment::read(alloc, file) {
         Ok(experiment) => Some(experiment),
         Err(_) => None,
@@ -99,7 +96,6 @@ fn run_of<'a, S: Store>(
     source: &'a [u8],
     number: u64,
 ) -> Option<Run<'a, S>>
-    requires { AreWritten job.experiment.now }
     ensures { IfSome result (λ run. HasEnded run → ⊥) }
 {
     if number < 1 {
@@ -117,9 +113,7 @@ fn run_of<'a, S: Store>(
 }
 
 // Whether a trial's run has its lines over a store.
-fn plays<S: Store>(alloc: Global, job: Job<'_>, trial: &Trial<'_>, way: Way) -> bool
-    requires { AreWritten job.experiment.now }
-{
+fn plays<S: Store>(alloc: Global, job: Job<'_>, trial: &Trial<'_>, way: Way) -> bool {
     let source = code_part(trial.model.as_bytes());
     let Some(mut run) = run_of::<S>(alloc, job, source, trial.number) else {
         return false;
@@ -132,9 +126,12 @@ fn plays<S: Store>(alloc: Global, job: Job<'_>, trial: &Trial<'_>, way: Way) -> 
 }
 
 // The first of these ways in which a trial's run over a store doesn't have its lines.
-fn wrong_way<S: Store>(alloc: Global, job: Job<'_>, trial: &Trial<'_>, ways: &[Way]) -> Option<Way>
-    requires { AreWritten job.experiment.now }
-{
+fn wrong_way<S: Store>(
+    alloc: Global,
+    job: Job<'_>,
+    trial: &Trial<'_>,
+    ways: &[Way],
+) -> Option<Way> {
     for way in ways {
         if !plays::<S>(alloc, job, trial, *way) {
             return Some(*way);
@@ -152,9 +149,7 @@ fn wrong_beside<S: Store>(
     program: &Program,
     trial: &Trial<'_>,
     ways: &[Way],
-) -> Option<Way>
-    requires { AreWritten experiment.now }
-{
+) -> Option<Way> {
     let Ok(texts) = experiment.texts(alloc, program) else {
         return Some(Way::Whole);
     };
@@ -174,9 +169,7 @@ fn wrong_with<S: Store>(
     experiment: &Experiment,
     trial: &Trial<'_>,
     ways: &[Way],
-) -> Option<Way>
-    requires { AreWritten experiment.now }
-{
+) -> Option<Way> {
     let Some(program) = program_of(alloc, trial.model.as_bytes(), experiment.widgets()) else {
         return Some(Way::Whole);
     };

@@ -24,7 +24,7 @@ use Rattle.nl_experiment.specs.Texts.{AreTreesFor, IsFirstBad, texts_of, trees_o
 use Rattle.nl_experiment.specs.declared.texts.Texts as declared
 use Rattle.nl_experiment_keys.specs.declared.faults.KeyFault.{KeyFault}
 use Rattle.nl_check_model.specs.Verdict.{IsVerdict}
-use Rattle.nl_run.specs.Experiments.{AreWritten, trees_seen}
+use Rattle.nl_run.specs.Experiments.{trees_seen}
 use Rattle.nl_run.specs.declared.rows.Row.{Row}
 use Rattle.nl_run.specs.Rows.{end_text}
 use Rattle.nl_table.specs.Header.{columns}
@@ -39,7 +39,7 @@ use Rattle.nl_cli.specs.Words.{Command, Paths, bench, named_by, path_of, paths_f
 use Rattle.nl_cli.specs.Inputs.{Job, Found, InputsSay, IsJob, found_at, found_in, made_for, without}
 use Rattle.nl_cli.specs.Table.{last_line, metric_texts, rows_text, run_lines, run_numbers, joined_text, setting_text, settings_in, varied_names}
 use Rattle.nl_cli.specs.Answer.{ComesTo, no_such_run, status_of, line_of, memory_line}
-use Rattle.nl_cli.specs.Outcome.{Asked, Given, Gets}
+use Rattle.nl_cli.specs.Outcome.{AllPut, AllRead, Asked, Given, Gets, told_over}
 
 -- ---- what the inputs say
 
@@ -50,10 +50,10 @@ job_in job = record { fields = job.experiment; program = job.program; source = c
 -- one read: the first bytes of the file at a path, or its end
 abbrev pub Reads : Role → Path → Asked → Result (Vec ℕ Global) End → Type 0
 Reads role path files (Ok bytes) =
-    (files.faults_after ≡ files.faults_before) × (length bytes.items ≤ file_limit + 1)
+    AllRead files × (length bytes.items ≤ file_limit + 1)
     × ForSome files.folder (λ folder. read_of path file_limit folder ≡ Some bytes.items)
 Reads role path files (Err (End.Read at)) = (at ≡ role) × Rose files.faults_before files.faults_after × (files.last_fault ≡ path)
-Reads role path files (Err End.Memory) = files.faults_after ≡ files.faults_before
+Reads role path files (Err End.Memory) = AllRead files
 Reads role path files (Err _) = ⊥
 
 -- the experiment that a file is, as an end where it is none
@@ -89,9 +89,9 @@ is_short setting = is_short_value setting.value
 abbrev pub IsRunIn : Job → ℕ → Type 0
 IsRunIn job number = IsRun (order_of job.fields) job.fields.vary number
 
--- the values of the experiment were written down in its file, and those of all settings can be told
+-- the values of all settings can be told
 abbrev pub IsSound : Job → Type 0
-IsSound job = AreWritten job.fields × ((number : ℕ) → IsRunIn job number → list_all is_short (settings_in job number) ≡ true)
+IsSound job = (number : ℕ) → IsRunIn job number → list_all is_short (settings_in job number) ≡ true
 
 -- what two texts say: a job that is sound, or an end that is no failed read and no failed put
 abbrev pub Judges : Bytes → Bytes → Result CodeJob End → Type 0
@@ -118,25 +118,25 @@ pub record ReadStops (paths : Paths) (files : Asked) (role : Role) : Type 0 wher
 -- the inputs are read: the job, or the end that is defined, a failed read, or want of memory
 abbrev pub Gathers : Paths → Asked → Result CodeJob End → Type 0
 Gathers paths files (Ok job) =
-    (files.faults_after ≡ files.faults_before) × IsSound (job_in job) × ForSome files.folder (λ folder. IsJob (found_at paths folder) (Ok (job_in job)))
+    AllRead files × IsSound (job_in job) × ForSome files.folder (λ folder. IsJob (found_at paths folder) (Ok (job_in job)))
 Gathers paths files (Err (End.Read role)) = ReadStops paths files role
 Gathers paths files (Err End.Write) = ⊥
-Gathers paths files (Err End.Memory) = files.faults_after ≡ files.faults_before
+Gathers paths files (Err End.Memory) = AllRead files
 Gathers paths files (Err end) =
-    (files.faults_after ≡ files.faults_before) × ForSome files.folder (λ folder. IsJob (found_at paths folder) (Err end))
+    AllRead files × ForSome files.folder (λ folder. IsJob (found_at paths folder) (Err end))
 
 -- ---- what is put
 
 -- these bytes are put, or a prefix of them where a put failed or memory was refused
 abbrev pub Puts : Bytes → Given → Result (Unit {0}) End → Type 0
-Puts bytes sink (Ok _) = (sink.faults_after ≡ sink.faults_before) × Appended sink.before sink.after bytes
+Puts bytes sink (Ok _) = AllPut sink × Appended sink.before sink.after bytes
 Puts bytes sink (Err End.Write) = Rose sink.faults_before sink.faults_after × PartAppended sink.before sink.after bytes
-Puts bytes sink (Err End.Memory) = (sink.faults_after ≡ sink.faults_before) × PartAppended sink.before sink.after bytes
+Puts bytes sink (Err End.Memory) = AllPut sink × PartAppended sink.before sink.after bytes
 Puts bytes sink (Err _) = ⊥
 
 -- no put failed, and nothing was put
 pub record NothingPut (out : Given) : Type 0 where
-  pub sound : out.faults_after ≡ out.faults_before
+  pub sound : AllPut out
   pub nothing : Appended out.before out.after []
 
 -- what is defined is put, or, where an end is defined, it is answered, or want of memory for it, and nothing is put
@@ -185,28 +185,36 @@ pub record StopsAt (command : Command) (files : Asked) (role : Role) : Type 0 wh
   pub rose : Rose files.faults_before files.faults_after
   pub named : named_by command role ≡ Some files.last_fault
   pub told : path_of (paths_for command) role ≡ files.last_fault
-  pub turn : ForSome files.folder (λ folder. ComesTo command (without role (found_in command folder)) (Err (End.Read role)))
+  pub turn :
+      ForSome (told_over (Some command) files.folder) (λ folder. ComesTo command (without role (found_in command folder)) (Err (End.Read role)))
+
+-- all that the command comes to was put
+abbrev pub WholePut : Command → Found → Given → Type 0
+WholePut command found out = (bytes : Bytes) × ComesTo command found (Ok bytes) × Appended out.before out.after bytes
 
 -- the course of a command
 abbrev pub Runs : Command → Asked → Given → Result (Unit {0}) End → Type 0
 Runs command files out (Ok _) =
-    ForSome files.folder (λ folder. (bytes : Bytes) × ComesTo command (found_in command folder) (Ok bytes) × Appended out.before out.after bytes)
+    AllRead files × AllPut out
+    × ForSome (told_over (Some command) files.folder) (λ folder. WholePut command (found_in command folder) out)
 Runs command files out (Err (End.Read role)) = StopsAt command files role × NothingPut out
-Runs command files out (Err End.Write) = Rose out.faults_before out.faults_after × ForSome files.folder (λ folder. PartPut command (found_in command folder) out)
+Runs command files out (Err End.Write) =
+    AllRead files × Rose out.faults_before out.faults_after
+    × ForSome (told_over (Some command) files.folder) (λ folder. PartPut command (found_in command folder) out)
 Runs command files out (Err End.Memory) =
-    (files.faults_after ≡ files.faults_before) × (out.faults_after ≡ out.faults_before)
-    × ForSome files.folder (λ folder. Appended out.before out.after [] ⊎ PartPut command (found_in command folder) out)
+    AllRead files × AllPut out
+    × ForSome (told_over (Some command) files.folder) (λ folder. Appended out.before out.after [] ⊎ PartPut command (found_in command folder) out)
 Runs command files out (Err end) =
-    (files.faults_after ≡ files.faults_before) × NothingPut out × ForSome files.folder (λ folder. ComesTo command (found_in command folder) (Err end))
+    AllRead files × NothingPut out
+    × ForSome (told_over (Some command) files.folder) (λ folder. ComesTo command (found_in command folder) (Err end))
 
 -- the course of the measure of a size
 abbrev pub Measures : ℕ → Given → Result (Unit {0}) End → Type 0
-Measures size out (Ok _) =
-    (bytes : Bytes) × ComesTo (bench size) (made_for size) (Ok bytes) × Appended out.before out.after bytes
+Measures size out (Ok _) = AllPut out × WholePut (bench size) (made_for size) out
 Measures size out (Err (End.Read role)) = ⊥
 Measures size out (Err End.Write) = Rose out.faults_before out.faults_after × PartPut (bench size) (made_for size) out
 Measures size out (Err End.Memory) =
-    (out.faults_after ≡ out.faults_before) × (Appended out.before out.after [] ⊎ PartPut (bench size) (made_for size) out)
+    AllPut out × (Appended out.before out.after [] ⊎ PartPut (bench size) (made_for size) out)
 Measures size out (Err end) = NothingPut out × ComesTo (bench size) (made_for size) (Err end)
 
 -- ---- lines

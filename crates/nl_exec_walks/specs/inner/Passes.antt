@@ -1,9 +1,12 @@
 -- What one pass over answers keeps of them.
-use Rattle.std.specs.Prelude.{ℤ, Bool, not, if◌then◌else◌, Option, Some, None}
-use Rattle.nl_value.specs.Order.{count_of}
+use Rattle.std.specs.Prelude.{ℤ, Bool, not, if◌then◌else◌, List, Option, Some, None}
+use Rattle.nl_value.specs.Living.{Living}
+use Rattle.nl_value.specs.Order.{comes_first, count_of}
+use Rattle.nl_value.specs.Sorting.{sorted_by}
 use Rattle.nl_value.specs.Plain.{Plain}
 use Rattle.nl_value.specs.Views.{plain}
 use Rattle.nl_value.specs.declared.sets.AgentKind.{AgentKind}
+use Rattle.nl_value.specs.declared.sets.AgentKind.TheVariants as kind
 use Rattle.nl_agentset_query.specs.Agents.{agent_value}
 use Rattle.nl_exec_meaning.specs.Walks.{Answer}
 use Rattle.nl_exec_walks.specs.Extremes.{beyond}
@@ -33,3 +36,9 @@ paired which a = (agent_value which a.member, a.value)
 
 abbrev pub placed : Placed → Plain × Plain
 placed p = (plain p.agent, plain p.value)
+
+-- agents of a kind with what they answered, in the order of agents
+abbrev pub placed_in_order : Living → AgentKind → List (Plain × Plain) → List (Plain × Plain)
+placed_in_order w kind.Turtle all = all
+placed_in_order w kind.Patch all = all
+placed_in_order w kind.Link all = sorted_by (λ a b. comes_first w a.0 b.0) all

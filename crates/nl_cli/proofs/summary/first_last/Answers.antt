@@ -12,4 +12,4 @@ returns c =
     let f = c.fields-fields.result.now in
     let P : Names → Type 0 = λ names. IfOk c.columns_line.result (λ (h : Bytes). h ≡ line_text (columns names f.metrics)) in
     let Q : Fields → Type 0 = λ f. IfOk c.columns_line.result (λ (h : Bytes). h ≡ line_text (columns (names_in f.vary) f.metrics)) in
-    subst Q c.fields-fields.ensures (subst P (c.in_ok-names.ensures ∙ ap names_in c.as_slice.ensures) c.columns_line.ensures)
+    subst Q c.fields-fields.ensures.same (subst P (c.in_ok-names.ensures ∙ ap names_in c.as_slice.ensures) c.columns_line.ensures)

@@ -13,4 +13,4 @@ returns c =
     let f = c.fields-fields.result.now in
     let P : Names → Type 0 = λ names. IfOk c.header.result (λ (h : Bytes). h ≡ header_text c.args.model.now f.name f.bounds names f.metrics) in
     let Q : Fields → Type 0 = λ f. IfOk c.header.result (λ (h : Bytes). h ≡ header_text c.args.model.now f.name f.bounds (names_in f.vary) f.metrics) in
-    subst Q c.fields-fields.ensures (subst P (c.in_ok-names.ensures ∙ ap names_in c.as_slice.ensures) c.header.ensures)
+    subst Q c.fields-fields.ensures.same (subst P (c.in_ok-names.ensures ∙ ap names_in c.as_slice.ensures) c.header.ensures)

@@ -1,4 +1,4 @@
-use Rattle.std.proofs.Common.{inl, sym}
+use Rattle.std.proofs.Common.{refl, sym}
 use Rattle.nl_cli.specs.Words.{command_in}
 use Rattle.nl_cli.specs.Outcome.{asked, given}
 use Rattle.nl_cli.proofs.Outcomes.{complete_of, outcome_done, outcome_told}
@@ -21,7 +21,8 @@ returns-in-Ok-clause-outcome g c =
     let files = asked g.F.Files.faults g.F.Files.last_fault g.F.Files.folder c.args.files.now c.course.new.files in
     let out = given g.O.Sink.faults g.O.Sink.written c.args.out.now c.course.new.out in
     let err = given g.E.Sink.faults g.E.Sink.written c.args.err.now c.args.err.now in
-    outcome_done c.args.words.now (command_in c.in-Some.command) files out err (sym c.in-Some.ensures.command) c.in-Ok.ensures (inl (Appended-nothing (g.E.Sink.written c.args.err.now)))
+    outcome_done c.args.words.now (command_in c.in-Some.command) files out err (sym c.in-Some.ensures.command) c.in-Ok.ensures
+    (record { sound = refl; nothing = Appended-nothing (g.E.Sink.written c.args.err.now) })
 
 pub returns-in-Err-clause-complete : goal.returns-in-Err-clause-complete
 returns-in-Err-clause-complete g c =

@@ -1,7 +1,6 @@
 -- The members as values, in the order of what they answered.
 use Rattle.std.proofs.Common.{IsTrue, List, map, ap, sym, subst, ◌∙◌}
 use Rattle.nl_value.specs.Plain.{Plain, PlainItems, plains}
-use Rattle.nl_value.specs.Order.{comes_first}
 use Rattle.nl_agents.specs.Names.{living_of}
 use Rattle.nl_agentset_query.specs.Agents.{agent_value}
 use Rattle.nl_fixed.specs.declared.span.Span.{Span}
@@ -13,7 +12,7 @@ use Rattle.nl_exec_meaning.specs.Walks.{are_comparable, in_order_of_values}
 use Rattle.nl_exec_meaning.specs.Ground.{fits}
 use Rattle.nl_exec_meaning.specs.Seen.{ended, ground, state_of}
 use Rattle.nl_exec_meaning.specs.declared.exits.Exit.{Exit}
-use Rattle.nl_exec_walks.proofs.Fitting.{all_small, sorted_fit}
+use Rattle.nl_exec_walks.proofs.Fitting.{all_small, in_order_fit}
 use Rattle.nl_exec_walks.proofs.Giving.{ordered, unordered}
 use Rattle.nl_exec_walks.proofs.orders.sorted_on.Goals as goal
 
@@ -45,4 +44,4 @@ returns-clause-fits g c =
     let now = ground c.args.hands.now in
     let w = living_of (g.S.Store.world c.new-view.result.store.now).rest in
     subst (λ (ps : List Plain). IsTrue (fits now (PlainItems (plains ps)))) (sym c.in_ok-agents.ensures)
-    (sorted_fit now c.args.which (λ a b. comes_first w (agent_value c.args.which a.member) (agent_value c.args.which b.member)) (λ a b. comes_first w a.value b.value) c.args.answers c.requires.members)
+    (in_order_fit now w c.args.which c.args.answers c.requires.members)

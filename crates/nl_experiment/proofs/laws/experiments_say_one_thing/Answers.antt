@@ -1,11 +1,5 @@
-use Rattle.nl_experiment.proofs.OneThing.{faults_are_one, fields_have_no_faults, files_have_fields_or_faults, texts_have_trees_or_faults, trees_have_no_faults}
+use Rattle.nl_experiment.proofs.OneThing.{faults_are_one, texts_have_trees_or_faults, trees_have_no_faults}
 use Rattle.nl_experiment.proofs.laws.experiments_say_one_thing.Goals as goal
-
-pub returns-clause-fields : goal.returns-clause-fields
-returns-clause-fields c = files_have_fields_or_faults
-
-pub returns-clause-apart : goal.returns-clause-apart
-returns-clause-apart c = fields_have_no_faults
 
 pub returns-clause-texts : goal.returns-clause-texts
 returns-clause-texts c = texts_have_trees_or_faults

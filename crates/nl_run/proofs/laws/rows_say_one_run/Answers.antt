@@ -1,5 +1,4 @@
 -- The laws on rows.
-use Rattle.nl_run.proofs.OneRun.{rows_alone}
 use Rattle.nl_run.proofs.RowLaws.{rows_are_right}
 use Rattle.nl_run.proofs.laws.rows_say_one_run.Goals as goal
 
@@ -7,5 +6,4 @@ pub returns : goal.returns
 returns c = record {
   last = λ j. (rows_are_right j).0;
   rise = λ j. (rows_are_right j).1;
-  alone = rows_alone;
 }

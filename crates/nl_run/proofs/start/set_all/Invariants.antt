@@ -1,7 +1,7 @@
 -- What is set, and what is left to be set, are all.
 use Rattle.std.proofs.Common.{◌≡◌, true, map, length}
 use Rattle.nl_exec.specs.Machines.{IsClosed, in_world, program_of, scene_of, spent_of, units_left, world_of}
-use Rattle.nl_run.specs.Written.{all_written}
+use Rattle.nl_experiment_fields.specs.Written.{all_written}
 use Rattle.nl_experiment_sweep.specs.Varied.{plain_setting}
 use Rattle.nl_run.specs.Job.{set_all}
 use Rattle.nl_run.proofs.start.set_all.Given as goal

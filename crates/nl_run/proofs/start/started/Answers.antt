@@ -6,7 +6,8 @@ use Rattle.nl_tree.specs.Tree.{Node}
 use Rattle.nl_tree.specs.declared.declared.Form.TheVariants as form
 use Rattle.nl_exec_acts.specs.Stage.{Scene}
 use Rattle.nl_exec_meaning.specs.Meaning.{text}
-use Rattle.nl_exec.specs.Machines.{first_state, in_world, program_of, rest_of, scene_of}
+use Rattle.nl_exec_meaning.specs.LoneTexts.{first_state}
+use Rattle.nl_exec.specs.Machines.{in_world, program_of, rest_of, scene_of}
 use Rattle.nl_run.specs.Job.{called, scene_at_first, set_all}
 use Rattle.nl_run.specs.Plans.{job_in}
 use Rattle.nl_run.proofs.Starting.{changed_thrice, first_course, first_scene}

@@ -2,8 +2,9 @@
 use Rattle.std.proofs.Common.{◌≡◌, ℕ, ◌+◌, ◌-◌, ◌*◌, ◌≤◌, Ok, length, ap, ◌∙◌, subst, arith}
 use Rattle.std.specs.Prelude.{min}
 use Rattle.nl_tree.specs.declared.declared.Form.{Form}
-use Rattle.nl_exec.specs.Endings.{end_seen, ending_of}
-use Rattle.nl_exec.specs.Machines.{form_of, rest_of, scene_in, scene_of, spent_of, units_left}
+use Rattle.nl_exec_meaning.specs.LoneTexts.{ending_of, scene_in}
+use Rattle.nl_exec.specs.Endings.{end_seen}
+use Rattle.nl_exec.specs.Machines.{form_of, rest_of, scene_of, spent_of, units_left}
 use Rattle.nl_run.specs.Left.{form_in, moves, moves_in, room}
 use Rattle.nl_run.specs.Plans.{job_in}
 use Rattle.nl_run.proofs.Moving.{ended_text, fewer_moves, more_at}

@@ -5,7 +5,8 @@ use Rattle.nl_tree.specs.Views.{plain}
 use Rattle.nl_tree.specs.Checked.{Checked}
 use Rattle.nl_tree.specs.declared.declared.Form.TheVariants as form
 use Rattle.nl_exec_meaning.specs.Meaning.{text}
-use Rattle.nl_exec.specs.Machines.{first_state, rest_of, scene_of}
+use Rattle.nl_exec_meaning.specs.LoneTexts.{first_state}
+use Rattle.nl_exec.specs.Machines.{rest_of, scene_of}
 use Rattle.nl_run.specs.Course.{regular_end, steps}
 use Rattle.nl_run.specs.Job.{Job}
 use Rattle.nl_run.specs.Left.{end_of, rest_by, stands}

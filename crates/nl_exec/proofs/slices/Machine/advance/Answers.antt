@@ -1,6 +1,7 @@
 -- What is kept of a checked program is steady, and where more is to come no unit is left, and all that were asked for could be spent.
 use Rattle.std.proofs.Common.{◌≡◌, ℕ, ◌+◌, Some, ap, subst, ◌∙◌, sym, arith}
 use Rattle.nl_exec_meaning.specs.Seen.{ended, state_of}
+use Rattle.nl_exec_meaning.specs.State.{ends}
 use Rattle.nl_exec_meaning.specs.Sound.{IsSound}
 use Rattle.nl_exec_levels.specs.declared.focus.Focus.TheVariants as focus
 use Rattle.nl_exec_levels.specs.Rest.{rest, stopped, stop_exit}
@@ -77,5 +78,5 @@ returns-in-End-clause-over g c = λ e is few n.
     inside (units + n) ∙ ap (λ k. inner (k + n)) all ∙ sym (c.in_ok-stop.ensures.rest n)
     ∙ text_ends code limit c.spend_units.new.levels.items c.in_ok-stop.stop c.in-End.exit (after (left + n)) c.in-End.is c.in_ok-stop.ensures.over in
     let now : there units ≡ ended c.in-End.exit (after left) =
-    inside units ∙ ap inner all ∙ c.in_ok-stop.ensures.now ∙ ap (λ x. ended (stop_exit x) (after left)) c.in-End.is in
+    inside units ∙ ap inner all ∙ c.in_ok-stop.ensures.now ∙ ap (λ x. ends (stop_exit x) (after left)) c.in-End.is in
     more ∙ sym (ap (with_more n) now)

@@ -4,7 +4,8 @@ use Rattle.nl_tree.specs.Views.{plain as tree}
 use Rattle.nl_exec_meaning.specs.State.{with_locals, at_site}
 use Rattle.nl_exec_meaning.specs.Meaning.{text_by}
 use Rattle.nl_exec_meaning.specs.Kept.{all_held}
-use Rattle.nl_exec.specs.Machines.{scene_of, first_state}
+use Rattle.nl_exec_meaning.specs.LoneTexts.{first_state}
+use Rattle.nl_exec.specs.Machines.{scene_of}
 use Rattle.nl_exec_levels.proofs.Stops.{rest_start}
 use Rattle.nl_exec.proofs.slices.Machine.begin.Goals as goal
 

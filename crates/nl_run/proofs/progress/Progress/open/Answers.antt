@@ -1,7 +1,8 @@
 -- What the text leaves of its units was there when it began.
 use Rattle.std.proofs.Common.{◌≡◌, ℕ, ◌+◌, ◌-◌, ◌≤◌, OnOk, Result, Ok, Err, ap, arith}
 use Rattle.nl_tree.specs.Views.{plain}
-use Rattle.nl_exec.specs.Machines.{first_state, program_of, rest_of, scene_of, spent_of}
+use Rattle.nl_exec_meaning.specs.LoneTexts.{first_state}
+use Rattle.nl_exec.specs.Machines.{program_of, rest_of, scene_of, spent_of}
 use Rattle.nl_exec_meaning.specs.Meaning.{text as meaning}
 use Rattle.nl_run.proofs.Thrift.{text_thrifty}
 use Rattle.nl_run.proofs.progress.Progress.open.Goals as goal

@@ -9,7 +9,7 @@ use Rattle.nl_value.proofs.OrderOfAll.{value_order_total}
 use Rattle.nl_value.proofs.StableSorts.{sorted_is, sorted_by-map}
 use Rattle.nl_exec_walks.specs.inner.Passes.{placed}
 use Rattle.nl_exec_walks.specs.declared.orders.Placed.{Placed}
-use Rattle.nl_exec_walks.proofs.orders.by_agents.Goals as goal
+use Rattle.nl_exec_walks.proofs.orders.by_links.Goals as goal
 
 pub returns : goal.returns
 returns g c =
