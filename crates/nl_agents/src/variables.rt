@@ -157,7 +157,7 @@ fn put(entry: &mut Option<Value>, value: Value) -> Result<Value, Value>
 
 /// The same entry again.
 fn copy_entry(alloc: Global, entry: &Option<Value>) -> Result<Option<Value>, NoMemory>
-    ensures { IfOk result (λ again. again ≡ entry.now) }
+    ensures { IfOk result (λ again. option_map plain again ≡ option_map plain entry.now) }
 {
     match entry {
         Some(value) => Ok(Some(value.copy(alloc)?)),

@@ -91,11 +91,11 @@ fn millionths(count: i64) -> Value
     Value::Number(Num::new(count).unwrap())
 }
 
-/// The empty text, which takes no memory.
-fn empty_text(alloc: Global) -> Value
-    ensures { plain result ≡ PlainWords [] }
+/// A text.
+fn text(alloc: Global, bytes: &[u8]) -> Result<Value, NoMemory>
+    ensures { IfOk result (λ value. plain value ≡ PlainWords bytes.now) }
 {
-    Value::Words(Str::of_vec(Vec::new(alloc)))
+    Value::words(alloc, Str::of(alloc, bytes)?)
 }
 
 /// The first value of a turtle's variable.
@@ -103,12 +103,12 @@ pub fn first_of_turtle(alloc: Global, slot: u32) -> Result<Value, NoMemory>
     ensures { IfOk result (λ value. plain value ≡ first_of_turtle slot) }
 {
     let value = match slot {
-        SHAPE => Value::Words(Str::of(alloc, b"default")?),
-        LABEL => empty_text(alloc),
+        SHAPE => text(alloc, b"default")?,
+        LABEL => Value::Blank,
         LABEL_COLOR => millionths(9_900_000),
         HIDDEN => Value::Truth(false),
         SIZE | PEN_SIZE => millionths(1_000_000),
-        PEN_MODE => Value::Words(Str::of(alloc, b"up")?),
+        PEN_MODE => text(alloc, b"up")?,
         _ => millionths(0),
     };
     Ok(value)
@@ -120,11 +120,11 @@ pub fn first_of_link(alloc: Global, slot: u32) -> Result<Value, NoMemory>
 {
     let value = match slot {
         COLOR => millionths(5_000_000),
-        SHAPE => Value::Words(Str::of(alloc, b"default")?),
-        LABEL => empty_text(alloc),
+        SHAPE => text(alloc, b"default")?,
+        LABEL => Value::Blank,
         LABEL_COLOR => millionths(9_900_000),
         HIDDEN => Value::Truth(false),
-        TIE_MODE => Value::Words(Str::of(alloc, b"none")?),
+        TIE_MODE => text(alloc, b"none")?,
         _ => millionths(0),
     };
     Ok(value)
@@ -135,7 +135,7 @@ pub fn first_of_patch(alloc: Global, slot: u32) -> Value
     ensures { plain result ≡ first_of_patch slot }
 {
     match slot {
-        PLABEL => empty_text(alloc),
+        PLABEL => Value::Blank,
         PLABEL_COLOR => millionths(9_900_000),
         _ => millionths(0),
     }

@@ -21,17 +21,17 @@ use Rattle.nl_agentset_query.specs.Choices.{item_or_few, one_among, places_drawn
 use Rattle.nl_agentset_query.proofs.Places.{kept_each}
 use Rattle.nl_agentset_query.specs.Agents.{agent_or_nobody, listed_value}
 use Rattle.nl_agentset_query.specs.Inputs.{inputs_fit, value_at, number_at}
-use Rattle.nl_agentset_query.specs.Outcomes.{Outcome, and_then, outcome_map}
+use Rattle.nl_agentset_query.specs.Outcomes.{QueryOutcome, and_then, outcome_map}
 use Rattle.nl_agentset_query.specs.declared.words.Choice.{Choice}
 use Rattle.nl_agentset_query.specs.declared.words.Choice.TheVariants as choice
 use Rattle.nl_agentset_query.proofs.Fitting.{input_fits, list_fits_as_items}
 use Rattle.nl_agentset_query.proofs.Inside.{patch_members}
 
-then_given : {X Y : Type 0} (P : Y → Type 0) (o : Outcome X) (f : X → Outcome Y) → ((x : X) → o ≡ Ok x → IfOk (f x) P) → IfOk (and_then o f) P
+then_given : {X Y : Type 0} (P : Y → Type 0) (o : QueryOutcome X) (f : X → QueryOutcome Y) → ((x : X) → o ≡ Ok x → IfOk (f x) P) → IfOk (and_then o f) P
 then_given P (Ok x) f each = each x refl
 then_given P (Err fail) f each = tt
 
-each_given : {X Y : Type 0} (P : Y → Type 0) (o : Outcome X) (f : X → Y) → ((x : X) → P (f x)) → IfOk (outcome_map f o) P
+each_given : {X Y : Type 0} (P : Y → Type 0) (o : QueryOutcome X) (f : X → Y) → ((x : X) → P (f x)) → IfOk (outcome_map f o) P
 each_given P (Ok x) f each = each x
 each_given P (Err fail) f each = tt
 

@@ -19,8 +19,10 @@ use Rattle.nl_agents.specs.declared.agents.Link as the_link
 use Rattle.nl_agents.specs.declared.agents.Owner.{Owner}
 use Rattle.nl_agents.specs.declared.agents.Owner.TheVariants as owner
 use Rattle.nl_agentset_query.specs.declared.fail.QueryFail.TheVariants.{WrongType, NoAgent, OutOfWorld, SamePoint, Overflow, Domain, TooFew}
-use Rattle.nl_agentset_query.specs.Outcomes.{Outcome, outcome_map}
+use Rattle.nl_agentset_query.specs.Outcomes.{QueryOutcome, outcome_map}
+use Rattle.nl_agentset_query.specs.Words.{query_word}
 use Rattle.nl_agentset.specs.Queries.{queried}
+use Rattle.nl_agentset.specs.Reads.{few_reads_by}
 
 -- ---- the world
 
@@ -97,10 +99,10 @@ abbrev zero_turtle : Owner
 zero_turtle = owner.Turtle 2
 
 -- what a word answers turtle 0, and what it answers in the form of a breed
-abbrev gives : Code → List Plain → Outcome Plain
+abbrev gives : Code → List Plain → QueryOutcome Plain
 gives word inputs = outcome_map (λ answer. answer.0) (queried world word None zero_turtle inputs 0)
 
-abbrev bred : BreedNumber → Code → List Plain → Outcome Plain
+abbrev bred : BreedNumber → Code → List Plain → QueryOutcome Plain
 bred breed word inputs = outcome_map (λ answer. answer.0) (queried world word (Some breed) zero_turtle inputs 0)
 
 -- ---- sets and names
@@ -243,6 +245,45 @@ an_offset_out_of_range = refl
 nobody_outside : gives code.PATCH_AT (n 0 ∷ n 3 ∷ []) ≡ Ok PlainNobody
 unfolding point_beside sum_of as_number wrapped_point wrapped moved_inside
 nobody_outside = refl
+
+-- ---- what is read at most
+
+abbrev reads : Code → List Plain → ℕ
+reads word inputs = few_reads_by world zero_turtle (query_word word) inputs
+
+each_link_of_the_caller_is_read : reads code.MY_LINKS [] ≡ 5
+each_link_of_the_caller_is_read = refl
+
+a_link_is_sought_among_those_of_its_first_end : reads code.LINK (n 1 ∷ n 0 ∷ []) ≡ 3
+a_link_is_sought_among_those_of_its_first_end = refl
+
+no_link_of_nobody_is_sought : reads code.LINK (n 2 ∷ n 0 ∷ []) ≡ 0
+no_link_of_nobody_is_sought = refl
+
+turtles_on_patches_of_turtles : reads code.TURTLES_ON (all ∷ []) ≡ 10
+unfolding patch_at number_of_patch rounded_quotient
+turtles_on_patches_of_turtles = refl
+
+turtles_on_listed_patches : reads code.TURTLES_ON (patches (0 ∷ 1 ∷ []) ∷ []) ≡ 2
+unfolding patch_at number_of_patch rounded_quotient
+turtles_on_listed_patches = refl
+
+turtles_at_an_offset : reads code.TURTLES_AT (n 1 ∷ n 0 ∷ []) ≡ 2
+unfolding patch_at number_of_patch rounded_quotient point_beside sum_of as_number wrapped_point wrapped moved_inside
+turtles_at_an_offset = refl
+
+no_turtles_outside : reads code.TURTLES_AT (n 0 ∷ n 3 ∷ []) ≡ 0
+unfolding point_beside sum_of as_number wrapped_point wrapped moved_inside
+no_turtles_outside = refl
+
+members_are_listed_for_offsets : reads code.AT_POINTS (all ∷ l [] ∷ []) ≡ 4
+members_are_listed_for_offsets = refl
+
+members_are_listed_once_for_a_choice : reads code.N_OF (n 2 ∷ all ∷ []) ≡ 4
+members_are_listed_once_for_a_choice = refl
+
+each_set_of_a_union_is_listed : reads code.TURTLE_SET (all ∷ l (all ∷ PlainTurtle 2 ∷ []) ∷ []) ≡ 8
+each_set_of_a_union_is_listed = refl
 
 -- ---- choices
 

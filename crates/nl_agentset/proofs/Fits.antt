@@ -33,7 +33,7 @@ use Rattle.nl_agents.specs.declared.agents.Owner.TheVariants as owner
 use Rattle.nl_agents.proofs.LivingMembers.{turtle_found}
 use Rattle.nl_agentset_query.specs.Agents.{agent_or_nobody, listed_value, is_of, own_patch, place_of, heading_in, origin, point_of}
 use Rattle.nl_agentset_query.specs.Inputs.{value_at, number_at, set_at, list_at, agent_at, standing_set_at, point_at}
-use Rattle.nl_agentset_query.specs.Outcomes.{Outcome, and_then, outcome_map, summed, or_fail}
+use Rattle.nl_agentset_query.specs.Outcomes.{QueryOutcome, and_then, outcome_map, summed, or_fail}
 use Rattle.nl_agentset_query.specs.declared.fail.QueryFail.{QueryFail}
 use Rattle.nl_agentset_query.specs.declared.fail.QueryFail.TheVariants.{WrongType, Domain, SamePoint}
 use Rattle.nl_agentset_query.specs.declared.words.QueryWord.{QueryWord}
@@ -66,15 +66,15 @@ use Rattle.nl_agentset_query.proofs.Inside.{patch_members}
 
 -- ---- outcomes of one step after another
 
-then_so : {X Y : Type 0} (P : Y → Type 0) (o : Outcome X) (f : X → Outcome Y) → ((x : X) → IfOk (f x) P) → IfOk (and_then o f) P
+then_so : {X Y : Type 0} (P : Y → Type 0) (o : QueryOutcome X) (f : X → QueryOutcome Y) → ((x : X) → IfOk (f x) P) → IfOk (and_then o f) P
 then_so P (Ok x) f each = each x
 then_so P (Err fail) f each = tt
 
-map_so : {X Y : Type 0} (P : Y → Type 0) (o : Outcome X) (f : X → Y) → IfOk o (λ x. P (f x)) → IfOk (outcome_map f o) P
+map_so : {X Y : Type 0} (P : Y → Type 0) (o : QueryOutcome X) (f : X → Y) → IfOk o (λ x. P (f x)) → IfOk (outcome_map f o) P
 map_so P (Ok x) f is = is
 map_so P (Err fail) f is = tt
 
-each_so : {X Y : Type 0} (P : Y → Type 0) (o : Outcome X) (f : X → Y) → ((x : X) → P (f x)) → IfOk (outcome_map f o) P
+each_so : {X Y : Type 0} (P : Y → Type 0) (o : QueryOutcome X) (f : X → Y) → ((x : X) → P (f x)) → IfOk (outcome_map f o) P
 each_so P (Ok x) f each = each x
 each_so P (Err fail) f each = tt
 

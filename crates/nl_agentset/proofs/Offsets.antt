@@ -7,18 +7,18 @@ use Rattle.nl_value.specs.declared.values.Value.{Value}
 use Rattle.nl_agents.specs.World.{Rest}
 use Rattle.nl_agents.specs.declared.agents.Owner.{Owner}
 use Rattle.nl_agentset_query.specs.declared.fail.QueryFail.{QueryFail}
-use Rattle.nl_agentset_query.specs.Outcomes.{Outcome, and_then}
+use Rattle.nl_agentset_query.specs.Outcomes.{QueryOutcome, and_then}
 use Rattle.nl_agentset.specs.Places.{as_offset, offsets_in, patch_beside, patches_at, with_patch}
 
 -- items, and behind them those of an outcome
-abbrev pub behind : {X : Type 0} → List X → Outcome (List X) → Outcome (List X)
+abbrev pub behind : {X : Type 0} → List X → QueryOutcome (List X) → QueryOutcome (List X)
 behind xs outcome = and_then outcome (λ rest. Ok (xs ++ rest))
 
-behind_none : {X : Type 0} (o : Outcome (List X)) → o ≡ behind [] o
+behind_none : {X : Type 0} (o : QueryOutcome (List X)) → o ≡ behind [] o
 behind_none (Ok xs) = refl
 behind_none (Err fail) = refl
 
-behind_one : {X : Type 0} (xs : List X) (x : X) (o : Outcome (List X)) → behind xs (and_then o (λ rest. Ok (x ∷ rest))) ≡ behind (xs ++ x ∷ []) o
+behind_one : {X : Type 0} (xs : List X) (x : X) (o : QueryOutcome (List X)) → behind xs (and_then o (λ rest. Ok (x ∷ rest))) ≡ behind (xs ++ x ∷ []) o
 behind_one xs x (Ok rest) = ap Ok (sym (append_assoc xs (x ∷ []) rest))
 behind_one xs x (Err fail) = refl
 
@@ -50,7 +50,7 @@ all_offsets values ns i h = ap (λ vs. behind ns (offsets_in (map plain vs))) (d
 -- ---- patches
 
 module _ (r : Rest) (caller : Owner) (offsets : List (ℤ × ℤ)) where
-  abbrev pub left : ℕ → Outcome (List ℕ)
+  abbrev pub left : ℕ → QueryOutcome (List ℕ)
   left i = patches_at r caller (drop i offsets)
 
   pub begins : patches_at r caller offsets ≡ behind [] (left 0)
@@ -62,12 +62,12 @@ module _ (r : Rest) (caller : Owner) (offsets : List (ℤ × ℤ)) where
       ap (patches_at r caller) (drop_more offsets i o h)
       ∙ ap (λ u. and_then (patch_beside r caller u.0 u.1) (λ found. and_then (left (i + 1)) (λ patches. Ok (with_patch found patches)))) (sym is)
 
-  given_is : (ps : List ℕ) (i : ℕ) (o : ℤ × ℤ) (given : Outcome (Option ℕ)) → i < length offsets → o ≡ get_or offsets i o → patch_beside r caller o.0 o.1 ≡ given
+  given_is : (ps : List ℕ) (i : ℕ) (o : ℤ × ℤ) (given : QueryOutcome (Option ℕ)) → i < length offsets → o ≡ get_or offsets i o → patch_beside r caller o.0 o.1 ≡ given
       → behind ps (left i) ≡ behind ps (and_then given (λ found. and_then (left (i + 1)) (λ patches. Ok (with_patch found patches))))
   given_is ps i o given h is same =
       ap (behind ps) (next_is i o h is ∙ ap (λ g. and_then g (λ found. and_then (left (i + 1)) (λ patches. Ok (with_patch found patches)))) same)
 
-  none_more : (ps : List ℕ) (o : Outcome (List ℕ)) → behind ps (and_then o (λ patches. Ok patches)) ≡ behind ps o
+  none_more : (ps : List ℕ) (o : QueryOutcome (List ℕ)) → behind ps (and_then o (λ patches. Ok patches)) ≡ behind ps o
   none_more ps (Ok rest) = refl
   none_more ps (Err fail) = refl
 

@@ -1,12 +1,11 @@
 -- What queries mean: laws above the definitions.
-use Rattle.std.specs.Prelude.{◌≡◌, ℕ, ℤ, pos, ◌≤ℤ◌, ◌&&◌, not, false, List, All, Option, Ok, IsTrue}
+use Rattle.std.specs.Prelude.{◌≡◌, ℕ, ℤ, ◌≤ℤ◌, ◌&&◌, not, false, List, All, Option, Ok, IsTrue}
 use Rattle.std.specs.List.Sorted.{IsStrictlyIncreasing}
 use Rattle.nl_value.specs.Nouns.{Serials}
 use Rattle.nl_value.specs.Plain.{Plain, Plains}
 use Rattle.nl_value.specs.Sets.{set_kind}
 use Rattle.nl_value.specs.declared.sets.AgentKind.{AgentKind}
 use Rattle.nl_value.specs.declared.sets.AgentSet.{AgentSet}
-use Rattle.nl_grid.specs.Geometry.{Plane, distance_of}
 use Rattle.nl_grid.specs.declared.point.Point.{Point}
 use Rattle.nl_agents_layout.specs.Nouns.{BreedNumber}
 use Rattle.nl_agents.specs.World.{Rest, World}
@@ -15,7 +14,7 @@ use Rattle.nl_agents.specs.Members.{members_of, is_listed}
 use Rattle.nl_agents.specs.Standing.{IsWorld, fits_rest}
 use Rattle.nl_agents.specs.declared.agents.Link as the_link
 use Rattle.nl_agents.specs.declared.agents.Owner.{Owner}
-use Rattle.nl_agentset_query.specs.Near.{is_within}
+use Rattle.nl_agentset_query.specs.Near.{members_within}
 use Rattle.nl_agentset_query.specs.Agents.{is_of, listed_value}
 use Rattle.nl_agentset_query.specs.Inputs.{inputs_fit}
 use Rattle.nl_agentset_query.specs.declared.words.QueryWord.{QueryWord}
@@ -39,9 +38,11 @@ OthersAreAllButTheCaller =
     (r : Rest) (caller : Owner) (agents : AgentSet) (number : ℕ) →
     is_listed (others r caller agents) number ≡ (is_listed (members_of r agents) number && not (is_caller caller (set_kind agents) number))
 
--- what is just so far away as the radius, or nearer, is within it
-abbrev pub AtTheRadiusIsWithin : Type 0
-AtTheRadiusIsWithin = (plane : Plane) (at to : Point) (radius : ℤ) → pos (distance_of plane at to) ≤ℤ radius → IsTrue (is_within plane at radius to)
+-- who is within a radius is within each greater one
+abbrev pub GreaterRadiiReachMore : Type 0
+GreaterRadiiReachMore =
+    (r : Rest) (agents : AgentSet) (at : Point) (radius greater : ℤ) (number : ℕ) → radius ≤ℤ greater →
+    IsTrue (is_listed (members_within r agents at radius) number) → IsTrue (is_listed (members_within r agents at greater) number)
 
 -- a union ascends, so it has each member once
 abbrev pub UnionsAscend : Type 0

@@ -21,7 +21,7 @@ use Rattle.nl_agentset_query.specs.declared.words.OfEnds.TheVariants as of_ends
 use Rattle.nl_agentset_query.specs.declared.words.Measure.TheVariants as measure
 use Rattle.nl_agentset_query.specs.Agents.{point_of, is_of, listed_value, agent_or_nobody}
 use Rattle.nl_agentset_query.specs.Inputs.{agent_at}
-use Rattle.nl_agentset_query.specs.Outcomes.{Outcome, and_then}
+use Rattle.nl_agentset_query.specs.Outcomes.{QueryOutcome, and_then}
 use Rattle.nl_agentset.specs.Places.{measured}
 
 -- ---- links of a turtle
@@ -68,11 +68,11 @@ least_link r which breed turtle other = least_of r (links_where (is_link_to whic
 
 -- ---- their words, which turtles run
 
-abbrev pub own_links : Rest → Side → Option BreedNumber → Owner → Outcome Plain
+abbrev pub own_links : Rest → Side → Option BreedNumber → Owner → QueryOutcome Plain
 own_links r which breed (owner.Turtle turtle) = Ok (listed_value kind.Link (links_at r which breed turtle))
 own_links r which breed caller = Err WrongType
 
-abbrev pub own_neighbors : Rest → Side → Option BreedNumber → Owner → Outcome Plain
+abbrev pub own_neighbors : Rest → Side → Option BreedNumber → Owner → QueryOutcome Plain
 own_neighbors r which breed (owner.Turtle turtle) = Ok (listed_value kind.Turtle (neighbors_at r which breed turtle))
 own_neighbors r which breed caller = Err WrongType
 
@@ -85,11 +85,11 @@ abbrev pub link_told : Rest → Side → Option BreedNumber → ℕ → Owner �
 link_told r which breed turtle (owner.Turtle other) = least_link r which breed turtle other
 link_told r which breed turtle agent = None
 
-abbrev pub neighbor_tested : Rest → Side → Option BreedNumber → Owner → List Plain → Outcome Plain
+abbrev pub neighbor_tested : Rest → Side → Option BreedNumber → Owner → List Plain → QueryOutcome Plain
 neighbor_tested r which breed (owner.Turtle turtle) inputs = and_then (agent_at r inputs 0) (λ agent. Ok (PlainTruth (neighbor_told r which breed turtle agent)))
 neighbor_tested r which breed caller inputs = Err WrongType
 
-abbrev pub link_found : Rest → Side → Option BreedNumber → Owner → List Plain → Outcome Plain
+abbrev pub link_found : Rest → Side → Option BreedNumber → Owner → List Plain → QueryOutcome Plain
 link_found r which breed (owner.Turtle turtle) inputs =
     and_then (agent_at r inputs 0) (λ agent. Ok (agent_or_nobody kind.Link (link_told r which breed turtle agent)))
 link_found r which breed caller inputs = Err WrongType
@@ -100,15 +100,15 @@ link_found r which breed caller inputs = Err WrongType
 abbrev pub both_of : ℕ → ℕ → Serials
 both_of a b = if nat_lt a b then a ∷ b ∷ [] else b ∷ a ∷ []
 
-abbrev pub of_link : Rest → OfEnds → the_link.Link → Outcome Plain
+abbrev pub of_link : Rest → OfEnds → the_link.Link → QueryOutcome Plain
 of_link r of_ends.Both l = Ok (listed_value kind.Turtle (both_of l.end1 l.end2))
 of_link r of_ends.Length l = measured r.shape measure.Distance (point_of (turtle_of l.end1 r)) (point_of (turtle_of l.end2 r))
 of_link r of_ends.Heading l = measured r.shape measure.Towards (point_of (turtle_of l.end1 r)) (point_of (turtle_of l.end2 r))
 
-abbrev pub of_link_found : Rest → OfEnds → Option the_link.Link → Outcome Plain
+abbrev pub of_link_found : Rest → OfEnds → Option the_link.Link → QueryOutcome Plain
 of_link_found r which None = Err WrongType
 of_link_found r which (Some l) = of_link r which l
 
-abbrev pub ends_told : Rest → OfEnds → Owner → Outcome Plain
+abbrev pub ends_told : Rest → OfEnds → Owner → QueryOutcome Plain
 ends_told r which (owner.Link serial) = of_link_found r which (link_of serial r)
 ends_told r which caller = Err WrongType

@@ -29,7 +29,7 @@ use Rattle.nl_agentset_query.specs.declared.words.Measure.{Measure}
 use Rattle.nl_agentset_query.specs.declared.words.Measure.TheVariants as measure
 use Rattle.nl_agentset_query.specs.Agents.{place_of, is_of, listed_value, agent_or_nobody, own_patch, heading_in}
 use Rattle.nl_agentset_query.specs.Inputs.{value_at, number_at, list_at, standing_set_at, point_at, as_agent, as_number, standing_set, standing_at}
-use Rattle.nl_agentset_query.specs.Outcomes.{Outcome, and_then, outcome_map, summed, or_fail}
+use Rattle.nl_agentset_query.specs.Outcomes.{QueryOutcome, and_then, outcome_map, summed, or_fail}
 
 -- ---- turtles on patches
 
@@ -47,11 +47,11 @@ patches_under r kind.Patch numbers = numbers
 patches_under r kind.Link numbers = []
 
 -- the patch on which one agent stands; a link stands nowhere
-abbrev pub patches_of_agent : Rest → Plain → Outcome (List ℕ)
+abbrev pub patches_of_agent : Rest → Plain → QueryOutcome (List ℕ)
 patches_of_agent r value = and_then (as_agent r value) (λ agent. outcome_map (λ at. own_patch r agent ∷ []) (standing_at r agent))
 
 -- the same of a set or of one agent
-abbrev pub patches_of_value : Rest → Plain → Outcome (List ℕ)
+abbrev pub patches_of_value : Rest → Plain → QueryOutcome (List ℕ)
 patches_of_value r (PlainSet agents) = outcome_map (λ some. patches_under r (set_kind some) (members_of r some)) (standing_set agents)
 patches_of_value r value = patches_of_agent r value
 
@@ -61,10 +61,10 @@ patches_of_value r value = patches_of_agent r value
 abbrev pub patch_found : Plane → Option Point → Option ℕ
 patch_found plane found = option_map (patch_at plane) found
 
-abbrev pub patch_beside : Rest → Owner → ℤ → ℤ → Outcome (Option ℕ)
+abbrev pub patch_beside : Rest → Owner → ℤ → ℤ → QueryOutcome (Option ℕ)
 patch_beside r caller dx dy = outcome_map (patch_found r.shape) (summed (point_beside r.shape (place_of r caller) dx dy))
 
-abbrev pub patch_ahead : Rest → Owner → ℤ → ℤ → Outcome (Option ℕ)
+abbrev pub patch_ahead : Rest → Owner → ℤ → ℤ → QueryOutcome (Option ℕ)
 patch_ahead r caller heading distance = outcome_map (patch_found r.shape) (summed (point_ahead r.shape (place_of r caller) heading distance))
 
 -- a patch or none, as a list
@@ -75,16 +75,16 @@ some_patch (Some patch) = patch ∷ []
 -- ---- members at offsets
 
 -- two numbers in a list
-abbrev pub offset_in : List Plain → Outcome (ℤ × ℤ)
+abbrev pub offset_in : List Plain → QueryOutcome (ℤ × ℤ)
 offset_in (x ∷ y ∷ []) = and_then (as_number x) (λ dx. and_then (as_number y) (λ dy. Ok (dx, dy)))
 offset_in items = Err WrongType
 
-abbrev pub as_offset : Plain → Outcome (ℤ × ℤ)
+abbrev pub as_offset : Plain → QueryOutcome (ℤ × ℤ)
 as_offset (PlainItems items) = offset_in (items_of items)
 as_offset value = Err WrongType
 
 -- all items as offsets, before any is used
-abbrev pub offsets_in : List Plain → Outcome (List (ℤ × ℤ))
+abbrev pub offsets_in : List Plain → QueryOutcome (List (ℤ × ℤ))
 offsets_in [] = Ok []
 offsets_in (item ∷ items) = and_then (as_offset item) (λ offset. and_then (offsets_in items) (λ offsets. Ok (offset ∷ offsets)))
 
@@ -93,7 +93,7 @@ abbrev pub with_patch : Option ℕ → List ℕ → List ℕ
 with_patch None patches = patches
 with_patch (Some patch) patches = patch ∷ patches
 
-abbrev pub patches_at : Rest → Owner → List (ℤ × ℤ) → Outcome (List ℕ)
+abbrev pub patches_at : Rest → Owner → List (ℤ × ℤ) → QueryOutcome (List ℕ)
 patches_at r caller [] = Ok []
 patches_at r caller (offset ∷ offsets) =
     and_then (patch_beside r caller offset.0 offset.1) (λ found. and_then (patches_at r caller offsets) (λ patches. Ok (with_patch found patches)))
@@ -107,19 +107,19 @@ members_on r agents patches = listed_value (set_kind agents) (members_where (is_
 
 -- ---- members near the caller: a negative radius or angle is Domain
 
-abbrev pub near_caller : Rest → Owner → AgentSet → ℤ → Outcome Plain
+abbrev pub near_caller : Rest → Owner → AgentSet → ℤ → QueryOutcome Plain
 near_caller r caller agents radius =
     if int_lt radius (pos 0) then Err Domain
     else Ok (listed_value (set_kind agents) (members_within r agents (place_of r caller) radius))
 
-abbrev pub in_cone_of_caller : Rest → Owner → AgentSet → ℤ → ℤ → Outcome Plain
+abbrev pub in_cone_of_caller : Rest → Owner → AgentSet → ℤ → ℤ → QueryOutcome Plain
 in_cone_of_caller r caller agents radius angle =
     if int_lt radius (pos 0) || int_lt angle (pos 0) then Err Domain
     else Ok (listed_value (set_kind agents) (members_in_cone r agents (place_of r caller) (heading_in r caller) radius angle))
 
 -- ---- the words of sets by where agents stand
 
-abbrev pub standing_by : Rest → Option BreedNumber → Owner → Standing → List Plain → Outcome Plain
+abbrev pub standing_by : Rest → Option BreedNumber → Owner → Standing → List Plain → QueryOutcome Plain
 standing_by r breed caller standing.On inputs = and_then (value_at inputs 0) (λ value. outcome_map (bred_on r breed) (patches_of_value r value))
 standing_by r breed caller standing.Here inputs = Ok (bred_on r breed (own_patch r caller ∷ []))
 standing_by r breed caller standing.At inputs =
@@ -140,20 +140,20 @@ patches_around r caller around.Neighbors = listed_value kind.Patch (neighbors_of
 patches_around r caller around.Neighbors4 = listed_value kind.Patch (neighbors4_of r.shape (own_patch r caller))
 
 -- one patch, or nobody outside
-abbrev pub patch_or_nobody : Outcome (Option ℕ) → Outcome Plain
+abbrev pub patch_or_nobody : QueryOutcome (Option ℕ) → QueryOutcome Plain
 patch_or_nobody outcome = outcome_map (agent_or_nobody kind.Patch) outcome
 
 -- the heading of a turtle, turned to the left or to the right by an angle
-abbrev pub turned_by : Rest → Owner → Bool → ℤ → Outcome ℤ
+abbrev pub turned_by : Rest → Owner → Bool → ℤ → QueryOutcome ℤ
 turned_by r caller to_left angle = summed (if to_left then difference_of (heading_in r caller) angle else sum_of (heading_in r caller) angle)
 
 -- the patch ahead of a turtle, whose heading is turned first
-abbrev pub turned_ahead : Rest → Owner → Bool → List Plain → Outcome (Option ℕ)
+abbrev pub turned_ahead : Rest → Owner → Bool → List Plain → QueryOutcome (Option ℕ)
 turned_ahead r caller to_left inputs =
     and_then (number_at inputs 0) (λ angle. and_then (number_at inputs 1) (λ distance.
     and_then (turned_by r caller to_left angle) (λ heading. patch_ahead r caller heading distance)))
 
-abbrev pub patch_reached : Rest → Owner → PatchBy → List Plain → Outcome (Option ℕ)
+abbrev pub patch_reached : Rest → Owner → PatchBy → List Plain → QueryOutcome (Option ℕ)
 patch_reached r caller patch_by.Here inputs = Ok (Some (own_patch r caller))
 patch_reached r caller patch_by.At inputs = and_then (number_at inputs 0) (λ dx. and_then (number_at inputs 1) (patch_beside r caller dx))
 patch_reached r caller patch_by.Ahead inputs = and_then (number_at inputs 0) (patch_ahead r caller (heading_in r caller))
@@ -161,12 +161,12 @@ patch_reached r caller patch_by.LeftAndAhead inputs = turned_ahead r caller true
 patch_reached r caller patch_by.RightAndAhead inputs = turned_ahead r caller false inputs
 patch_reached r caller patch_by.HeadingAndDistance inputs = and_then (number_at inputs 0) (λ heading. and_then (number_at inputs 1) (patch_ahead r caller heading))
 
-abbrev pub one_patch : Rest → Owner → PatchBy → List Plain → Outcome Plain
+abbrev pub one_patch : Rest → Owner → PatchBy → List Plain → QueryOutcome Plain
 one_patch r caller which inputs = patch_or_nobody (patch_reached r caller which inputs)
 
 -- ---- what a turtle faces
 
-abbrev pub faced : Rest → Owner → Facing → List Plain → Outcome Plain
+abbrev pub faced : Rest → Owner → Facing → List Plain → QueryOutcome Plain
 faced r caller facing.CanMove inputs =
     and_then (number_at inputs 0) (λ distance. outcome_map (λ found. PlainTruth (is_some found)) (patch_ahead r caller (heading_in r caller) distance))
 faced r caller facing.Dx inputs = Ok (PlainNumber (sine_of (heading_in r caller)))
@@ -174,15 +174,15 @@ faced r caller facing.Dy inputs = Ok (PlainNumber (cosine_of (heading_in r calle
 
 -- ---- distances and directions
 
-abbrev pub measured : Plane → Measure → Point → Point → Outcome Plain
+abbrev pub measured : Plane → Measure → Point → Point → QueryOutcome Plain
 measured plane measure.Distance from to = Ok (PlainNumber (pos (distance_of plane from to)))
 measured plane measure.Towards from to = outcome_map PlainNumber (or_fail SamePoint (heading_between plane from to))
 
-abbrev pub measured_to : Rest → Owner → Measure → List Plain → Outcome Plain
+abbrev pub measured_to : Rest → Owner → Measure → List Plain → QueryOutcome Plain
 measured_to r caller which inputs = and_then (point_at r inputs 0) (measured r.shape which (place_of r caller))
 
 -- a point by its coordinates, wrapped first
-abbrev pub measured_to_xy : Rest → Owner → Measure → List Plain → Outcome Plain
+abbrev pub measured_to_xy : Rest → Owner → Measure → List Plain → QueryOutcome Plain
 measured_to_xy r caller which inputs =
     and_then (number_at inputs 0) (λ x. and_then (number_at inputs 1) (λ y.
     and_then (or_fail OutOfWorld (wrapped_point r.shape x y)) (measured r.shape which (place_of r caller))))

@@ -14,14 +14,14 @@ use Rattle.nl_agentset_query.specs.declared.words.QueryWord.TheVariants as word
 use Rattle.nl_agentset_query.specs.declared.words.Whole.TheVariants as whole
 use Rattle.nl_agentset_query.specs.Choices.{chosen_by}
 use Rattle.nl_agentset.specs.Links.{own_links, own_neighbors, neighbor_tested, link_found, ends_told}
-use Rattle.nl_agentset_query.specs.Outcomes.{Outcome, outcome_map}
+use Rattle.nl_agentset_query.specs.Outcomes.{QueryOutcome, outcome_map}
 use Rattle.nl_agentset.specs.Places.{standing_by, patches_around, one_patch, faced, measured_to, measured_to_xy}
 use Rattle.nl_agentset.specs.Sets.{whole_set, looked_up, breed_tested, set_told}
 use Rattle.nl_agentset_query.specs.Unions.{union_of}
 use Rattle.nl_agentset_query.specs.Words.{query_word}
 
 -- what a query answers that draws nothing
-abbrev pub told : Rest → Option BreedNumber → Owner → QueryWord → List Plain → Outcome Plain
+abbrev pub told : Rest → Option BreedNumber → Owner → QueryWord → List Plain → QueryOutcome Plain
 told r breed caller (word.Whole which) inputs = Ok (PlainSet (whole_set which breed))
 told r breed caller (word.LookUp which) inputs = looked_up r which breed inputs
 told r breed caller (word.OfBreed which) inputs = breed_tested r which breed inputs
@@ -41,16 +41,16 @@ told r breed caller (word.IsNeighbor which) inputs = neighbor_tested r which bre
 told r breed caller (word.LinkTo which) inputs = link_found r which breed caller inputs
 
 -- the answer beside the state of the stream after it
-abbrev pub query_answer : Rest → Option BreedNumber → Owner → QueryWord → List Plain → ℕ → Outcome (Plain × ℕ)
+abbrev pub query_answer : Rest → Option BreedNumber → Owner → QueryWord → List Plain → ℕ → QueryOutcome (Plain × ℕ)
 query_answer r breed caller (word.Choice which) inputs state = chosen_by r which inputs state
 query_answer r breed caller which inputs state = outcome_map (λ value. (value, state)) (told r breed caller which inputs)
 
 -- the same by the word's code; what is no query has no answer
-abbrev pub answer_by : Rest → Option BreedNumber → Owner → Option QueryWord → List Plain → ℕ → Outcome (Plain × ℕ)
+abbrev pub answer_by : Rest → Option BreedNumber → Owner → Option QueryWord → List Plain → ℕ → QueryOutcome (Plain × ℕ)
 answer_by r breed caller None inputs state = Err WrongType
 answer_by r breed caller (Some which) inputs state = query_answer r breed caller which inputs state
 
-abbrev pub queried : Rest → Code → Option BreedNumber → Owner → List Plain → ℕ → Outcome (Plain × ℕ)
+abbrev pub queried : Rest → Code → Option BreedNumber → Owner → List Plain → ℕ → QueryOutcome (Plain × ℕ)
 queried r code breed caller inputs state = answer_by r breed caller (query_word code) inputs state
 
 -- ---- breeds

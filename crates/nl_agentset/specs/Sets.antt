@@ -31,7 +31,7 @@ use Rattle.nl_agentset_query.specs.declared.words.OfSet.{OfSet}
 use Rattle.nl_agentset_query.specs.declared.words.OfSet.TheVariants as of_set
 use Rattle.nl_agentset_query.specs.Agents.{agent_or_nobody, listed_value, is_of, breed_or_none, turtle_passes, link_passes}
 use Rattle.nl_agentset_query.specs.Inputs.{value_at, number_at, set_at}
-use Rattle.nl_agentset_query.specs.Outcomes.{Outcome, and_then}
+use Rattle.nl_agentset_query.specs.Outcomes.{QueryOutcome, and_then}
 
 -- ---- sets without inputs
 
@@ -57,7 +57,7 @@ whole_set whole.NoLinks breed = set.SomeLinks []
 abbrev pub is_called : Rest → ℤ → ℕ → Bool
 is_called r number serial = int_eq (pos (who_of r serial) *ℤ pos one) number
 
-abbrev pub whole_or_wrong : ℤ → Outcome ℤ
+abbrev pub whole_or_wrong : ℤ → QueryOutcome ℤ
 whole_or_wrong number = if is_whole number then Ok number else Err WrongType
 
 -- the turtle that is called by a number
@@ -65,11 +65,11 @@ abbrev pub turtle_named : Rest → ℤ → Option the_turtle.Turtle
 turtle_named r number = find (λ t. is_called r number t.serial) r.turtles
 
 -- the turtle, or nobody where there is none; one of another breed than the word's is WrongType
-abbrev pub bred_or_wrong : Option BreedNumber → Option the_turtle.Turtle → Outcome Plain
+abbrev pub bred_or_wrong : Option BreedNumber → Option the_turtle.Turtle → QueryOutcome Plain
 bred_or_wrong breed None = Ok PlainNobody
 bred_or_wrong breed (Some t) = if is_of breed t.breed then Ok (PlainTurtle t.serial) else Err WrongType
 
-abbrev pub turtle_called : Rest → Option BreedNumber → ℤ → Outcome Plain
+abbrev pub turtle_called : Rest → Option BreedNumber → ℤ → QueryOutcome Plain
 turtle_called r breed number = and_then (whole_or_wrong number) (λ n. bred_or_wrong breed (turtle_named r n))
 
 -- the patch at a point of the world, or nobody
@@ -89,12 +89,12 @@ link_between r breed (Some first) (Some second) = find (is_between breed first.s
 
 -- the link of the word's breed, or of none, between the turtles that are called so, or nobody where there is none; no two links of one
 -- breed join two turtles the same way
-abbrev pub link_called : Rest → Option BreedNumber → ℤ → ℤ → Outcome Plain
+abbrev pub link_called : Rest → Option BreedNumber → ℤ → ℤ → QueryOutcome Plain
 link_called r breed first second =
     and_then (whole_or_wrong first) (λ a. and_then (whole_or_wrong second) (λ b.
     Ok (agent_or_nobody kind.Link (option_map (λ l. l.serial) (link_between r (breed_or_none breed) (turtle_named r a) (turtle_named r b))))))
 
-abbrev pub looked_up : Rest → LookUp → Option BreedNumber → List Plain → Outcome Plain
+abbrev pub looked_up : Rest → LookUp → Option BreedNumber → List Plain → QueryOutcome Plain
 looked_up r look_up.Turtle breed inputs = and_then (number_at inputs 0) (turtle_called r breed)
 looked_up r look_up.Patch breed inputs = and_then (number_at inputs 0) (λ x. and_then (number_at inputs 1) (λ y. Ok (patch_called r x y)))
 looked_up r look_up.Link breed inputs = and_then (number_at inputs 0) (λ first. and_then (number_at inputs 1) (link_called r breed first))
@@ -106,7 +106,7 @@ is_of_breed_value r of_breed.Turtle breed (PlainTurtle serial) = turtle_passes (
 is_of_breed_value r of_breed.Link breed (PlainLink serial) = link_passes (λ l. is_of breed l.breed) (link_of serial r)
 is_of_breed_value r which breed value = false
 
-abbrev pub breed_tested : Rest → OfBreed → Option BreedNumber → List Plain → Outcome Plain
+abbrev pub breed_tested : Rest → OfBreed → Option BreedNumber → List Plain → QueryOutcome Plain
 breed_tested r which breed inputs = and_then (value_at inputs 0) (λ value. Ok (PlainTruth (is_of_breed_value r which breed value)))
 
 -- ---- words of a set alone
@@ -131,5 +131,5 @@ of_agents r caller of_set.Other agents = listed_value (set_kind agents) (others 
 of_agents r caller of_set.Count agents = PlainNumber (pos (length (members_of r agents)) *ℤ pos one)
 of_agents r caller of_set.Any agents = PlainTruth (has_members (members_of r agents))
 
-abbrev pub set_told : Rest → Owner → OfSet → List Plain → Outcome Plain
+abbrev pub set_told : Rest → Owner → OfSet → List Plain → QueryOutcome Plain
 set_told r caller which inputs = and_then (set_at inputs 0) (λ agents. Ok (of_agents r caller which agents))

@@ -1,5 +1,5 @@
 //! What queries mean. These functions do nothing: the contract of each is a law.
-ghost use Rattle.nl_agentset.specs.Laws.{AnswersFit, OthersAreAllButTheCaller, AtTheRadiusIsWithin, UnionsAscend, NeighborsAreMutual, WaysAreOpposite, UndirectedLeadBothWays};
+ghost use Rattle.nl_agentset.specs.Laws.{AnswersFit, OthersAreAllButTheCaller, GreaterRadiiReachMore, UnionsAscend, NeighborsAreMutual, WaysAreOpposite, UndirectedLeadBothWays};
 
 /// What a query answers fits the world.
 pub fn answers_fit()
@@ -11,9 +11,9 @@ pub fn others_are_all_but_the_caller()
     ensures { OthersAreAllButTheCaller }
 {}
 
-/// What stands just as far away as the radius is within it.
-pub fn at_the_radius_is_within()
-    ensures { AtTheRadiusIsWithin }
+/// Who is within a radius is within each greater one.
+pub fn greater_radii_reach_more()
+    ensures { GreaterRadiiReachMore }
 {}
 
 /// A union has each member once.

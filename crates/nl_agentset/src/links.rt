@@ -1,11 +1,12 @@
 //! Links of the caller, and the turtles at their other ends.
-ghost use Rattle.std.specs.Prelude.{◌≡◌, ◌==◌, Some, option_map, filter, filter_map, map, All, IsTrue, IfOk};
+ghost use Rattle.std.specs.Prelude.{◌≡◌, ◌≤◌, ◌+◌, ◌==◌, Some, option_map, filter, filter_map, map, All, IsTrue, IfOk};
 ghost use Rattle.nl_value.specs.Views.{plain};
 ghost use Rattle.nl_agents.specs.Changes.{OwnerLives, TurtleLives, LinkLives, link_of};
 ghost use Rattle.nl_agents.specs.Members.{links_where};
 ghost use Rattle.nl_agents.specs.Names.{living_of};
 ghost use Rattle.nl_agentset_query.specs.Inputs.{inputs_fit};
 ghost use Rattle.nl_agentset.specs.Links.{leads, is_link_at, other_end_of, is_link_to, links_at, neighbors_at, is_least, least_of, own_links, own_neighbors, neighbor_tested, link_found};
+ghost use Rattle.nl_agentset.specs.Reads.{links_reads, own_reads};
 ghost use Rattle.nl_agentset_query.specs.Outcomes.{Gives, outcome_map};
 ghost use Rattle.nl_agentset_query.specs.Agents.{link_passes};
 
@@ -68,7 +69,7 @@ fn links_kept<S: Store>(
     Ok(Serials::of_vec(kept))
 }
 
-/// The links of a turtle, of the word's breed and side.
+/// The links of a turtle, of the word's breed and side. What is read is one record for each link of the turtle, and one more.
 fn links_at<S: Store, L: Ledger>(
     alloc: Global,
     side: Side,
@@ -81,6 +82,7 @@ fn links_at<S: Store, L: Ledger>(
     ensures links { let r = (S.world store.now).rest in
         IfOk result (λ links. links ≡ links_at r side breed turtle) }
     ensures live { IfOk result (All (λ link. LinkLives link (S.world store.now))) }
+    ensures reads { steps.new ≤ steps.old + links_reads (S.world store.now).rest turtle }
 {
     // What the order of the links rests on: the store stands for a world.
     let _stands = store.shape();
@@ -129,8 +131,9 @@ fn neighbors_at<S: Store, L: Ledger>(
     steps: &mut Steps<L>,
 ) -> Result<Serials, NoMemory>
     requires { TurtleLives turtle (S.world store.now) }
-    ensures { let r = (S.world store.now).rest in
+    ensures turtles { let r = (S.world store.now).rest in
         IfOk result (λ turtles. turtles ≡ neighbors_at r side breed turtle) }
+    ensures reads { steps.new ≤ steps.old + links_reads (S.world store.now).rest turtle }
 {
     // What the ends rest on: the store stands for a world.
     let _stands = store.shape();
@@ -185,6 +188,7 @@ fn links_to<S: Store, L: Ledger>(
     ensures links { let r = (S.world store.now).rest in
         IfOk result (λ links. links ≡ links_where (is_link_to side breed turtle other) r) }
     ensures live { IfOk result (All (λ link. LinkLives link (S.world store.now))) }
+    ensures reads { steps.new ≤ steps.old + links_reads (S.world store.now).rest turtle }
 {
     // What the order of the links rests on: the store stands for a world.
     let _stands = store.shape();
@@ -232,14 +236,15 @@ pub fn own_links<S: Store, L: Ledger>(
     steps: &mut Steps<L>,
 ) -> Result<Value, QueryFail>
     requires { OwnerLives caller (S.world store.now) }
-    ensures { let r = (S.world store.now).rest in
+    ensures answer { let r = (S.world store.now).rest in
         Gives (outcome_map plain result) (own_links r which breed caller) }
+    ensures reads { steps.new ≤ steps.old + own_reads (S.world store.now).rest caller }
 {
     let Owner::Turtle(turtle) = caller else {
         return Err(QueryFail::WrongType);
     };
     let links = links_at(alloc, which, breed, turtle, store, steps)?;
-    Ok(Value::Set(AgentSet::SomeLinks(links)))
+    Ok(Value::set(alloc, AgentSet::SomeLinks(links))?)
 }
 
 /// `link-neighbors` and its kin.
@@ -252,14 +257,15 @@ pub fn own_neighbors<S: Store, L: Ledger>(
     steps: &mut Steps<L>,
 ) -> Result<Value, QueryFail>
     requires { OwnerLives caller (S.world store.now) }
-    ensures { let r = (S.world store.now).rest in
+    ensures answer { let r = (S.world store.now).rest in
         Gives (outcome_map plain result) (own_neighbors r which breed caller) }
+    ensures reads { steps.new ≤ steps.old + own_reads (S.world store.now).rest caller }
 {
     let Owner::Turtle(turtle) = caller else {
         return Err(QueryFail::WrongType);
     };
     let turtles = neighbors_at(alloc, which, breed, turtle, store, steps)?;
-    Ok(Value::Set(AgentSet::SomeTurtles(turtles)))
+    Ok(Value::set(alloc, AgentSet::SomeTurtles(turtles))?)
 }
 
 /// `link-neighbor?` and its kin.
@@ -274,8 +280,9 @@ pub fn neighbor_tested<S: Store, L: Ledger>(
 ) -> Result<Value, QueryFail>
     requires fit { IsTrue (inputs_fit (S.world store.now).rest (map plain inputs.now)) }
     requires lives { OwnerLives caller (S.world store.now) }
-    ensures { let r = (S.world store.now).rest in
+    ensures answer { let r = (S.world store.now).rest in
         Gives (outcome_map plain result) (neighbor_tested r which breed caller (map plain inputs.now)) }
+    ensures reads { steps.new ≤ steps.old + own_reads (S.world store.now).rest caller }
 {
     let Owner::Turtle(turtle) = caller else {
         return Err(QueryFail::WrongType);
@@ -301,8 +308,9 @@ pub fn link_found<S: Store, L: Ledger>(
 ) -> Result<Value, QueryFail>
     requires fit { IsTrue (inputs_fit (S.world view.now.store.now).rest (map plain inputs.now)) }
     requires lives { OwnerLives caller (S.world view.now.store.now) }
-    ensures { let r = (S.world view.now.store.now).rest in
+    ensures answer { let r = (S.world view.now.store.now).rest in
         Gives (outcome_map plain result) (link_found r which breed caller (map plain inputs.now)) }
+    ensures reads { steps.new ≤ steps.old + own_reads (S.world view.now.store.now).rest caller }
 {
     let Owner::Turtle(turtle) = caller else {
         return Err(QueryFail::WrongType);

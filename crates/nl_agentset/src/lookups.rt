@@ -4,6 +4,7 @@ ghost use Rattle.nl_fixed.specs.Numbers.{whole_limit};
 ghost use Rattle.nl_value.specs.Views.{plain};
 ghost use Rattle.nl_agents.specs.Changes.{turtle_of, link_of, TurtleLives, LinkLives};
 ghost use Rattle.nl_agentset_query.specs.Inputs.{inputs_fit};
+ghost use Rattle.nl_agentset.specs.Reads.{found_reads, look_up_reads};
 ghost use Rattle.nl_agentset_query.specs.Outcomes.{Gives, outcome_map};
 ghost use Rattle.nl_agentset.specs.inner.Walks.{whole_from_zero};
 ghost use Rattle.nl_agentset_query.specs.Agents.{breed_or_none, link_passes};
@@ -115,7 +116,7 @@ fn first_between<S: Store>(
     None
 }
 
-/// The link of a breed between the turtles that are called so.
+/// The link of a breed between the turtles that are called so, which is sought among the links of the first.
 fn link_between<S: Store, L: Ledger>(
     alloc: Global,
     breed: u32,
@@ -124,9 +125,11 @@ fn link_between<S: Store, L: Ledger>(
     store: &S,
     steps: &mut Steps<L>,
 ) -> Result<Option<u64>, NoMemory>
-    ensures { let r = (S.world store.now).rest in
+    ensures link { let r = (S.world store.now).rest in
         let wanted = link_between r breed (turtle_named r first) (turtle_named r second) in
         IfOk result (λ found. found ≡ option_map (λ l. l.serial) wanted) }
+    ensures reads { let r = (S.world store.now).rest in
+        steps.new ≤ steps.old + found_reads r (option_map (λ t. t.serial) (turtle_named r first)) }
 {
     // What the links that are found rest on: the store stands for a world.
     let _stands = store.shape();
@@ -148,8 +151,10 @@ fn link_called<S: Store, L: Ledger>(
     store: &S,
     steps: &mut Steps<L>,
 ) -> Result<Value, QueryFail>
-    ensures { let r = (S.world store.now).rest in
+    ensures answer { let r = (S.world store.now).rest in
         Gives (outcome_map plain result) (link_called r breed first second) }
+    ensures reads { let r = (S.world store.now).rest in
+        steps.new ≤ steps.old + found_reads r (option_map (λ t. t.serial) (turtle_named r first)) }
 {
     if !first.is_whole() || !second.is_whole() {
         return Err(QueryFail::WrongType);
@@ -167,8 +172,10 @@ pub fn looked_up<S: Store, L: Ledger>(
     store: &S,
     steps: &mut Steps<L>,
 ) -> Result<Value, QueryFail>
-    ensures { let r = (S.world store.now).rest in
+    ensures answer { let r = (S.world store.now).rest in
         Gives (outcome_map plain result) (looked_up r which breed (map plain inputs.now)) }
+    ensures reads { let r = (S.world store.now).rest in
+        steps.new ≤ steps.old + look_up_reads r which (map plain inputs.now) }
 {
     let first = number_at(inputs, 0)?;
     match which {

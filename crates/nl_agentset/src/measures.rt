@@ -94,7 +94,7 @@ fn of_link<S: Store>(alloc: Global, which: OfEnds, link: u64, store: &S) -> Resu
     match which {
         OfEnds::Both => {
             let both = both_of(alloc, end1, end2)?;
-            Ok(Value::Set(AgentSet::SomeTurtles(both)))
+            Ok(Value::set(alloc, AgentSet::SomeTurtles(both))?)
         }
         OfEnds::Length => measured(Measure::Distance, &shape, store.at(end1), store.at(end2)),
         OfEnds::Heading => measured(Measure::Towards, &shape, store.at(end1), store.at(end2)),

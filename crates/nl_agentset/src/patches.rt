@@ -90,7 +90,7 @@ pub fn patches_around<S: Store>(
             of_patches(alloc, &out[..count])?
         }
     };
-    Ok(Value::Set(AgentSet::SomePatches(numbers)))
+    Ok(Value::set(alloc, AgentSet::SomePatches(numbers))?)
 }
 
 /// The caller's heading, turned to the left or to the right.

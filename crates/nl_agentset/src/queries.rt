@@ -1,5 +1,5 @@
 //! What each query answers.
-ghost use Rattle.std.specs.Prelude.{◌≡◌, map, is_some, IsTrue, IfOk, OnErr};
+ghost use Rattle.std.specs.Prelude.{◌≡◌, ◌≤◌, ◌+◌, map, is_some, IsTrue, IfOk, OnErr};
 ghost use Rattle.nl_value.specs.Views.{plain};
 ghost use Rattle.nl_agents.specs.Changes.{OwnerLives};
 ghost use Rattle.nl_agents.specs.Standing.{fits_rest};
@@ -7,7 +7,7 @@ ghost use Rattle.nl_agentset_query.specs.Inputs.{inputs_fit};
 ghost use Rattle.nl_agentset_query.specs.Outcomes.{Answers, Gives, outcome_map};
 ghost use Rattle.nl_agentset_query.specs.Words.{query_word};
 ghost use Rattle.nl_agentset.specs.Queries.{told, query_answer, queried, breed_fits, word_breed_fits};
-ghost use Rattle.nl_agentset.specs.Reads.{few_reads, few_reads_by, AreFew};
+ghost use Rattle.nl_agentset.specs.Reads.{few_reads, few_reads_by};
 
 use crate::links::{link_found, neighbor_tested, own_links, own_neighbors};
 use crate::lookups::{breed_tested, looked_up};
@@ -38,11 +38,11 @@ fn told<S: Store, L: Ledger>(
     ensures answer { let r = (S.world view.now.store.now).rest in
         Gives (outcome_map plain result) (told r breed caller word (map plain inputs.now)) }
     ensures reads { let r = (S.world view.now.store.now).rest in
-        AreFew (few_reads r caller word (map plain inputs.now)) steps.old steps.new }
+        steps.new ≤ steps.old + few_reads r caller word (map plain inputs.now) }
 {
     let store = view.store;
     match word {
-        QueryWord::Whole(which) => Ok(Value::Set(whole_set(alloc, which, breed))),
+        QueryWord::Whole(which) => Ok(Value::set(alloc, whole_set(alloc, which, breed))?),
         QueryWord::LookUp(which) => looked_up(alloc, which, breed, inputs, store, steps),
         QueryWord::OfBreed(which) => breed_tested(which, breed, inputs, store),
         QueryWord::OfSet(which) => set_told(alloc, which, caller, inputs, store, steps),
@@ -91,7 +91,7 @@ pub fn answer<S: Store, L: Ledger>(
         IfOk result (λ value. IsTrue (fits_rest r (plain value))) }
     ensures stays { OnErr result (stream.new ≡ stream.old) }
     ensures reads { let r = (S.world view.now.store.now).rest in
-        AreFew (few_reads r caller word (map plain inputs.now)) steps.old steps.new }
+        steps.new ≤ steps.old + few_reads r caller word (map plain inputs.now) }
 {
     // What the answer's fit rests on: the store stands for a world.
     let _stands = view.store.shape();
@@ -123,7 +123,7 @@ pub fn query<S: Store, L: Ledger>(
         IfOk result (λ value. IsTrue (fits_rest r (plain value))) }
     ensures stays { OnErr result (stream.new ≡ stream.old) }
     ensures reads { let r = (S.world view.now.store.now).rest in
-        AreFew (few_reads_by r caller (query_word code) (map plain inputs.now)) steps.old steps.new }
+        steps.new ≤ steps.old + few_reads_by r caller (query_word code) (map plain inputs.now) }
 {
     match query_word(code) {
         Some(word) => answer(alloc, word, breed, caller, inputs, view, stream, steps),

@@ -1,7 +1,6 @@
 //! Sets without inputs, and words of a set alone.
-ghost use Rattle.std.specs.Prelude.{◌≡◌, ◌≤◌, ◌+◌, ◌*ℤ◌, pos, map, filter, length, option_map, IsTrue, IfOk, [], not};
+ghost use Rattle.std.specs.Prelude.{◌≡◌, ◌≤◌, ◌+◌, ◌*ℤ◌, pos, map, filter, length, IsTrue, IfOk, [], not};
 ghost use Rattle.std.specs.List.{list_any};
-ghost use Rattle.std.specs.Result.{result_ok};
 ghost use Rattle.nl_fixed.specs.Numbers.{one};
 ghost use Rattle.nl_value.specs.Views.{plain};
 ghost use Rattle.nl_value.specs.Sets.{set_kind};
@@ -11,7 +10,7 @@ ghost use Rattle.nl_agents.specs.Members.{members_of, most_reads};
 ghost use Rattle.nl_agents.specs.Names.{set_fits};
 ghost use Rattle.nl_agentset_query.specs.Inputs.{inputs_fit, set_at};
 ghost use Rattle.nl_agentset_query.specs.Outcomes.{Gives, outcome_map};
-ghost use Rattle.nl_agentset.specs.Reads.{count_reads, set_reads, AreFew};
+ghost use Rattle.nl_agentset.specs.Reads.{count_reads, set_reads, or_none};
 ghost use Rattle.nl_agentset.specs.Sets.{turtles_of, links_of, whole_set, is_caller, others, has_members, of_agents, set_told};
 
 use nl_agents::{Owner, Steps, Store};
@@ -212,7 +211,7 @@ fn of_agents<S: Store, L: Ledger>(
     match which {
         OfSet::Other => {
             let rest = others(alloc, caller, set, store, steps)?;
-            Ok(Value::Set(listed(set.kind(), rest)))
+            Ok(Value::set(alloc, listed(set.kind(), rest))?)
         }
         OfSet::Count => {
             let many = count(alloc, set, store, steps)?;
@@ -238,8 +237,8 @@ pub fn set_told<S: Store, L: Ledger>(
     ensures answer { let r = (S.world store.now).rest in
         Gives (outcome_map plain result) (set_told r caller which (map plain inputs.now)) }
     ensures reads { let r = (S.world store.now).rest in
-        let most = option_map (set_reads r which) (result_ok (set_at (map plain inputs.now) 0)) in
-        AreFew most steps.old steps.new }
+        let most = or_none (outcome_map (set_reads r which) (set_at (map plain inputs.now) 0)) in
+        steps.new ≤ steps.old + most }
 {
     let set = set_at(inputs, 0, store)?;
     Ok(of_agents(alloc, which, caller, set, store, steps)?)

@@ -1,5 +1,5 @@
 //! Agents by where they stand: on patches, at offsets, within a radius, in a cone.
-ghost use Rattle.std.specs.Prelude.{◌≡◌, ◌≤◌, ◌<◌, ◌+◌, [], ◌∷◌, None, map, filter, All, IsTrue, IfOk, IfSome};
+ghost use Rattle.std.specs.Prelude.{◌≡◌, ◌≤◌, ◌<◌, ◌+◌, [], ◌∷◌, None, map, filter, length, All, IsTrue, IfOk, IfSome};
 ghost use Rattle.std.specs.List.{flat_map};
 ghost use Rattle.nl_value.specs.Views.{plain};
 ghost use Rattle.nl_value.specs.Sets.{set_kind};
@@ -8,15 +8,16 @@ ghost use Rattle.nl_grid.specs.Geometry.{patches_of};
 ghost use Rattle.nl_agents.specs.Changes.{OwnerLives, TurtleLives, turtle_of};
 ghost use Rattle.nl_agents.specs.declared.agents.Owner.TheVariants as owner;
 ghost use Rattle.nl_agentset_query.specs.declared.words.Standing.TheVariants as standing;
-ghost use Rattle.nl_agents.specs.Members.{members_of, turtles_where, is_on};
+ghost use Rattle.nl_agents.specs.Members.{members_of, most_reads, turtles_where, is_on};
 ghost use Rattle.nl_agents.specs.Names.{set_fits};
 ghost use Rattle.nl_agents.specs.Standing.{fits_rest};
-ghost use Rattle.nl_agentset_query.specs.Near.{stands_where, members_where};
+ghost use Rattle.nl_agentset_query.specs.Near.{stands_where, members_where, members_in_cone, near_reads};
 ghost use Rattle.nl_agentset_query.specs.Inputs.{inputs_fit};
 ghost use Rattle.nl_agentset_query.specs.Outcomes.{Gives, outcome_map};
-ghost use Rattle.nl_agentset_query.specs.Agents.{own_patch, is_of, turtle_passes};
-ghost use Rattle.nl_agentset.specs.Places.{turtles_on, bred_on, some_patch, patches_under, patches_of_agent, patches_of_value, offset_in, as_offset, offsets_in, patches_at, is_on_one, standing_by};
-ghost use Rattle.nl_agentset.specs.Reads.{patch_reads, standing_reads, AreFew};
+ghost use Rattle.nl_agentset_query.specs.Reads.{members_reads};
+ghost use Rattle.nl_agentset_query.specs.Agents.{own_patch, place_of, heading_in, listed_value, is_of, turtle_passes};
+ghost use Rattle.nl_agentset.specs.Places.{turtles_on, bred_on, some_patch, patches_under, patches_of_agent, patches_of_value, offset_in, as_offset, offsets_in, patches_at, is_on_one, near_caller, in_cone_of_caller, standing_by};
+ghost use Rattle.nl_agentset.specs.Reads.{patch_reads, patches_reads, reads_at, standing_reads};
 
 use crate::patches::patch_beside;
 use nl_agents::{Owner, Steps, Store};
@@ -86,8 +87,9 @@ fn turtles_found<S: Store, L: Ledger>(
     steps: &mut Steps<L>,
 ) -> Result<Serials, NoMemory>
     requires { IfSome found (λ patch. patch < patches_of (S.world store.now).rest.shape) }
-    ensures { let r = (S.world store.now).rest in
+    ensures list { let r = (S.world store.now).rest in
         IfOk result (λ turtles. turtles ≡ turtles_on r breed (some_patch found)) }
+    ensures reads { steps.new ≤ steps.old + reads_at (S.world store.now).rest found }
 {
     match found {
         Some(patch) => turtles_on_patch(alloc, breed, patch, store, steps),
@@ -95,7 +97,7 @@ fn turtles_found<S: Store, L: Ledger>(
     }
 }
 
-/// The turtles on some patches, patch by patch.
+/// The turtles on some patches, patch by patch. What is read is one record for each of them, and one for each patch.
 fn turtles_gathered<S: Store, L: Ledger>(
     alloc: Global,
     patches: &Serials,
@@ -103,9 +105,12 @@ fn turtles_gathered<S: Store, L: Ledger>(
     steps: &mut Steps<L>,
 ) -> Result<Vec<u64>, NoMemory>
     requires { All (λ patch. patch < patches_of (S.world store.now).rest.shape) patches.now }
-    ensures { let r = (S.world store.now).rest in
+    ensures turtles { let r = (S.world store.now).rest in
         let each = flat_map (λ patch. turtles_where (is_on r patch) r) patches.now in
         IfOk result (λ turtles. turtles.items ≡ each) }
+    ensures reads { let r = (S.world store.now).rest in
+        let each = flat_map (λ patch. turtles_where (is_on r patch) r) patches.now in
+        steps.new ≤ steps.old + (length each + length patches.now) }
 {
     // What the range of patches rests on: the store stands for a world.
     let _stands = store.shape();
@@ -128,8 +133,9 @@ fn turtles_on<S: Store, L: Ledger>(
     steps: &mut Steps<L>,
 ) -> Result<Serials, NoMemory>
     requires { All (λ patch. patch < patches_of (S.world store.now).rest.shape) patches.items }
-    ensures { let r = (S.world store.now).rest in
+    ensures list { let r = (S.world store.now).rest in
         IfOk result (λ turtles. turtles ≡ turtles_on r breed patches.items) }
+    ensures reads { steps.new ≤ steps.old + patches_reads (S.world store.now).rest patches.items }
 {
     // What the order of the turtles rests on: the store stands for a world.
     let _stands = store.shape();
@@ -182,6 +188,7 @@ fn patches_under<S: Store, L: Ledger>(
         IfOk result (λ patches. patches.items ≡ under) }
     ensures inside { let r = (S.world store.now).rest in
         IfOk result (λ patches. All (λ patch. patch < patches_of r.shape) patches.items) }
+    ensures reads { steps.new ≤ steps.old + most_reads (S.world store.now).rest set.now }
 {
     // What the members rest on: the store stands for a world.
     let _stands = store.shape();
@@ -224,6 +231,7 @@ fn patches_of_value<S: Store, L: Ledger>(
         Gives (outcome_map (λ patches. patches.items) result) (patches_of_value r (plain value.now)) }
     ensures inside { let r = (S.world store.now).rest in
         IfOk result (λ patches. All (λ patch. patch < patches_of r.shape) patches.items) }
+    ensures reads { steps.new ≤ steps.old + members_reads (S.world store.now).rest (plain value.now) }
 {
     match value {
         Value::Set(set) => {
@@ -317,8 +325,9 @@ fn members_on<S: Store, L: Ledger>(
     steps: &mut Steps<L>,
 ) -> Result<Serials, NoMemory>
     requires { IsTrue (set_fits (S.world store.now).rest set.now) }
-    ensures { let r = (S.world store.now).rest in
+    ensures list { let r = (S.world store.now).rest in
         IfOk result (λ members. members ≡ members_where (is_on_one r.shape patches.now) r set.now) }
+    ensures reads { steps.new ≤ steps.old + most_reads (S.world store.now).rest set.now }
 {
     let members = living(alloc, set, store, steps)?;
     let mut kept = Vec::new(alloc);
@@ -342,14 +351,16 @@ fn on<S: Store, L: Ledger>(
     steps: &mut Steps<L>,
 ) -> Result<Value, QueryFail>
     requires { IsTrue (inputs_fit (S.world store.now).rest (map plain inputs.now)) }
-    ensures { let r = (S.world store.now).rest in
+    ensures answer { let r = (S.world store.now).rest in
         let told = standing_by r breed owner.Observer standing.On (map plain inputs.now) in
         Gives (outcome_map plain result) told }
+    ensures reads { let r = (S.world store.now).rest in
+        steps.new ≤ steps.old + standing_reads r owner.Observer standing.On (map plain inputs.now) }
 {
     let value = fitting_at(inputs, 0, store)?;
     let patches = patches_of_value(alloc, value, store, steps)?;
     let turtles = turtles_on(alloc, breed, patches, store, steps)?;
-    Ok(Value::Set(AgentSet::SomeTurtles(turtles)))
+    Ok(Value::set(alloc, AgentSet::SomeTurtles(turtles))?)
 }
 
 /// `turtles-here`
@@ -367,7 +378,7 @@ fn here<S: Store, L: Ledger>(
         steps.new ≤ steps.old + patch_reads r (own_patch r caller) }
 {
     let turtles = turtles_on_patch(alloc, breed, own_patch(caller, store), store, steps)?;
-    Ok(Value::Set(AgentSet::SomeTurtles(turtles)))
+    Ok(Value::set(alloc, AgentSet::SomeTurtles(turtles))?)
 }
 
 /// `turtles-at`
@@ -380,14 +391,16 @@ fn at<S: Store, L: Ledger>(
     steps: &mut Steps<L>,
 ) -> Result<Value, QueryFail>
     requires { OwnerLives caller (S.world store.now) }
-    ensures { let r = (S.world store.now).rest in
+    ensures answer { let r = (S.world store.now).rest in
         Gives (outcome_map plain result) (standing_by r breed caller standing.At (map plain inputs.now)) }
+    ensures reads { let r = (S.world store.now).rest in
+        steps.new ≤ steps.old + standing_reads r caller standing.At (map plain inputs.now) }
 {
     let dx = number_at(inputs, 0)?;
     let dy = number_at(inputs, 1)?;
     let found = patch_beside(caller, dx, dy, store)?;
     let turtles = turtles_found(alloc, breed, found, store, steps)?;
-    Ok(Value::Set(AgentSet::SomeTurtles(turtles)))
+    Ok(Value::set(alloc, AgentSet::SomeTurtles(turtles))?)
 }
 
 /// `at-points`
@@ -400,16 +413,89 @@ fn at_points<S: Store, L: Ledger>(
 ) -> Result<Value, QueryFail>
     requires fit { IsTrue (inputs_fit (S.world store.now).rest (map plain inputs.now)) }
     requires lives { OwnerLives caller (S.world store.now) }
-    ensures { let r = (S.world store.now).rest in
+    ensures answer { let r = (S.world store.now).rest in
         let told = standing_by r None caller standing.AtPoints (map plain inputs.now) in
         Gives (outcome_map plain result) told }
+    ensures reads { let r = (S.world store.now).rest in
+        steps.new ≤ steps.old + standing_reads r caller standing.AtPoints (map plain inputs.now) }
 {
     let set = standing_set_at(inputs, 0, store)?;
     let items = list_at(inputs, 1)?;
     let offsets = offsets_in(alloc, items.as_slice())?;
     let patches = in_order(patches_at(alloc, caller, &offsets, store)?);
     let members = members_on(alloc, set, &patches, store, steps)?;
-    Ok(Value::Set(listed(set.kind(), members)))
+    Ok(Value::set(alloc, listed(set.kind(), members))?)
+}
+
+/// The members of a set within a radius of the caller.
+fn near_caller<S: Store, L: Ledger>(
+    alloc: Global,
+    caller: Owner,
+    set: &AgentSet,
+    radius: Num,
+    store: &S,
+    steps: &mut Steps<L>,
+) -> Result<Value, QueryFail>
+    requires fit { IsTrue (set_fits (S.world store.now).rest set.now) }
+    requires lives { OwnerLives caller (S.world store.now) }
+    ensures answer { let r = (S.world store.now).rest in
+        Gives (outcome_map plain result) (near_caller r caller set.now radius) }
+    ensures reads { let r = (S.world store.now).rest in
+        steps.new ≤ steps.old + near_reads r set.now (place_of r caller) radius }
+{
+    if radius.millionths() < 0 {
+        return Err(QueryFail::Domain);
+    }
+    let at = place_of(caller, store);
+    let members = in_radius(alloc, set, at, radius, store, steps)?;
+    Ok(Value::set(alloc, listed(set.kind(), members))?)
+}
+
+/// The members of a set in the caller's cone of a radius and an angle.
+fn in_cone_ahead<S: Store, L: Ledger>(
+    alloc: Global,
+    caller: Owner,
+    set: &AgentSet,
+    radius: Num,
+    angle: Num,
+    store: &S,
+    steps: &mut Steps<L>,
+) -> Result<Value, NoMemory>
+    requires fit { IsTrue (set_fits (S.world store.now).rest set.now) }
+    requires lives { OwnerLives caller (S.world store.now) }
+    ensures answer { let r = (S.world store.now).rest in
+        let seen = members_in_cone r set.now (place_of r caller) (heading_in r caller) radius angle in
+        IfOk result (λ value. plain value ≡ listed_value (set_kind set.now) seen) }
+    ensures reads { let r = (S.world store.now).rest in
+        steps.new ≤ steps.old + near_reads r set.now (place_of r caller) radius }
+{
+    let at = place_of(caller, store);
+    let heading = heading_in(caller, store);
+    let members = in_cone(alloc, set, at, heading, radius, angle, store, steps)?;
+    Ok(Value::set(alloc, listed(set.kind(), members))?)
+}
+
+/// The same, where the radius and the angle aren't below 0.
+fn in_cone_of_caller<S: Store, L: Ledger>(
+    alloc: Global,
+    caller: Owner,
+    set: &AgentSet,
+    radius: Num,
+    angle: Num,
+    store: &S,
+    steps: &mut Steps<L>,
+) -> Result<Value, QueryFail>
+    requires fit { IsTrue (set_fits (S.world store.now).rest set.now) }
+    requires lives { OwnerLives caller (S.world store.now) }
+    ensures answer { let r = (S.world store.now).rest in
+        Gives (outcome_map plain result) (in_cone_of_caller r caller set.now radius angle) }
+    ensures reads { let r = (S.world store.now).rest in
+        steps.new ≤ steps.old + near_reads r set.now (place_of r caller) radius }
+{
+    if radius.millionths() < 0 || angle.millionths() < 0 {
+        return Err(QueryFail::Domain);
+    }
+    Ok(in_cone_ahead(alloc, caller, set, radius, angle, store, steps)?)
 }
 
 /// `in-radius`
@@ -426,16 +512,11 @@ fn within<S: Store, L: Ledger>(
         let told = standing_by r None caller standing.InRadius (map plain inputs.now) in
         Gives (outcome_map plain result) told }
     ensures reads { let r = (S.world store.now).rest in
-        AreFew (standing_reads r caller standing.InRadius (map plain inputs.now)) steps.old steps.new }
+        steps.new ≤ steps.old + standing_reads r caller standing.InRadius (map plain inputs.now) }
 {
     let set = standing_set_at(inputs, 0, store)?;
     let radius = number_at(inputs, 1)?;
-    if radius.millionths() < 0 {
-        return Err(QueryFail::Domain);
-    }
-    let at = place_of(caller, store);
-    let members = in_radius(alloc, set, at, radius, store, steps)?;
-    Ok(Value::Set(listed(set.kind(), members)))
+    near_caller(alloc, caller, set, radius, store, steps)
 }
 
 /// `in-cone`
@@ -451,18 +532,12 @@ fn in_sight<S: Store, L: Ledger>(
     ensures answer { let r = (S.world store.now).rest in
         Gives (outcome_map plain result) (standing_by r None caller standing.InCone (map plain inputs.now)) }
     ensures reads { let r = (S.world store.now).rest in
-        AreFew (standing_reads r caller standing.InCone (map plain inputs.now)) steps.old steps.new }
+        steps.new ≤ steps.old + standing_reads r caller standing.InCone (map plain inputs.now) }
 {
     let set = standing_set_at(inputs, 0, store)?;
     let radius = number_at(inputs, 1)?;
     let angle = number_at(inputs, 2)?;
-    if radius.millionths() < 0 || angle.millionths() < 0 {
-        return Err(QueryFail::Domain);
-    }
-    let at = place_of(caller, store);
-    let heading = heading_in(caller, store);
-    let members = in_cone(alloc, set, at, heading, radius, angle, store, steps)?;
-    Ok(Value::Set(listed(set.kind(), members)))
+    in_cone_of_caller(alloc, caller, set, radius, angle, store, steps)
 }
 
 /// `turtles-on`, `turtles-here`, `turtles-at` and the forms of breeds, `at-points`, `in-radius` and `in-cone`.
@@ -480,7 +555,7 @@ pub fn standing_by<S: Store, L: Ledger>(
     ensures answer { let r = (S.world store.now).rest in
         Gives (outcome_map plain result) (standing_by r breed caller which (map plain inputs.now)) }
     ensures reads { let r = (S.world store.now).rest in
-        AreFew (standing_reads r caller which (map plain inputs.now)) steps.old steps.new }
+        steps.new ≤ steps.old + standing_reads r caller which (map plain inputs.now) }
 {
     match which {
         Standing::On => on(alloc, breed, inputs, store, steps),

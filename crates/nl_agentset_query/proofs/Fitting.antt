@@ -10,7 +10,7 @@ use Rattle.nl_agents.specs.World.{Rest}
 use Rattle.nl_agents.specs.Standing.{fits_rest}
 use Rattle.std.specs.List.{list_all}
 use Rattle.nl_agentset_query.specs.Inputs.{inputs_fit, value_at}
-use Rattle.nl_agentset_query.specs.Outcomes.{Outcome, outcome_map}
+use Rattle.nl_agentset_query.specs.Outcomes.{QueryOutcome, outcome_map}
 
 -- the items of a list as a value are the list
 pub items_of_plains : (ps : List Plain) → items_of (plains ps) ≡ ps
@@ -24,7 +24,7 @@ input_fits r (x ∷ xs) zero p all is = let same : x ≡ p = cc in ap (fits_rest
 input_fits r (x ∷ xs) (suc at) p all is = input_fits r xs at p (and_parts (fits_rest r x) (list_all (fits_rest r) xs) all).1 is
 
 -- the same of what a call finds
-pub found_fits : {V : Type 0} (r : Rest) (inputs : List Plain) (at : ℕ) (f : V → Plain) (o : Outcome V) → inputs_fit r inputs ≡ true → outcome_map f o ≡ value_at inputs at → IfOk o (λ v. fits_rest r (f v) ≡ true)
+pub found_fits : {V : Type 0} (r : Rest) (inputs : List Plain) (at : ℕ) (f : V → Plain) (o : QueryOutcome V) → inputs_fit r inputs ≡ true → outcome_map f o ≡ value_at inputs at → IfOk o (λ v. fits_rest r (f v) ≡ true)
 found_fits r inputs at f (Ok v) fit is = input_fits r inputs at (f v) fit is
 found_fits r inputs at f (Err fail) fit is = tt
 

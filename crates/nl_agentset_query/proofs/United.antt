@@ -23,7 +23,7 @@ use Rattle.nl_agents.specs.declared.agents.Turtle.{Turtle}
 use Rattle.nl_agents.specs.declared.agents.Link.{Link}
 use Rattle.nl_agents.proofs.Ascending.{has_filter, has_range, same_ascending}
 use Rattle.nl_agents.proofs.LivingMembers.{found_passing, members_ascend}
-use Rattle.nl_agentset_query.specs.Outcomes.{Outcome, and_then}
+use Rattle.nl_agentset_query.specs.Outcomes.{QueryOutcome, and_then}
 use Rattle.nl_agentset_query.specs.declared.fail.QueryFail.TheVariants.{WrongType}
 use Rattle.nl_agentset_query.specs.Agents.{turtle_passes, link_passes, listed_value}
 use Rattle.nl_agentset_query.specs.Unions.{one_united, united, all_united, all_of, union_of}
@@ -96,7 +96,7 @@ module _ (w : World) (world : IsWorld w) where
       ap (λ k. is_listed (members_of w.rest (all_of k)) z) (same_kinds which (set_kind set) same) ∙ set_in set z (ap (λ l. is_listed l z) (sym are) ∙ h)
   set_kept which set false ns same is z h = cc
 
-  both_parts : (o u : Outcome (List ℕ)) (ns : List ℕ) → and_then o (λ some. and_then u (λ more. Ok (some ++ more))) ≡ Ok ns
+  both_parts : (o u : QueryOutcome (List ℕ)) (ns : List ℕ) → and_then o (λ some. and_then u (λ more. Ok (some ++ more))) ≡ Ok ns
       → (some : List ℕ) × ((more : List ℕ) × ((o ≡ Ok some) × ((u ≡ Ok more) × (ns ≡ some ++ more))))
   both_parts (Ok some) (Ok more) ns is = let are : ns ≡ some ++ more = cc in (some, (more, (refl, (refl, are))))
   both_parts (Ok some) (Err fail) ns is = cc
@@ -130,7 +130,7 @@ module _ (w : World) (world : IsWorld w) where
   implied a true h = sym (ap (λ x. x && true) (h refl))
   implied a false h = sym (and_right a false refl)
 
-  nothing_before : (o : Outcome (List ℕ)) (start found : List ℕ) → start ≡ [] → behind start o ≡ Ok found → o ≡ Ok found
+  nothing_before : (o : QueryOutcome (List ℕ)) (start found : List ℕ) → start ≡ [] → behind start o ≡ Ok found → o ≡ Ok found
   nothing_before (Ok some) start found none is = sym (ap (λ l. Ok (l ++ some)) none) ∙ is
   nothing_before (Err fail) start found none is = is
 

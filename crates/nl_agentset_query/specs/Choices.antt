@@ -12,13 +12,13 @@ use Rattle.nl_agentset_query.specs.declared.fail.QueryFail.TheVariants.{WrongTyp
 use Rattle.nl_agentset_query.specs.declared.words.Choice.{Choice}
 use Rattle.nl_agentset_query.specs.declared.words.Choice.TheVariants.{OneOf, NOf, UpToNOf}
 use Rattle.nl_agentset_query.specs.Inputs.{value_at, number_at}
-use Rattle.nl_agentset_query.specs.Outcomes.{Outcome, and_then, outcome_map}
+use Rattle.nl_agentset_query.specs.Outcomes.{QueryOutcome, and_then, outcome_map}
 use Rattle.nl_agentset_query.specs.Agents.{agent_or_nobody, listed_value}
 
 -- ---- one
 
 -- one item of a list, which has to have one
-abbrev pub item_or_few : Option Plain × ℕ → Outcome (Plain × ℕ)
+abbrev pub item_or_few : Option Plain × ℕ → QueryOutcome (Plain × ℕ)
 item_or_few (None, state) = Err TooFew
 item_or_few (Some item, state) = Ok (item, state)
 
@@ -27,7 +27,7 @@ abbrev pub one_member : Rest → AgentSet → ℕ → Plain × ℕ
 one_member r agents state =
     (agent_or_nobody (set_kind agents) (chosen (members_of r agents) state).0, (chosen (members_of r agents) state).1)
 
-abbrev pub one_among : Rest → Plain → ℕ → Outcome (Plain × ℕ)
+abbrev pub one_among : Rest → Plain → ℕ → QueryOutcome (Plain × ℕ)
 one_among r (PlainItems items) state = item_or_few (chosen (items_of items) state)
 one_among r (PlainSet agents) state = Ok (one_member r agents state)
 one_among r value state = Err WrongType
@@ -53,28 +53,28 @@ are_too_few OneOf number many = int_lt (pos many) (whole_part number)
 are_too_few UpToNOf number many = false
 
 -- how many are wanted, or why there can't be so many
-abbrev pub wanted_of : Choice → ℤ → ℕ → Outcome ℕ
+abbrev pub wanted_of : Choice → ℤ → ℕ → QueryOutcome ℕ
 wanted_of which number many =
     if are_too_few which number many then Err TooFew
     else if int_lt number (pos 0) then Err Domain
     else Ok (unsigned_abs (whole_part number))
 
-abbrev pub several_items : Choice → ℤ → List Plain → ℕ → Outcome (Plain × ℕ)
+abbrev pub several_items : Choice → ℤ → List Plain → ℕ → QueryOutcome (Plain × ℕ)
 several_items which number items state =
     outcome_map (λ wanted. (PlainItems (plains (some_of wanted items state).0), (some_of wanted items state).1)) (wanted_of which number (length items))
 
-abbrev pub several_members : Rest → Choice → ℤ → AgentSet → ℕ → Outcome (Plain × ℕ)
+abbrev pub several_members : Rest → Choice → ℤ → AgentSet → ℕ → QueryOutcome (Plain × ℕ)
 several_members r which number agents state =
     outcome_map (λ wanted. (listed_value (set_kind agents) (some_of wanted (members_of r agents) state).0, (some_of wanted (members_of r agents) state).1))
     (wanted_of which number (length (members_of r agents)))
 
-abbrev pub several_among : Rest → Choice → ℤ → Plain → ℕ → Outcome (Plain × ℕ)
+abbrev pub several_among : Rest → Choice → ℤ → Plain → ℕ → QueryOutcome (Plain × ℕ)
 several_among r which number (PlainItems items) state = several_items which number (items_of items) state
 several_among r which number (PlainSet agents) state = several_members r which number agents state
 several_among r which number value state = Err WrongType
 
 -- what the word draws, and the state of the stream after it
-abbrev pub chosen_by : Rest → Choice → List Plain → ℕ → Outcome (Plain × ℕ)
+abbrev pub chosen_by : Rest → Choice → List Plain → ℕ → QueryOutcome (Plain × ℕ)
 chosen_by r OneOf inputs state = and_then (value_at inputs 0) (λ value. one_among r value state)
 chosen_by r NOf inputs state = and_then (number_at inputs 0) (λ number. and_then (value_at inputs 1) (λ value. several_among r NOf number value state))
 chosen_by r UpToNOf inputs state = and_then (number_at inputs 0) (λ number. and_then (value_at inputs 1) (λ value. several_among r UpToNOf number value state))

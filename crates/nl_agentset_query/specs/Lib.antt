@@ -5,6 +5,7 @@ pub mod Laws
 pub mod Near
 pub mod Orders
 pub mod Outcomes
+pub mod Reads
 pub mod Unions
 pub mod Words
 pub mod inner

@@ -5,13 +5,14 @@ ghost use Rattle.nl_value.specs.Views.{plain};
 ghost use Rattle.nl_value.specs.Plain.{PlainItems, plains, items_of};
 ghost use Rattle.nl_value.specs.Sets.{set_kind};
 ghost use Rattle.nl_draw.specs.Stream.{chosen};
-ghost use Rattle.nl_agents.specs.Members.{members_of};
+ghost use Rattle.nl_agents.specs.Members.{members_of, most_reads};
 ghost use Rattle.nl_agents.specs.Names.{set_fits};
 ghost use Rattle.nl_agents.specs.Standing.{fits_rest};
 ghost use Rattle.nl_agentset_query.specs.Choices.{item_or_few, one_member, one_among, places_drawn, kept_from, some_of, are_too_few, wanted_of, several_items, several_members, several_among, chosen_by};
 ghost use Rattle.nl_agentset_query.specs.Inputs.{inputs_fit};
 ghost use Rattle.nl_agentset_query.specs.Outcomes.{Answers};
 ghost use Rattle.nl_agentset_query.specs.Orders.{SameNumbers};
+ghost use Rattle.nl_agentset_query.specs.Reads.{members_reads, choice_reads};
 
 use crate::agents::{agent_or_nobody, listed};
 use crate::fail::QueryFail;
@@ -59,6 +60,7 @@ fn one_member<S: Store, L: Ledger>(
     ensures answer { let r = (S.world store.now).rest in let state = stream.new in
         IfOk result (λ value. (plain value, state) ≡ one_member r set.now stream.old) }
     ensures stays { OnErr result (stream.new ≡ stream.old) }
+    ensures reads { steps.new ≤ steps.old + most_reads (S.world store.now).rest set.now }
 {
     // What the numbers of patches rest on: the store stands for a world.
     let _stands = store.shape();
@@ -79,6 +81,7 @@ fn one_among<S: Store, L: Ledger>(
     ensures answer { let r = (S.world store.now).rest in
         Answers result stream.new (one_among r (plain value.now) stream.old) }
     ensures stays { OnErr result (stream.new ≡ stream.old) }
+    ensures reads { steps.new ≤ steps.old + members_reads (S.world store.now).rest (plain value.now) }
 {
     match value {
         Value::Items(items) => one_item(alloc, items, stream),
@@ -231,7 +234,15 @@ fn several_items(
     ensures stays { OnErr result (stream.new ≡ stream.old) }
 {
     let wanted = wanted_of(which, number, items.len())?;
-    Ok(Value::Items(some_items(alloc, wanted, items, stream)?))
+    let mark = stream.save();
+    let some = some_items(alloc, wanted, items, stream)?;
+    match Value::items(alloc, some) {
+        Ok(value) => Ok(value),
+        Err(refused) => {
+            stream.restore(mark);
+            Err(QueryFail::from(refused))
+        }
+    }
 }
 
 /// Several members of a set.
@@ -248,11 +259,19 @@ fn several_members<S: Store, L: Ledger>(
     ensures answer { let r = (S.world store.now).rest in
         Answers result stream.new (several_members r which number set.now stream.old) }
     ensures stays { OnErr result (stream.new ≡ stream.old) }
+    ensures reads { steps.new ≤ steps.old + most_reads (S.world store.now).rest set.now }
 {
     let members = living(alloc, set, store, steps)?;
     let wanted = wanted_of(which, number, members.len())?;
+    let mark = stream.save();
     let some = some_numbers(alloc, wanted, &members, stream)?;
-    Ok(Value::Set(listed(set.kind(), some)))
+    match Value::set(alloc, listed(set.kind(), some)) {
+        Ok(value) => Ok(value),
+        Err(refused) => {
+            stream.restore(mark);
+            Err(QueryFail::from(refused))
+        }
+    }
 }
 
 /// Several members or items of a value.
@@ -269,6 +288,7 @@ fn several_among<S: Store, L: Ledger>(
     ensures answer { let r = (S.world store.now).rest in
         Answers result stream.new (several_among r which number (plain value.now) stream.old) }
     ensures stays { OnErr result (stream.new ≡ stream.old) }
+    ensures reads { steps.new ≤ steps.old + members_reads (S.world store.now).rest (plain value.now) }
 {
     match value {
         Value::Items(items) => several_items(alloc, which, number, items, stream),
@@ -277,7 +297,7 @@ fn several_among<S: Store, L: Ledger>(
     }
 }
 
-/// What the word draws, among the members of a set that live or among the items of a list.
+/// What the word draws, among the members of a set that live or among the items of a list. The members are listed once.
 pub fn chosen_by<S: Store, L: Ledger>(
     alloc: Global,
     which: Choice,
@@ -291,6 +311,8 @@ pub fn chosen_by<S: Store, L: Ledger>(
         let told = chosen_by r which (map plain inputs.now) stream.old in
         Answers result stream.new told }
     ensures stays { OnErr result (stream.new ≡ stream.old) }
+    ensures reads { let r = (S.world store.now).rest in
+        steps.new ≤ steps.old + choice_reads r which (map plain inputs.now) }
 {
     match which {
         Choice::OneOf => {

@@ -42,7 +42,7 @@ pub fn snapshot<S: Store, L: Ledger>(
     ensures reads { steps.new ≤ steps.old + most_reads (S.world store.now).rest set.now }
 {
     let members = living(alloc, set, store, steps)?;
-    let mut list = members.as_slice().to_vec(alloc)?;
+    let mut list = members.into_vec();
     stream.shuffle(&mut list);
     Ok(Walk::of_vec(list))
 }

@@ -30,7 +30,7 @@ pub fn as_list(value: &Value) -> Result<&Items, QueryFail>
     ensures { outcome_map (λ items. items.now) result ≡ as_list (plain value.now) }
 {
     match value {
-        Value::Items(items) => Ok(items),
+        Value::Items(items) => Ok(&**items),
         _ => Err(QueryFail::WrongType),
     }
 }
@@ -39,7 +39,7 @@ fn as_set(value: &Value) -> Result<&AgentSet, QueryFail>
     ensures { outcome_map (λ set. set.now) result ≡ as_set (plain value.now) }
 {
     match value {
-        Value::Set(set) => Ok(set),
+        Value::Set(set) => Ok(&**set),
         _ => Err(QueryFail::WrongType),
     }
 }

@@ -1,11 +1,13 @@
 //! Unions of agents, sets and lists of them.
-ghost use Rattle.std.specs.Prelude.{◌≡◌, ◌++◌, map, IsTrue};
+ghost use Rattle.std.specs.Prelude.{◌≡◌, ◌≤◌, ◌+◌, ◌++◌, map, IsTrue};
 ghost use Rattle.nl_value.specs.Views.{plain};
 ghost use Rattle.nl_value.specs.Plain.{PlainSet, plains};
+ghost use Rattle.nl_agents.specs.Members.{most_reads};
 ghost use Rattle.nl_agents.specs.Names.{set_fits};
 ghost use Rattle.nl_agents.specs.Standing.{fits_rest};
 ghost use Rattle.nl_agentset_query.specs.Inputs.{inputs_fit};
 ghost use Rattle.nl_agentset_query.specs.Outcomes.{Gives, outcome_map};
+ghost use Rattle.nl_agentset_query.specs.Reads.{united_reads, all_united_reads};
 ghost use Rattle.nl_agentset_query.specs.Unions.{one_united, united, all_united, union_of};
 
 use crate::agents::listed;
@@ -49,9 +51,11 @@ fn gather_set<S: Store, L: Ledger>(
     steps: &mut Steps<L>,
 ) -> Result<(), QueryFail>
     requires { IsTrue (set_fits (S.world store.now).rest set.now) }
-    ensures { let r = (S.world store.now).rest in let so_far = into.old.items in let all = into.new.items in
+    ensures gathered { let r = (S.world store.now).rest in
+        let so_far = into.old.items in let all = into.new.items in
         let given = outcome_map (λ more. so_far ++ more) (united r kind (PlainSet set.now)) in
         Gives (outcome_map (λ _. all) result) given }
+    ensures reads { steps.new ≤ steps.old + most_reads (S.world store.now).rest set.now }
 {
     if kind != set.kind() {
         return Err(QueryFail::WrongType);
@@ -72,9 +76,11 @@ fn gather<S: Store, L: Ledger>(
     steps: &mut Steps<L>,
 ) -> Result<(), QueryFail>
     requires { IsTrue (fits_rest (S.world store.now).rest (plain value.now)) }
-    ensures { let r = (S.world store.now).rest in let so_far = into.old.items in let all = into.new.items in
+    ensures gathered { let r = (S.world store.now).rest in
+        let so_far = into.old.items in let all = into.new.items in
         let given = outcome_map (λ more. so_far ++ more) (united r kind (plain value.now)) in
         Gives (outcome_map (λ _. all) result) given }
+    ensures reads { steps.new ≤ steps.old + united_reads (S.world store.now).rest (plain value.now) }
 {
     match value {
         Value::Turtle(turtle) => {
@@ -91,7 +97,9 @@ fn gather<S: Store, L: Ledger>(
         Value::Nobody => Ok(()),
         Value::Set(set) => gather_set(alloc, kind, set, into, store, steps),
         Value::Items(items) => gather_all(alloc, kind, items.as_slice(), into, store, steps),
-        Value::Number(_) | Value::Truth(_) | Value::Words(_) => Err(QueryFail::WrongType),
+        Value::Number(_) | Value::Truth(_) | Value::Words(_) | Value::Blank => {
+            Err(QueryFail::WrongType)
+        }
     }
 }
 
@@ -106,9 +114,12 @@ fn gather_all<S: Store, L: Ledger>(
     steps: &mut Steps<L>,
 ) -> Result<(), QueryFail>
     requires { IsTrue (inputs_fit (S.world store.now).rest (map plain values.now)) }
-    ensures { let r = (S.world store.now).rest in let so_far = into.old.items in let all = into.new.items in
+    ensures gathered { let r = (S.world store.now).rest in
+        let so_far = into.old.items in let all = into.new.items in
         let given = outcome_map (λ more. so_far ++ more) (all_united r kind (plains (map plain values.now))) in
         Gives (outcome_map (λ _. all) result) given }
+    ensures reads { let r = (S.world store.now).rest in
+        steps.new ≤ steps.old + all_united_reads r (plains (map plain values.now)) }
 {
     for value in values {
         gather(alloc, kind, value, into, store, steps)?;
@@ -116,7 +127,7 @@ fn gather_all<S: Store, L: Ledger>(
     Ok(())
 }
 
-/// The set of all agents of the kind that are in one of the values.
+/// The set of all agents of the kind that are in one of the values. The members of each set among them are listed once.
 pub fn union_of<S: Store, L: Ledger>(
     alloc: Global,
     kind: AgentKind,
@@ -125,12 +136,14 @@ pub fn union_of<S: Store, L: Ledger>(
     steps: &mut Steps<L>,
 ) -> Result<Value, QueryFail>
     requires { IsTrue (inputs_fit (S.world store.now).rest (map plain values.now)) }
-    ensures { let r = (S.world store.now).rest in
+    ensures answer { let r = (S.world store.now).rest in
         Gives (outcome_map plain result) (union_of r kind (plains (map plain values.now))) }
+    ensures reads { let r = (S.world store.now).rest in
+        steps.new ≤ steps.old + all_united_reads r (plains (map plain values.now)) }
 {
     // What the order of the members rests on: the store stands for a world.
     let _stands = store.shape();
     let mut found = Vec::new(alloc);
     gather_all(alloc, kind, values, &mut found, store, steps)?;
-    Ok(Value::Set(listed(kind, in_order(found))))
+    Ok(Value::set(alloc, listed(kind, in_order(found)))?)
 }

@@ -19,7 +19,7 @@ use Rattle.nl_agents.proofs.Finding.{found_before, found_all}
 use Rattle.nl_agents.proofs.Worlds.{turtle_by}
 use Rattle.nl_birth.specs.declared.looks.Looks.{Looks}
 use Rattle.nl_birth.specs.Looks.{drawn_looks, looks_in_order, born_with}
-use Rattle.nl_birth.specs.Births.{Scene, origin, point_or_origin, drawn_births, ordered_births, hatchings, place_of}
+use Rattle.nl_birth.specs.Births.{Scene, origin, point_or_origin, drawn_births, ordered_births, hatchings, birthplace}
 use Rattle.nl_birth.specs.Laws.{HasMoreTurtles, IsOfAt, IsLike}
 use Rattle.nl_birth.proofs.Counting.{range_more}
 
@@ -153,17 +153,17 @@ same_vars owns (s ∷ ss) (v ∷ vs) o =
     let tail : map is_some vs ≡ map owns ss = cc in
     ap₂ (λ x xs. x ∷ xs) (same_entry (owns s) v head) (same_vars owns ss vs tail)
 
-pub hatched_alike : (w : World) (parent : ℕ) (t : Turtle) (k : ℕ) → IsWorld w → turtle_of parent w.rest ≡ Some t → HasMoreTurtles (IsLike t) w (hatchings t.breed parent (place_of parent w) w k) k
+pub hatched_alike : (w : World) (parent : ℕ) (t : Turtle) (k : ℕ) → IsWorld w → turtle_of parent w.rest ≡ Some t → HasMoreTurtles (IsLike t) w (hatchings t.breed parent (birthplace parent w) w k) k
 unfolding hatchings
 hatched_alike w parent t zero h e = none_new (IsLike t) w
 hatched_alike w parent t (suc k) h e =
-    let now = hatchings t.breed parent (place_of parent w) w k in
+    let now = hatchings t.breed parent (birthplace parent w) w k in
     let before = hatched_alike w parent t k h e in
     let found : turtle_of parent now.rest ≡ Some t = ap (λ x. turtle_of parent x.rest) before.rest ∙ found_before (is_turtle parent) w.rest.turtles before.new t e in
     let layout : now.rest.layout ≡ w.rest.layout = ap (λ x. x.rest.layout) before.rest in
     let is = found_all (is_turtle parent) (IsTurtleOf w.rest) w.rest.turtles t h.agents.turtles e in
     let vars : birth_vars now.rest.layout t.breed (turtle_of parent now.rest) ≡ t.vars =
     ap₂ (λ l o. birth_vars l t.breed o) layout found ∙ same_vars (turtle_owns w.rest.layout t.breed) w.rest.layout.some_turtle t.vars is.vars.owned in
-    let at : place_of parent w ≡ t.at = ap (λ o. point_or_origin (option_map (λ (x : Turtle). x.at) o)) e in
-    one_new (IsLike t) w now (born t.breed (place_of parent w) (Some parent) now) k (newborn t.breed (place_of parent w) (Some parent) now.rest) before refl
+    let at : birthplace parent w ≡ t.at = ap (λ o. point_or_origin (option_map (λ (x : Turtle). x.at) o)) e in
+    one_new (IsLike t) w now (born t.breed (birthplace parent w) (Some parent) now) k (newborn t.breed (birthplace parent w) (Some parent) now.rest) before refl
     (ap₂ (λ p v. record t { at = p; vars = v }) at vars) refl

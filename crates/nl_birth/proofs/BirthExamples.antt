@@ -14,7 +14,7 @@ use Rattle.nl_birth.specs.declared.way.Way.TheVariants.{With, To, From}
 use Rattle.nl_birth.specs.Looks.{drawn_looks, heading_in_order, looks_in_order}
 use Rattle.nl_birth.specs.Births.{Scene, count_of, drawn_births, ordered_births, hatchings, created, hatched}
 use Rattle.nl_birth.specs.Links.{tied_to_all, linked}
-use Rattle.nl_birth.specs.Outcomes.{Outcome, Made, Filled, Refused}
+use Rattle.nl_birth.specs.Outcomes.{BirthOutcome, Made, Filled, Refused}
 
 -- turtles own a color and a heading, and links and patches own nothing
 abbrev layout : Layout
@@ -34,12 +34,12 @@ abbrev start : Scene
 start = record { world = first_world layout (plane_of (pos 0) (pos 1) (pos 0) (pos 0) false false); stream = 0 }
 
 -- what an outcome leaves, and the serials of those that were made
-abbrev left : {X : Type 0} → Outcome X → X
+abbrev left : {X : Type 0} → BirthOutcome X → X
 left (Made made x) = x
 left (Filled x) = x
 left (Refused x) = x
 
-abbrev serials : {X : Type 0} → Outcome X → Option Serials
+abbrev serials : {X : Type 0} → BirthOutcome X → Option Serials
 serials (Made made x) = Some made
 serials (Filled x) = None
 serials (Refused x) = None
@@ -61,7 +61,7 @@ below_zero = refl
 -- ---- births
 
 -- two turtles at seed 42
-abbrev two : Outcome Scene
+abbrev two : BirthOutcome Scene
 two = created false 0 (pos 2_900_000) (record start { stream = 1753877967969059832 })
 
 seed : first_state 42 ≡ 1753877967969059832

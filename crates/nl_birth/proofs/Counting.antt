@@ -26,7 +26,7 @@ use Rattle.nl_birth.specs.declared.failing.BirthFail.{BirthFail}
 use Rattle.nl_birth.specs.declared.failing.BirthFail.TheVariants.{TooMany, LinkFault, NoMemory}
 use Rattle.nl_birth.specs.Looks.{drawn_looks, looks_in_order, born_with}
 use Rattle.nl_birth.specs.Births.{Scene, turtle_room, drawn_birth, drawn_births, ordered_births, hatchings, origin}
-use Rattle.nl_birth.specs.Outcomes.{Outcome, Made, Filled, outcome_of, IsOutcome, IsCutShort, fail_of_bear}
+use Rattle.nl_birth.specs.Outcomes.{BirthOutcome, Made, Filled, outcome_of, IsOutcome, IsCutShort, fail_of_bear}
 use Rattle.nl_birth.proofs.Setting.{lives_beside}
 
 -- ---- serials in a row
@@ -211,7 +211,7 @@ hatched_next breed parent at w now k room first made next h e = e ∙ ap (born b
 
 -- ---- what calls answer
 
-pub exits : {X : Type 0} (outcome : Outcome X) (after : ℕ → X) (most : ℕ) (now : X) (r : Result Serials BirthFail) (fail : BirthFail) → IsErrAnd r (λ mine. mine ≡ fail) → IsOutcome outcome after most (Err fail) now
+pub exits : {X : Type 0} (outcome : BirthOutcome X) (after : ℕ → X) (most : ℕ) (now : X) (r : Result Serials BirthFail) (fail : BirthFail) → IsErrAnd r (λ mine. mine ≡ fail) → IsOutcome outcome after most (Err fail) now
     → IsOutcome outcome after most r now
 exits outcome after most now r fail e h =
     let p = err_from_is_err_and r e in

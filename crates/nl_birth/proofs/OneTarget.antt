@@ -14,7 +14,7 @@ use Rattle.nl_agents.specs.declared.refusals.TieFail.TheVariants as tie
 use Rattle.nl_birth.specs.declared.failing.BirthFail.{BirthFail}
 use Rattle.nl_birth.specs.declared.way.Way.{Way}
 use Rattle.nl_birth.specs.Links.{first_end, first_ties, has_direction, is_joined, is_none, is_of_other_kind, link_room, linked, linkings, links_made, second_end, tied_to, tied_to_all, wanted}
-use Rattle.nl_birth.specs.Outcomes.{IsMade, IsOutcomeOfOne, Outcome, Filled, Refused, fail_of_tie}
+use Rattle.nl_birth.specs.Outcomes.{IsMade, IsOutcomeOfOne, BirthOutcome, Filled, Refused, fail_of_tie}
 use Rattle.nl_birth.specs.Keeping.{Keeps}
 use Rattle.nl_birth.proofs.Counting.{all_filled, all_made}
 use Rattle.nl_birth.proofs.Keeping.{links_keep}
@@ -30,7 +30,7 @@ no_more w = record { layout = refl; turtles = refl; many = omega arith; given = 
 
 module _ (way : Way) (breed : BreedNumber) (caller target : ℕ) (w : World) (apart : (target == caller) ≡ false) where
   -- what becomes of it where these are wanted
-  abbrev linked_to : Serials → Outcome World
+  abbrev linked_to : Serials → BirthOutcome World
   linked_to ws =
       if is_listed (target ∷ []) caller || ((breed == 0) && not (is_none ws) && list_any (is_of_other_kind (has_direction way)) w.rest.links)
       then Refused w
@@ -103,14 +103,14 @@ to_itself way breed caller target w itself =
     else links_made (linkings way breed caller (target ∷ []) w) w (length (wanted way breed caller (target ∷ []) w))) itself
 
 -- it ends as this refusal says
-pub one_ends : {X : Type 0} (outcome : Outcome X) (now : X) (r : Result (Unit {0}) BirthFail) (fail : BirthFail) → IsErrAnd r (λ mine. mine ≡ fail) → IsOutcomeOfOne outcome (Err fail) now
+pub one_ends : {X : Type 0} (outcome : BirthOutcome X) (now : X) (r : Result (Unit {0}) BirthFail) (fail : BirthFail) → IsErrAnd r (λ mine. mine ≡ fail) → IsOutcomeOfOne outcome (Err fail) now
     → IsOutcomeOfOne outcome r now
 one_ends outcome now r fail e h =
     let p = err_from_is_err_and r e in
     subst (λ x. IsOutcomeOfOne outcome x now) (sym (p.1 ∙ ap Err p.2)) h
 
 -- where a store refuses it, the store is full, or memory was refused
-pub store_refuses : {X : Type 0} (outcome : Outcome X) (now : X) (fail : TieFail) → (fail ≡ tie.Full → outcome ≡ Filled now) → IsOutcomeOfOne outcome (Err (fail_of_tie fail)) now
+pub store_refuses : {X : Type 0} (outcome : BirthOutcome X) (now : X) (fail : TieFail) → (fail ≡ tie.Full → outcome ≡ Filled now) → IsOutcomeOfOne outcome (Err (fail_of_tie fail)) now
 store_refuses outcome now tie.Full h = h refl
 store_refuses outcome now tie.NoMemory h = tt
 

@@ -15,7 +15,7 @@ use Rattle.nl_agents.specs.declared.agents.Link.{Link}
 use Rattle.nl_agents_layout.proofs.Ascending.{has_filter}
 use Rattle.nl_birth.specs.declared.way.Way.{Way}
 use Rattle.nl_birth.specs.Links.{has_direction, first_end, second_end, is_joined, wanted, tied_to, tied_to_all, first_ties, link_room, is_none, is_of_other_kind, is_refused, linkings, linked}
-use Rattle.nl_birth.specs.Outcomes.{Outcome, Made, Filled, Refused, outcome_of}
+use Rattle.nl_birth.specs.Outcomes.{BirthOutcome, Made, Filled, Refused, outcome_of}
 use Rattle.nl_birth.specs.Laws.{HasMoreLinks}
 use Rattle.nl_birth.proofs.Tying.{IsMoreLinked, tied_more, no_link_room}
 
@@ -119,7 +119,7 @@ made_is : {X : Type 0} (after : ℕ → X) (room first count : ℕ) (made : Seri
 made_is after room first count made now e =
     cond_both (nat_le count room) (Made (range_with_len first count) (after count)) (Filled (after room)) (λ o. o ≡ Made made now → now ≡ after count) (λ _ q. cc) (λ _ q. cc) e
 
-not_refused : {X : Type 0} (refused : Bool) (w : X) (o : Outcome X) (made : Serials) (now : X) → cond refused (Refused w) o ≡ Made made now → (refused ≡ false) × (o ≡ Made made now)
+not_refused : {X : Type 0} (refused : Bool) (w : X) (o : BirthOutcome X) (made : Serials) (now : X) → cond refused (Refused w) o ≡ Made made now → (refused ≡ false) × (o ≡ Made made now)
 not_refused true w o made now e = cc
 not_refused false w o made now e = (refl, e)
 
@@ -139,7 +139,7 @@ made_twice way breed c targets made w now e =
     let none : wanted way breed c targets now ≡ [] = ap (wanted way breed c targets) after ∙ none_wanted way breed c targets w in
     let listed = (or_parts (is_listed targets c) ((breed == 0) && not (is_none ws) && list_any (is_of_other_kind (has_direction way)) w.rest.links) free.0).0 in
     let refused = no_fault (breed == 0) (is_listed targets c) (list_any (is_of_other_kind (has_direction way)) now.rest.links) (wanted way breed c targets now) listed none in
-    let finish : Serials → Outcome World = λ us. outcome_of (first_ties way breed c us now) (link_room now) now.rest.links_given (length us) in
+    let finish : Serials → BirthOutcome World = λ us. outcome_of (first_ties way breed c us now) (link_room now) now.rest.links_given (length us) in
     cond-false (is_refused way breed c targets now) (Refused now) (finish (wanted way breed c targets now)) refused
     ∙ ap finish none
     ∙ cond-true (nat_le 0 (link_room now)) (Made [] now) (Filled (first_ties way breed c [] now (link_room now))) (le-leb 0 (link_room now) (omega arith))

@@ -7,7 +7,7 @@ use Rattle.nl_agents_layout.specs.Nouns.{BreedNumber}
 use Rattle.nl_agents.specs.World.{World}
 use Rattle.nl_agents.specs.Changes.{turtle_of, born}
 use Rattle.nl_birth.specs.Looks.{drawn_looks, looks_in_order, born_with}
-use Rattle.nl_birth.specs.Outcomes.{Outcome, outcome_of}
+use Rattle.nl_birth.specs.Outcomes.{BirthOutcome, outcome_of}
 
 -- ---- how many
 
@@ -61,8 +61,8 @@ point_or_origin None = origin
 point_or_origin (Some at) = at
 
 -- where a turtle stands
-abbrev pub place_of : ℕ → World → Point
-place_of turtle w = point_or_origin (option_map (λ t. t.at) (turtle_of turtle w.rest))
+abbrev pub birthplace : ℕ → World → Point
+birthplace turtle w = point_or_origin (option_map (λ t. t.at) (turtle_of turtle w.rest))
 
 -- what so many births of one parent leave, all at one point
 unfoldable pub hatchings : BreedNumber → ℕ → Point → World → ℕ → World
@@ -72,7 +72,7 @@ hatchings breed parent at w (suc k) = born breed at (Some parent) (hatchings bre
 -- ---- the words
 
 -- Births of a number of turtles: all are born, or as many as there is room for.
-abbrev pub turtles_born : {X : Type 0} → (ℕ → X) → World → ℕ → Outcome X
+abbrev pub turtles_born : {X : Type 0} → (ℕ → X) → World → ℕ → BirthOutcome X
 turtles_born after w count = outcome_of after (turtle_room w) w.rest.turtles_given count
 
 -- what each number of created turtles leaves, in order or with looks that are drawn
@@ -81,7 +81,7 @@ creations false breed count s = drawn_births breed origin s
 creations true breed count s = ordered_scenes breed count s
 
 -- `create-turtles`, and `create-ordered-turtles`: at the point 0 0
-abbrev pub created : Bool → BreedNumber → ℤ → Scene → Outcome Scene
+abbrev pub created : Bool → BreedNumber → ℤ → Scene → BirthOutcome Scene
 created ordered breed number s = turtles_born (creations ordered breed (count_of number) s) s.world (count_of number)
 
 -- what each number of turtles that sprout on a patch leaves
@@ -89,10 +89,10 @@ abbrev pub sproutings : ℕ → BreedNumber → Scene → ℕ → Scene
 sproutings patch breed s = drawn_births breed (center_of s.world.rest.shape patch) s
 
 -- `sprout`: at the center of the patch
-abbrev pub sprouted : ℕ → BreedNumber → ℤ → Scene → Outcome Scene
+abbrev pub sprouted : ℕ → BreedNumber → ℤ → Scene → BirthOutcome Scene
 sprouted patch breed number s = turtles_born (sproutings patch breed s) s.world (count_of number)
 
 -- `hatch`: where the parent stands, with its variables
-abbrev pub hatched : ℕ → BreedNumber → ℤ → World → Outcome World
+abbrev pub hatched : ℕ → BreedNumber → ℤ → World → BirthOutcome World
 hatched parent breed number w =
-    turtles_born (hatchings breed parent (place_of parent w) w) w (count_of number)
+    turtles_born (hatchings breed parent (birthplace parent w) w) w (count_of number)

@@ -19,7 +19,7 @@ use Rattle.nl_birth.specs.declared.way.Way.{Way}
 use Rattle.nl_birth.specs.declared.way.Way.TheVariants.{With}
 use Rattle.nl_birth.specs.declared.looks.Looks.{Looks}
 use Rattle.nl_birth.specs.Looks.{drawn_looks, heading_in_order, looks_in_order}
-use Rattle.nl_birth.specs.Births.{Scene, turtle_room, drawn_births, ordered_births, origin, hatchings, place_of}
+use Rattle.nl_birth.specs.Births.{Scene, turtle_room, drawn_births, ordered_births, origin, hatchings, birthplace}
 use Rattle.nl_birth.specs.Links.{has_direction, first_end, second_end, tied_to_all, link_room, linked}
 use Rattle.nl_birth.specs.Outcomes.{Made}
 use Rattle.nl_birth.specs.Keeping.{Keeps}
@@ -61,7 +61,7 @@ IsLike parent child = record child { serial = parent.serial } ≡ parent
 abbrev pub HatchedAreAlike : Type 0
 HatchedAreAlike =
     (w : World) (parent : ℕ) (t : Turtle) (count : ℕ) → IsWorld w → turtle_of parent w.rest ≡ Some t →
-    HasMoreTurtles (IsLike t) w (hatchings t.breed parent (place_of parent w) w count) count
+    HasMoreTurtles (IsLike t) w (hatchings t.breed parent (birthplace parent w) w count) count
 
 -- the headings of turtles in order are from 0 on and below 360 degrees
 abbrev pub HeadingsAreBelowATurn : Type 0

@@ -7,7 +7,7 @@ use Rattle.nl_agents.specs.World.{World}
 use Rattle.nl_agents.specs.Changes.{joins, tied}
 use Rattle.nl_agents.specs.Members.{is_listed, is_unbreeded}
 use Rattle.nl_agents.specs.declared.agents.Link.{Link}
-use Rattle.nl_birth.specs.Outcomes.{Outcome, Refused, outcome_of}
+use Rattle.nl_birth.specs.Outcomes.{BirthOutcome, Refused, outcome_of}
 use Rattle.nl_birth.specs.declared.way.Way.{Way}
 use Rattle.nl_birth.specs.declared.way.Way.TheVariants.{With, To, From}
 
@@ -81,7 +81,7 @@ is_refused way breed caller targets w =
 -- ---- the words
 
 -- Links to a number of targets: all are made, or as many as there is room for.
-abbrev pub links_made : (ℕ → World) → World → ℕ → Outcome World
+abbrev pub links_made : (ℕ → World) → World → ℕ → BirthOutcome World
 links_made after w count = outcome_of after (link_room w) w.rest.links_given count
 
 -- what so many links leave, of those that are to be made
@@ -89,7 +89,7 @@ abbrev pub linkings : Way → BreedNumber → (caller : ℕ) → Serials → Wor
 linkings way breed caller targets w = first_ties way breed caller (wanted way breed caller targets w) w
 
 -- `create-link-with` and its kin: a link to each target in ascending order, where none of the breed joins it already
-abbrev pub linked : Way → BreedNumber → (caller : ℕ) → Serials → World → Outcome World
+abbrev pub linked : Way → BreedNumber → (caller : ℕ) → Serials → World → BirthOutcome World
 linked way breed caller targets w =
     if is_refused way breed caller targets w
     then Refused w

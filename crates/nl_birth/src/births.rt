@@ -9,7 +9,7 @@ ghost use Rattle.nl_grid.specs.Geometry.{IsPointOf, center_of, patches_of};
 ghost use Rattle.nl_agents_layout.specs.Layouts.{is_turtle_breed};
 ghost use Rattle.nl_agents.specs.Changes.{TurtleLives, AreTurtlesFull};
 ghost use Rattle.nl_birth.specs.Looks.{drawn_looks, born_with};
-ghost use Rattle.nl_birth.specs.Births.{Scene, count_of, turtle_room, drawn_births, ordered_births, hatchings, turtles_born, creations, created, sproutings, sprouted, hatched, place_of, origin};
+ghost use Rattle.nl_birth.specs.Births.{Scene, count_of, turtle_room, drawn_births, ordered_births, hatchings, turtles_born, creations, created, sproutings, sprouted, hatched, birthplace, origin};
 ghost use Rattle.nl_birth.specs.Outcomes.{IsOutcome};
 ghost use Rattle.nl_birth.specs.Keeping.{Keeps};
 
@@ -224,7 +224,7 @@ pub fn hatch<S: Store>(
     requires parent { TurtleLives parent (S.world store.old) }
     requires breed { IsTrue (is_turtle_breed (S.world store.old).rest.layout breed) }
     ensures outcome { let w = S.world store.old in
-        IsOutcome (hatched parent breed count w) (hatchings breed parent (place_of parent w) w)
+        IsOutcome (hatched parent breed count w) (hatchings breed parent (birthplace parent w) w)
         (min (count_of count) (turtle_room w)) result (S.world store.new) }
     ensures keeps { Keeps (S.world store.old) (S.world store.new) }
 {

@@ -13,7 +13,7 @@ use Rattle.nl_tree.specs.Term.{Term}
 use Rattle.nl_tree.specs.Tokens as plain
 use Rattle.nl_tree.specs.Tree.{Node}
 use Rattle.nl_tree.specs.Vocabulary.{terms}
-use Rattle.nl_decl.specs.Bodies.{LieFrom, place_of}
+use Rattle.nl_decl.specs.Bodies.{LieFrom, span_of}
 use Rattle.nl_decl.specs.Outcome.{Declares}
 use Rattle.nl_parse_grammar.specs.Texts.{lexeme_of, lexemes_of, plain_token, plain_tokens}
 use Rattle.nl_tree.specs.declared.faults.BodyKind.{BodyKind}
@@ -76,7 +76,7 @@ fault_behind text tokens table (q ∷ ps) (x ∷ trees) p rest kind place h faul
 
 -- the tokens of a body stand in the text, and its `end` behind them
 pub lies_within : (text : Bytes) (tokens : List Token) (at : ℕ) (ps : List Procedure) (i : ℕ) (p : Procedure)
-    → LieFrom (lexemes_of text tokens) at (map place_of ps) → slice_get ps i ≡ Some p → (p.first ≤ p.after) × (p.after < length tokens)
+    → LieFrom (lexemes_of text tokens) at (map span_of ps) → slice_get ps i ≡ Some p → (p.first ≤ p.after) × (p.after < length tokens)
 lies_within text tokens at [] zero p lie there = cc
 lies_within text tokens at [] (suc i) p lie there = cc
 lies_within text tokens at (q ∷ ps) zero p lie there =

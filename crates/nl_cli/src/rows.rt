@@ -75,12 +75,12 @@ fn setting_cells(alloc: Global, settings: &[Setting]) -> Result<Cells, NoMemory>
 }
 
 // Appends so many empty cells.
-fn add_empty<'a>(line: &mut Record<'a>, count: usize) -> Result<(), NoMemory>
+fn add_empty<'a>(alloc: Global, line: &mut Record<'a>, count: usize) -> Result<(), NoMemory>
     ensures { OnOk result (line.new ≡ line.old ++ replicate count []) }
 {
     let mut left = count;
     'cells: while left != 0 {
-        line.push(b"")?;
+        line.push(alloc, b"")?;
         left -= 1;
     }
     Ok(())
@@ -88,6 +88,7 @@ fn add_empty<'a>(line: &mut Record<'a>, count: usize) -> Result<(), NoMemory>
 
 // Appends the texts of the metrics, of which there are so many; each is empty where nothing was measured.
 fn add_metrics<'a>(
+    alloc: Global,
     line: &mut Record<'a>,
     metrics: usize,
     texts: &'a Option<Cells>,
@@ -95,8 +96,8 @@ fn add_metrics<'a>(
     ensures { OnOk result (line.new ≡ line.old ++ metric_texts metrics texts.now) }
 {
     match texts {
-        Some(texts) => line.extend(texts),
-        None => add_empty(line, metrics),
+        Some(texts) => line.extend(alloc, texts),
+        None => add_empty(alloc, line, metrics),
     }
 }
 
@@ -114,11 +115,11 @@ fn row_line(alloc: Global, head: &Head, row: &Row) -> Result<Str, NoMemory>
 {
     let step = decimal_text(alloc, row.step)?;
     let mut record = Record::empty(alloc);
-    record.push(head.number.as_bytes())?;
-    record.extend(&head.settings)?;
-    record.push(step.as_bytes())?;
-    add_metrics(&mut record, head.metrics, &row.cells)?;
-    record.push(row.end.as_bytes())?;
+    record.push(alloc, head.number.as_bytes())?;
+    record.extend(alloc, &head.settings)?;
+    record.push(alloc, step.as_bytes())?;
+    add_metrics(alloc, &mut record, head.metrics, &row.cells)?;
+    record.push(alloc, row.end.as_bytes())?;
     record.text(alloc)
 }
 

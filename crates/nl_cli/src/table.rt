@@ -49,11 +49,11 @@ pub fn columns_line(alloc: Global, variables: &Names, metrics: &Names) -> Result
     ensures { IfOk result (λ line. line ≡ line_text (columns variables.now metrics.now)) }
 {
     let mut record = Record::empty(alloc);
-    record.push(b"[run number]")?;
-    record.extend(variables)?;
-    record.push(b"[step]")?;
-    record.extend(metrics)?;
-    record.push(b"[end]")?;
+    record.push(alloc, b"[run number]")?;
+    record.extend(alloc, variables)?;
+    record.push(alloc, b"[step]")?;
+    record.extend(alloc, metrics)?;
+    record.push(alloc, b"[end]")?;
     record.text(alloc)
 }
 

@@ -8,7 +8,7 @@ use Rattle.nl_tree.specs.Tokens.{Lexeme, Word}
 use Rattle.nl_decl_outline.specs.Declarations.{AreDeclarations, listed_or_none, word_of_procedure, is_end, begins_open, is_body, Spells, SpellAll}
 use Rattle.nl_decl_outline.specs.Lengths.{inputs_length, length_of}
 use Rattle.nl_decl.specs.Gathered.{procedure_at, procedures_from}
-use Rattle.nl_decl.specs.Bodies.{place_of, places_from, LieFrom}
+use Rattle.nl_decl.specs.Bodies.{span_of, places_from, LieFrom}
 use Rattle.nl_decl.specs.Laws.{BodiesLieInOrder}
 use Rattle.nl_decl_outline.proofs.Lengths.{inputs_long, size}
 use Rattle.nl_decl_outline.proofs.Taken.{and_left, and_right}
@@ -97,12 +97,12 @@ in_order : (ls : List Lexeme) (ds : List Declaration) → AreDeclarations ls ds 
 in_order ls ds h = lies ds [] [] ls 0 0 h refl (omega arith)
 
 -- where the bodies of the procedures lie that are declared
-procedure_places : (at : ℕ) (ds : List Declaration) → map place_of (procedures_from at ds) ≡ places_from at ds
+procedure_places : (at : ℕ) (ds : List Declaration) → map span_of (procedures_from at ds) ≡ places_from at ds
 procedure_places at [] = refl
 procedure_places at (Globals names ∷ ds) = procedure_places (at + length_of (Globals names)) ds
 procedure_places at (Own o names ∷ ds) = procedure_places (at + length_of (Own o names)) ds
 procedure_places at (Breed s plural singular ∷ ds) = procedure_places (at + length_of (Breed s plural singular)) ds
-procedure_places at (Procedure reporter name inputs tokens ∷ ds) = ap (λ ps. place_of (procedure_at at reporter name inputs tokens) ∷ ps) (procedure_places (at + length_of (Procedure reporter name inputs tokens)) ds)
+procedure_places at (Procedure reporter name inputs tokens ∷ ds) = ap (λ ps. span_of (procedure_at at reporter name inputs tokens) ∷ ps) (procedure_places (at + length_of (Procedure reporter name inputs tokens)) ds)
 
 pub procedures_in_order : BodiesLieInOrder
 procedures_in_order ls ds are = subst (λ ps. LieFrom ls 0 ps) (sym (procedure_places 0 ds)) (in_order ls ds are)

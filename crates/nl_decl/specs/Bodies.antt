@@ -12,8 +12,8 @@ pub record Place : Type 0 where
   pub first : ℕ
   pub after : ℕ
 
-abbrev pub place_of : tree.Procedure → Place
-place_of p = record { first = p.first; after = p.after }
+abbrev pub span_of : tree.Procedure → Place
+span_of p = record { first = p.first; after = p.after }
 
 -- where the body of a declaration lies that begins at a token
 abbrev pub place_in : ℕ → Declaration → List Place
@@ -37,4 +37,4 @@ LieFrom ls at (p ∷ ps) =
     × LieFrom ls (p.after + 1) ps
 
 abbrev pub BodiesLieIn : List Lexeme → Declared → Type 0
-BodiesLieIn ls d = LieFrom ls 0 (map place_of d.procedures)
+BodiesLieIn ls d = LieFrom ls 0 (map span_of d.procedures)

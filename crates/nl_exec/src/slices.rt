@@ -262,7 +262,7 @@ impl<'a, S: Store> Machine<'a, S> {
             return Err(NoMemory);
         };
         self.phase = Phase::Failed;
-        let root = self.code.open(text)?;
+        let root = self.code.open(alloc, text)?;
         self.hands.locals = Locals::empty(alloc);
         self.hands.site = lone_site();
         self.levels.clear();

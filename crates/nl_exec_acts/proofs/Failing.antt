@@ -1,10 +1,10 @@
 -- What a refusal of a call comes to: the error of the text, or want of memory.
 use Rattle.std.specs.Prelude.{◌≡◌, ◌≢◌, Err}
 use Rattle.std.proofs.Common.{ap, sym, subst}
-use Rattle.nl_listops_series.specs.Outcomes.{Outcome as Listed}
+use Rattle.nl_listops_series.specs.Outcomes.{ListOutcome as Listed}
 use Rattle.nl_listops_series.specs.declared.fail.ListFail.{ListFail}
 use Rattle.nl_listops_series.specs.declared.fail.ListFail.TheVariants as list
-use Rattle.nl_agentset_query.specs.Outcomes.{Outcome as Queried}
+use Rattle.nl_agentset_query.specs.Outcomes.{QueryOutcome as Queried}
 use Rattle.nl_agentset_query.specs.declared.fail.QueryFail.{QueryFail}
 use Rattle.nl_agentset_query.specs.declared.fail.QueryFail.TheVariants as query
 use Rattle.nl_exec_acts.specs.declared.fail.ActFail.{ActFail}

@@ -39,7 +39,7 @@ use Rattle.nl_agents.specs.declared.agents.Owner.{Owner}
 use Rattle.nl_agents.specs.declared.agents.Owner.TheVariants as owner
 use Rattle.nl_agentset_query.specs.Agents.{place_of}
 use Rattle.nl_agentset_query.specs.Inputs.{value_at, number_at, set_at, point_at}
-use Rattle.nl_agentset_query.specs.Outcomes.{Outcome as Queried}
+use Rattle.nl_agentset_query.specs.Outcomes.{QueryOutcome as Queried}
 use Rattle.nl_agentset_query.specs.Agents.{heading_in}
 use Rattle.nl_agentset_query.specs.Agents.{agent_value}
 use Rattle.nl_motion.specs.Motion.{step_end, moved_to}
@@ -63,21 +63,21 @@ use Rattle.nl_exec_acts.specs.declared.words.Bound.{Bound}
 use Rattle.nl_exec_acts.specs.declared.words.Bound.TheVariants as bound
 use Rattle.nl_exec_acts.specs.declared.words.OfRun.{OfRun}
 use Rattle.nl_exec_acts.specs.declared.words.OfRun.TheVariants as of_run
-use Rattle.nl_exec_acts.specs.Stage.{Stage, bare, changed, changed_rest, Outcome, and_then, outcome_map}
+use Rattle.nl_exec_acts.specs.Stage.{Stage, bare, changed, changed_rest, ActOutcome, and_then, outcome_map}
 use Rattle.nl_exec_acts.specs.Fails.{error_of_number, error_of_list, error_of_query, told_as}
 
 -- ---- what an act comes to
 
 -- an answer that leaves the stage as it was
-abbrev pub answers : Plain → Stage → Outcome (Plain × Stage)
+abbrev pub answers : Plain → Stage → ActOutcome (Plain × Stage)
 answers value st = Ok (value, st)
 
 -- a command gives nobody, which nobody sees, beside the stage after it
-abbrev pub does : Stage → Outcome (Plain × Stage)
+abbrev pub does : Stage → ActOutcome (Plain × Stage)
 does st = Ok (PlainNobody, st)
 
 -- a command that changes nothing but the rest of the world
-abbrev pub on_stage : Stage → Outcome Rest → Outcome (Plain × Stage)
+abbrev pub on_stage : Stage → ActOutcome Rest → ActOutcome (Plain × Stage)
 on_stage st outcome = and_then outcome (λ r. does (record st { rest = r }))
 
 -- an answer beside the state of the stream after it
@@ -85,10 +85,10 @@ abbrev pub with_stream : Stage → Plain × ℕ → Plain × Stage
 with_stream st answer = (answer.0, record st { stream = answer.1 })
 
 -- the number, or the point of a turtle or patch, that is the input at a place
-abbrev pub number_of_input : List Plain → ℕ → Outcome ℤ
+abbrev pub number_of_input : List Plain → ℕ → ActOutcome ℤ
 number_of_input inputs at = told_as error_of_query (number_at inputs at)
 
-abbrev pub point_of_input : Rest → List Plain → ℕ → Outcome Point
+abbrev pub point_of_input : Rest → List Plain → ℕ → ActOutcome Point
 point_of_input r inputs at = told_as error_of_query (point_at r inputs at)
 
 -- ---- words of values
@@ -134,11 +134,11 @@ of_set r (Some set_words.Member) inputs = member_by r (value_at inputs 0) (set_a
 of_set r None inputs = None
 
 -- the answer beside the state of the stream after it
-abbrev pub valued_or : Rest → ValueWord → List Plain → ℕ → Option Plain → Outcome (Plain × ℕ)
+abbrev pub valued_or : Rest → ValueWord → List Plain → ℕ → Option Plain → ActOutcome (Plain × ℕ)
 valued_or r which inputs state (Some answer) = Ok (answer, state)
 valued_or r which inputs state None = told_as error_of_list (word_answer (living_of r) which inputs state)
 
-abbrev pub valued : Rest → ValueWord → List Plain → ℕ → Outcome (Plain × ℕ)
+abbrev pub valued : Rest → ValueWord → List Plain → ℕ → ActOutcome (Plain × ℕ)
 valued r which inputs state = valued_or r which inputs state (of_set r (set_word which) inputs)
 
 -- ---- who runs, and who asked
@@ -150,14 +150,14 @@ is_gone r (owner.Turtle turtle) = if turtle_lives r turtle then false else true
 is_gone r (owner.Patch patch) = false
 is_gone r (owner.Link link) = if link_lives r link then false else true
 
-abbrev pub agent_or_none : Owner → Outcome Plain
+abbrev pub agent_or_none : Owner → ActOutcome Plain
 agent_or_none owner.Observer = Err NoAgent
 agent_or_none (owner.Turtle turtle) = Ok (PlainTurtle turtle)
 agent_or_none (owner.Patch patch) = Ok (PlainPatch patch)
 agent_or_none (owner.Link link) = Ok (PlainLink link)
 
 -- the end of a link that isn't the turtle, where the turtle is an end
-abbrev pub end_beside : ℕ → Option the_link.Link → Outcome Plain
+abbrev pub end_beside : ℕ → Option the_link.Link → ActOutcome Plain
 end_beside turtle None = Err NoAgent
 end_beside turtle (Some l) =
     if l.end1 == turtle then Ok (PlainTurtle l.end2)
@@ -165,12 +165,12 @@ end_beside turtle (Some l) =
     else Err NoAgent)
 
 -- a turtle that is asked by its link, or a link that is asked by its end, has another end there
-abbrev pub other_end : Rest → Owner → Owner → Outcome Plain
+abbrev pub other_end : Rest → Owner → Owner → ActOutcome Plain
 other_end r (owner.Turtle turtle) (owner.Link link) = end_beside turtle (link_of link r)
 other_end r (owner.Link link) (owner.Turtle turtle) = end_beside turtle (link_of link r)
 other_end r agent asker = Err NoAgent
 
-abbrev pub whom : Rest → Owner → Owner → Whom → Outcome Plain
+abbrev pub whom : Rest → Owner → Owner → Whom → ActOutcome Plain
 whom r agent asker Caller = agent_or_none agent
 whom r agent asker Asker = agent_or_none asker
 whom r agent asker OtherEnd = other_end r agent asker
@@ -189,49 +189,49 @@ is_link r directed value = false
 -- ---- motion
 
 -- a word of turtles is run by none but them
-abbrev pub turtle_in : Owner → Outcome ℕ
+abbrev pub turtle_in : Owner → ActOutcome ℕ
 turtle_in (owner.Turtle turtle) = Ok turtle
 turtle_in agent = Err WrongContext
 
 -- one that lives
-abbrev pub living_turtle : Rest → Owner → Outcome ℕ
+abbrev pub living_turtle : Rest → Owner → ActOutcome ℕ
 living_turtle r agent =
     and_then (turtle_in agent) (λ turtle. if turtle_lives r turtle then Ok turtle else Err WrongContext)
 
 -- a step that the world forbids isn't made, and isn't refused
-abbrev pub stepped_by : ℕ → Rest → Result (Option Point) NumFault → Outcome Rest
+abbrev pub stepped_by : ℕ → Rest → Result (Option Point) NumFault → ActOutcome Rest
 stepped_by turtle r (Ok to) = Ok (changed_rest (moved_to turtle to) r)
 stepped_by turtle r (Err fault) = Err Overflow
 
-abbrev pub jumped : ℕ → Rest → ℤ → Outcome Rest
+abbrev pub jumped : ℕ → Rest → ℤ → ActOutcome Rest
 jumped turtle r by = stepped_by turtle r (step_end turtle by (bare r))
 
 -- the point of these coordinates, moved inside where the world wraps
-abbrev pub inside_or_out : Option Point → Outcome Point
+abbrev pub inside_or_out : Option Point → ActOutcome Point
 inside_or_out None = Err OutOfWorld
 inside_or_out (Some at) = Ok at
 
-abbrev pub point_inside : Rest → ℤ → ℤ → Outcome Point
+abbrev pub point_inside : Rest → ℤ → ℤ → ActOutcome Point
 point_inside r x y = inside_or_out (wrapped_point r.shape x y)
 
-abbrev pub gone_to : ℕ → Rest → Point → Outcome Rest
+abbrev pub gone_to : ℕ → Rest → Point → ActOutcome Rest
 gone_to turtle r at = Ok (changed_rest (moved turtle at) r)
 
 -- it looks at the point; at its own point its heading stays
-abbrev pub faced : ℕ → Rest → Point → Outcome Rest
+abbrev pub faced : ℕ → Rest → Point → ActOutcome Rest
 faced turtle r at = Ok (changed_rest (headed turtle (heading_between r.shape (place_of r (owner.Turtle turtle)) at)) r)
 
 -- the heading becomes the angle, less whole turns
-abbrev pub turned_to : ℕ → Rest → ℤ → Outcome Rest
+abbrev pub turned_to : ℕ → Rest → ℤ → ActOutcome Rest
 turned_to turtle r angle = Ok (changed_rest (headed turtle (Some (int_rem_euclid angle (degrees (pos 360))))) r)
 
-abbrev pub turned : ℕ → Rest → Result ℤ NumFault → Outcome Rest
+abbrev pub turned : ℕ → Rest → Result ℤ NumFault → ActOutcome Rest
 turned turtle r angle = and_then (told_as error_of_number angle) (turned_to turtle r)
 
-abbrev pub two_numbers : {X : Type 0} → List Plain → (ℤ → ℤ → Outcome X) → Outcome X
+abbrev pub two_numbers : {X : Type 0} → List Plain → (ℤ → ℤ → ActOutcome X) → ActOutcome X
 two_numbers inputs next = and_then (number_of_input inputs 0) (λ x. and_then (number_of_input inputs 1) (next x))
 
-abbrev pub moves : Move → ℕ → List Plain → Rest → Outcome Rest
+abbrev pub moves : Move → ℕ → List Plain → Rest → ActOutcome Rest
 moves move.Jump turtle inputs r = and_then (number_of_input inputs 0) (jumped turtle r)
 moves move.SetXy turtle inputs r = two_numbers inputs (λ x y. and_then (point_inside r x y) (gone_to turtle r))
 moves move.Home turtle inputs r = and_then (point_inside r (pos 0) (pos 0)) (gone_to turtle r)
@@ -241,7 +241,7 @@ moves move.FaceXy turtle inputs r = two_numbers inputs (λ x y. and_then (point_
 moves move.Right turtle inputs r = and_then (number_of_input inputs 0) (λ n. turned turtle r (sum_of (heading_in r (owner.Turtle turtle)) n))
 moves move.Left turtle inputs r = and_then (number_of_input inputs 0) (λ n. turned turtle r (difference_of (heading_in r (owner.Turtle turtle)) n))
 
-abbrev pub moved_by : Move → Owner → List Plain → Rest → Outcome Rest
+abbrev pub moved_by : Move → Owner → List Plain → Rest → ActOutcome Rest
 moved_by which agent inputs r = and_then (living_turtle r agent) (λ turtle. moves which turtle inputs r)
 
 -- ---- how agents are drawn
@@ -279,29 +279,29 @@ look_value PenErase = PlainWords (codes "erase")
 abbrev pub look_of : Look → Owner → World → World
 look_of which agent w = slot_set (slot_of_code (look_code which)) (look_value which) agent w
 
-abbrev pub looks : Look → Owner → Rest → Outcome Rest
+abbrev pub looks : Look → Owner → Rest → ActOutcome Rest
 looks which agent r = if is_drawn r agent then Ok (changed_rest (look_of which agent) r) else Err WrongContext
 
 -- ---- the clock: the answer, and the ticks after it
 
-abbrev pub ticks_or_off : Option ℤ → Outcome ℤ
+abbrev pub ticks_or_off : Option ℤ → ActOutcome ℤ
 ticks_or_off None = Err TicksOff
 ticks_or_off (Some count) = Ok count
 
-abbrev pub set_to : Option ℤ → Outcome (Plain × Option ℤ)
+abbrev pub set_to : Option ℤ → ActOutcome (Plain × Option ℤ)
 set_to now = Ok (PlainNobody, now)
 
-abbrev pub advanced : ℤ → ℤ → Outcome (Plain × Option ℤ)
+abbrev pub advanced : ℤ → ℤ → ActOutcome (Plain × Option ℤ)
 advanced by now = and_then (told_as error_of_number (sum_of now by)) (λ then_is. set_to (Some then_is))
 
 -- no time runs back; that the clock is off is told first
-abbrev pub forward_or_not : ℤ → Outcome ℤ
+abbrev pub forward_or_not : ℤ → ActOutcome ℤ
 forward_or_not by = if int_lt by (pos 0) then Err Domain else Ok by
 
-abbrev pub advanced_by : ℤ → Option ℤ → Outcome (Plain × Option ℤ)
+abbrev pub advanced_by : ℤ → Option ℤ → ActOutcome (Plain × Option ℤ)
 advanced_by by ticks = and_then (ticks_or_off ticks) (λ now. and_then (forward_or_not by) (λ n. advanced n now))
 
-abbrev pub clocked : Clock → List Plain → Option ℤ → Outcome (Plain × Option ℤ)
+abbrev pub clocked : Clock → List Plain → Option ℤ → ActOutcome (Plain × Option ℤ)
 clocked clock.Reset inputs ticks = set_to (Some (pos 0))
 clocked clock.Clear inputs ticks = set_to None
 clocked clock.Advance inputs ticks = and_then (ticks_or_off ticks) (advanced (pos one))
@@ -323,7 +323,7 @@ cleared clear.Patches = patches_cleared
 abbrev pub seed_of : ℤ → ℕ
 seed_of number = unsigned_abs (int_rem_euclid (whole_part number) (pos (2 ^ 64)))
 
-abbrev pub seeded : ℤ → Stage → Outcome (Plain × Stage)
+abbrev pub seeded : ℤ → Stage → ActOutcome (Plain × Stage)
 seeded number st = does (record st { stream = first_state (seed_of number) })
 
 -- ---- random coordinates: of a patch, or of a point, which lies from where the axis begins to below its end
@@ -360,41 +360,41 @@ abbrev pub place_of_run : OfRun → ℕ
 place_of_run of_run.Number = 0
 place_of_run of_run.Experiment = 1
 
-abbrev pub told_or_wrong : Option Plain → Outcome Plain
+abbrev pub told_or_wrong : Option Plain → ActOutcome Plain
 told_or_wrong None = Err WrongType
 told_or_wrong (Some value) = Ok value
 
 -- ---- each kind of act, on the stage
 
-abbrev pub value_told : ValueWord → List Plain → Stage → Outcome (Plain × Stage)
+abbrev pub value_told : ValueWord → List Plain → Stage → ActOutcome (Plain × Stage)
 value_told which inputs st = outcome_map (with_stream st) (valued st.rest which inputs st.stream)
 
-abbrev pub whom_told : Whom → Owner → Owner → Stage → Outcome (Plain × Stage)
+abbrev pub whom_told : Whom → Owner → Owner → Stage → ActOutcome (Plain × Stage)
 whom_told which agent asker st = and_then (whom st.rest agent asker which) (λ value. answers value st)
 
-abbrev pub is_link_told : Bool → List Plain → Stage → Outcome (Plain × Stage)
+abbrev pub is_link_told : Bool → List Plain → Stage → ActOutcome (Plain × Stage)
 is_link_told directed inputs st = and_then (told_or_wrong (slice_get inputs 0)) (λ value. answers (PlainTruth (is_link st.rest directed value)) st)
 
-abbrev pub move_told : Move → Owner → List Plain → Stage → Outcome (Plain × Stage)
+abbrev pub move_told : Move → Owner → List Plain → Stage → ActOutcome (Plain × Stage)
 move_told which agent inputs st = on_stage st (moved_by which agent inputs st.rest)
 
-abbrev pub look_told : Look → Owner → Stage → Outcome (Plain × Stage)
+abbrev pub look_told : Look → Owner → Stage → ActOutcome (Plain × Stage)
 look_told which agent st = on_stage st (looks which agent st.rest)
 
-abbrev pub clock_told : Clock → List Plain → Stage → Outcome (Plain × Stage)
+abbrev pub clock_told : Clock → List Plain → Stage → ActOutcome (Plain × Stage)
 clock_told which inputs st = outcome_map (at_ticks st) (clocked which inputs st.ticks)
 
-abbrev pub clear_told : Clear → Stage → Outcome (Plain × Stage)
+abbrev pub clear_told : Clear → Stage → ActOutcome (Plain × Stage)
 clear_told which st = does (changed (cleared which) st)
 
-abbrev pub seed_told : List Plain → Stage → Outcome (Plain × Stage)
+abbrev pub seed_told : List Plain → Stage → ActOutcome (Plain × Stage)
 seed_told inputs st = and_then (number_of_input inputs 0) (λ n. seeded n st)
 
-abbrev pub spot_told : Spot → Stage → Outcome (Plain × Stage)
+abbrev pub spot_told : Spot → Stage → ActOutcome (Plain × Stage)
 spot_told which st = Ok (with_stream st (drawn_spot which (axis_of which st.rest.shape) st.stream))
 
-abbrev pub bound_told : Bound → Stage → Outcome (Plain × Stage)
+abbrev pub bound_told : Bound → Stage → ActOutcome (Plain × Stage)
 bound_told which st = answers (PlainNumber (bound_of which st.rest.shape *ℤ pos one)) st
 
-abbrev pub run_told : OfRun → Stage → Outcome (Plain × Stage)
+abbrev pub run_told : OfRun → Stage → ActOutcome (Plain × Stage)
 run_told which st = and_then (told_or_wrong (slice_get st.rest.run (place_of_run which))) (λ value. answers value st)

@@ -16,7 +16,7 @@ use Rattle.nl_exec_acts.specs.declared.fail.ActFail.{ActFail}
 use Rattle.nl_exec_acts.specs.declared.fail.ActFail.TheVariants as fail
 use Rattle.nl_exec_acts.specs.declared.fail.ErrorKind.{ErrorKind}
 use Rattle.nl_exec_acts.specs.declared.fail.ErrorKind.TheVariants as error
-use Rattle.nl_exec_acts.specs.Stage.{Outcome, outcome_map, Gives}
+use Rattle.nl_exec_acts.specs.Stage.{ActOutcome, outcome_map, Gives}
 
 abbrev pub error_of_number : NumFault → ErrorKind
 error_of_number number.Overflow = error.Overflow
@@ -51,7 +51,7 @@ error_of_motion motion.Domain = error.Domain
 error_of_motion motion.NoMemory = error.TooLarge
 
 -- what a call gives, with its refusal as an error
-abbrev pub told_as : {X F : Type 0} → (F → ErrorKind) → Result X F → Outcome X
+abbrev pub told_as : {X F : Type 0} → (F → ErrorKind) → Result X F → ActOutcome X
 told_as error_of (Ok x) = Ok x
 told_as error_of (Err why) = Err (error_of why)
 
@@ -66,9 +66,9 @@ fail_of_query query.NoMemory = fail.NoMemory
 fail_of_query why = fail.Error (error_of_query why)
 
 -- what a call gives, and the state that it leaves the stream in, are the outcome, unless it wants memory
-abbrev pub Answers : Result Value ActFail → ℕ → Outcome (Plain × ℕ) → Type 0
+abbrev pub Answers : Result Value ActFail → ℕ → ActOutcome (Plain × ℕ) → Type 0
 Answers result state outcome = Gives (λ value. (plain value, state)) result outcome
 
 -- the same of the ticks, where no memory is wanted
-abbrev pub AnswersAt : Outcome Value → Option ℤ → Outcome (Plain × Option ℤ) → Type 0
+abbrev pub AnswersAt : ActOutcome Value → Option ℤ → ActOutcome (Plain × Option ℤ) → Type 0
 AnswersAt result ticks outcome = outcome_map (λ value. (plain value, ticks)) result ≡ outcome

@@ -53,9 +53,9 @@ impl Look {
         match self {
             Look::Hide => Ok(Value::Truth(true)),
             Look::Show => Ok(Value::Truth(false)),
-            Look::PenUp => Ok(Value::Words(Str::of(alloc, b"up")?)),
-            Look::PenDown => Ok(Value::Words(Str::of(alloc, b"down")?)),
-            Look::PenErase => Ok(Value::Words(Str::of(alloc, b"erase")?)),
+            Look::PenUp => Ok(Value::words(alloc, Str::of(alloc, b"up")?)?),
+            Look::PenDown => Ok(Value::words(alloc, Str::of(alloc, b"down")?)?),
+            Look::PenErase => Ok(Value::words(alloc, Str::of(alloc, b"erase")?)?),
         }
     }
 

@@ -174,7 +174,10 @@ fn of_set<S: Store, L: Ledger>(
 {
     match word {
         Some(SetWord::Sort) => match set_at(inputs, 0, view.store) {
-            Ok(set) => Ok(Some(Value::Items(members_in_order(alloc, set, view, steps)?))),
+            Ok(set) => {
+                let members = members_in_order(alloc, set, view, steps)?;
+                Ok(Some(Value::items(alloc, members)?))
+            }
             Err(_) => Ok(None),
         },
         Some(SetWord::Member) => match (value_at(inputs, 0), set_at(inputs, 1, view.store)) {

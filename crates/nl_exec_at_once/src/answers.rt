@@ -21,17 +21,18 @@ use nl_exec_short::values::{ShortValue, short_value};
 use nl_exec_walks::living::{first_living, member_at, owner_of};
 use nl_exec_walks::replies::{Reply, reply_to};
 use nl_value::Value;
+use std::alloc::Global;
 
 // An answer is kept or passed over. False where it decides all, or is of the wrong kind, or memory is lacking: then nothing is changed.
 #[inline(always)]
-fn told(made: &mut BoxedAnswers, word: Over, member: u64, short: &ShortValue) -> bool
+fn told(alloc: Global, made: &mut BoxedAnswers, word: Over, member: u64, short: &ShortValue) -> bool
     ensures told { result ≡ true → let v = short_plain short.now in
         Some made.new ≡ told_by (reply_to word v) member v made.old }
     ensures not { result ≡ false → made.new ≡ made.old }
 {
     let value = short.value();
     match reply_to(word, &value) {
-        Reply::Keep => match made.push(Answered { member, value }) {
+        Reply::Keep => match made.push(alloc, Answered { member, value }) {
             Ok(()) => true,
             Err(_) => false,
         },
@@ -43,6 +44,7 @@ fn told(made: &mut BoxedAnswers, word: Over, member: u64, short: &ShortValue) ->
 // The answer is kept or passed over, and the next member runs, for a unit, if there are both; else all is as it was.
 #[inline(always)]
 fn next_answer<S: Store>(
+    alloc: Global,
     code: &Code,
     hands: &mut Hands<S>,
     node: u32,
@@ -91,7 +93,7 @@ fn next_answer<S: Store>(
         asker: all.site.agent,
         body: all.site.body,
     };
-    if !told(made, word, *member, short) {
+    if !told(alloc, made, word, *member, short) {
         return false;
     }
     turns.go_to(at + 1);
@@ -104,6 +106,7 @@ fn next_answer<S: Store>(
 /// Members answer, of which the first one has its unit, so far as that is done at once: where a value is given, it is that of the member at
 /// which they stand, and else this one's block is still to be evaluated.
 pub fn do_answers<S: Store>(
+    alloc: Global,
     code: &Code,
     hands: &mut Hands<S>,
     node: u32,
@@ -138,7 +141,7 @@ pub fn do_answers<S: Store>(
             return None;
         };
         if !next_answer(
-            code, hands, node, index, block, word, &short, member, turns, made, units,
+            alloc, code, hands, node, index, block, word, &short, member, turns, made, units,
         ) {
             return Some(short.value());
         }

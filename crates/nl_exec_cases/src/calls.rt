@@ -43,7 +43,7 @@ fn bind(alloc: Global, code: &Code, procedure: u32, made: &Items) -> Result<Loca
             return Ok(locals);
         };
         let value = value.copy(alloc)?;
-        locals.push(Local { id, value })?;
+        locals.push(alloc, Local { id, value })?;
     }
     Ok(locals)
 }

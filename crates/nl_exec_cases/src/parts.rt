@@ -47,7 +47,7 @@ fn finish<S: Store>(
     ensures stands { IfOk result (λ next. Stands hands.new hands.old) }
 {
     match code.op(node) {
-        Op::Items => Ok(Next::Answer(Exit::Gives(Value::Items(made)))),
+        Op::Items => Ok(Next::Answer(Exit::Gives(Value::items(alloc, made)?))),
         Op::Procedure(index) => call(alloc, code, hands, node, index, made),
         Op::Word {
             runs,

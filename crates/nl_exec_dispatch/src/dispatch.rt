@@ -42,8 +42,9 @@ use nl_exec_cases::moving::{
 use nl_exec_cases::parts::{enter_parts, resume_part};
 use nl_exec_meaning::ends::{barred, fault};
 use nl_exec_meaning::{Built, Code, Control, Exit, Frame, Hands, Next, Op, Over, Spread};
+use nl_exec_variables::apart::read_apart;
 use nl_exec_variables::setting::{enter_let, enter_set, resume_let, resume_set};
-use nl_exec_variables::variables::{read_apart, read_global, read_local, read_owned};
+use nl_exec_variables::variables::{read_global, read_local, read_owned};
 use nl_exec_walks::answering::resume_answer;
 use nl_exec_walks::making::{enter_making, resume_making};
 use nl_exec_walks::{sets, walking};
@@ -219,7 +220,7 @@ fn read_words<S: Store>(
     ensures fits { IfOk result (ExitFits (ground hands.now)) }
 {
     match code.text(node) {
-        Some(text) => Ok(Exit::Gives(Value::Words(text.copy(alloc)?))),
+        Some(text) => Ok(Exit::Gives(Value::words(alloc, text.copy(alloc)?)?)),
         None => Ok(fault(ErrorKind::WrongType, code.span(node), hands.site)),
     }
 }
@@ -254,7 +255,7 @@ pub fn enter<S: Store>(
             Ok(Next::Answer(read_owned(alloc, code, hands, runs, slot, place)?))
         }
         Op::Aside { runs, which } => {
-            Ok(Next::Answer(read_apart(code, hands, runs, which, place)))
+            Ok(Next::Answer(read_apart(alloc, code, hands, runs, which, place)?))
         }
         Op::Word { runs, breed, word } => enter_word(alloc, code, hands, node, runs, breed, word),
         Op::Nothing => Ok(Next::Answer(fault(ErrorKind::WrongType, place, hands.site))),
@@ -291,7 +292,7 @@ pub fn resume<S: Store>(
         Frame::TextStatement { node, at, stopped } => {
             Ok(resume_text_statement(code, hands, node, at, stopped, exit))
         }
-        Frame::LetValue { node, id } => resume_let(code, hands, node, id, exit),
+        Frame::LetValue { node, id } => resume_let(alloc, code, hands, node, id, exit),
         Frame::SetValue { node, variable } => Ok(resume_set(code, hands, node, variable, exit)),
         Frame::ReportValue { node } => Ok(resume_report(code, hands, node, exit)),
         Frame::AndLeft { node } => Ok(resume_and(code, hands, node, exit)),

@@ -353,6 +353,7 @@ fn hurry_repeat<S: Store>(
 // Members answer at once.
 #[inline(always)]
 fn hurry_answering<S: Store>(
+    alloc: Global,
     code: &Code,
     hands: &mut Hands<S>,
     limit: usize,
@@ -395,6 +396,7 @@ fn hurry_answering<S: Store>(
     let mut turns = turns;
     let mut made = made;
     let value = do_answers(
+        alloc,
         code,
         hands,
         whose,
@@ -473,8 +475,8 @@ fn hurry_under<S: Store>(
             gathered,
         } => {
             hurry_answering(
-                code, hands, limit, levels, top, whose, index, word, member, turns, made, gathered,
-                node, units,
+                alloc, code, hands, limit, levels, top, whose, index, word, member, turns, made,
+                gathered, node, units,
             )
         }
         Frame::RepeatTurn { node: word, left } => {

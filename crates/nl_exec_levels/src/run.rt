@@ -41,6 +41,7 @@ fn lists_nothing(value: &Value) -> bool
     match value {
         Value::Number(_)
         | Value::Truth(_)
+        | Value::Blank
         | Value::Turtle(_)
         | Value::Patch(_)
         | Value::Link(_)

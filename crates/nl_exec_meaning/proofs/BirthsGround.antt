@@ -5,19 +5,19 @@ use Rattle.nl_grid.specs.Geometry.{center_of}
 use Rattle.nl_grid.specs.declared.point.Point.{Point}
 use Rattle.nl_agents_layout.specs.Nouns.{BreedNumber}
 use Rattle.nl_agents.specs.World.{Rest, World}
-use Rattle.nl_birth.specs.Births.{Scene, drawn_births, ordered_births, hatchings, count_of, place_of, creations, created, sproutings, sprouted, hatched}
+use Rattle.nl_birth.specs.Births.{Scene, drawn_births, ordered_births, hatchings, count_of, birthplace, creations, created, sproutings, sprouted, hatched}
 use Rattle.nl_birth.specs.Links.{wanted, tied_to, tied_to_all, is_refused, linkings, linked}
-use Rattle.nl_birth.specs.Outcomes.{Outcome, Made, Filled, Refused, outcome_of}
+use Rattle.nl_birth.specs.Outcomes.{BirthOutcome, Made, Filled, Refused, outcome_of}
 use Rattle.nl_birth.specs.declared.way.Way.{Way}
 use Rattle.nl_exec_meaning.proofs.Ground.{SameGround}
 
 -- what comes of births or links leaves the ground of the rest, whether all were made or not
-abbrev pub LeavesGround : {X : Type 0} → (X → Rest) → Rest → Outcome X → Type 0
+abbrev pub LeavesGround : {X : Type 0} → (X → Rest) → Rest → BirthOutcome X → Type 0
 LeavesGround rest_in r (Made made now) = SameGround (rest_in now) r
 LeavesGround rest_in r (Filled now) = SameGround (rest_in now) r
 LeavesGround rest_in r (Refused now) = SameGround (rest_in now) r
 
-if-leaves : {X : Type 0} (rest_in : X → Rest) (r : Rest) (truth : Bool) (a b : Outcome X) → LeavesGround rest_in r a → LeavesGround rest_in r b →
+if-leaves : {X : Type 0} (rest_in : X → Rest) (r : Rest) (truth : Bool) (a b : BirthOutcome X) → LeavesGround rest_in r a → LeavesGround rest_in r b →
     LeavesGround rest_in r (if truth then a else b)
 if-leaves rest_in r true a b first second = first
 if-leaves rest_in r false a b first second = second
@@ -64,8 +64,8 @@ sprouted_ground patch breed number s =
 pub hatched_ground : (parent : ℕ) (breed : BreedNumber) (number : ℤ) (w : World) →
     LeavesGround (λ now. now.rest) w.rest (hatched parent breed number w)
 hatched_ground parent breed number w =
-    outcome-leaves {X = World} (λ now. now.rest) w.rest (hatchings breed parent (place_of parent w) w) _ _ _
-    (hatchings_ground breed parent (place_of parent w) w)
+    outcome-leaves {X = World} (λ now. now.rest) w.rest (hatchings breed parent (birthplace parent w) w) _ _ _
+    (hatchings_ground breed parent (birthplace parent w) w)
 
 -- ---- links
 

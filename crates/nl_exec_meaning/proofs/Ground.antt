@@ -15,7 +15,7 @@ use Rattle.nl_agents.specs.declared.agents.Owner.TheVariants as owner
 use Rattle.nl_motion.specs.Motion.{moved_to}
 use Rattle.nl_motion.specs.Climbing.{headed, centered, faced, climbed_to, climbed}
 use Rattle.nl_motion.specs.Diffusion.{diffused}
-use Rattle.nl_exec_acts.specs.Stage.{Stage, Outcome, changed, bare, and_then, outcome_map}
+use Rattle.nl_exec_acts.specs.Stage.{Stage, ActOutcome, changed, bare, and_then, outcome_map}
 use Rattle.nl_exec_acts.specs.Acts as acts
 use Rattle.nl_exec_acts.specs.Acts.{answers, does, on_stage, with_stream, at_ticks, cleared, living_turtle, stepped_by, jumped, inside_or_out, point_inside, gone_to, turned_to, turned, two_numbers, moves, moved_by, is_drawn, slot_set, look_of, looks, value_told, whom_told, is_link_told, move_told, look_told, clock_told, clear_told, seed_told, seeded, spot_told, bound_told, run_told}
 use Rattle.nl_exec_acts.specs.declared.fail.ErrorKind.{ErrorKind}
@@ -97,15 +97,15 @@ climbed_ground turtle slot up four stream w = climbed_to-ground turtle _ _ (cent
 -- ---- acts on the rest
 
 -- what comes of an act has the ground of the rest, where it isn't an error
-data Kept (r : Rest) : Outcome Rest → Type 0 where
+data Kept (r : Rest) : ActOutcome Rest → Type 0 where
   kept : {now : Rest} → SameGround now r → Kept r (Ok now)
   refused : {kind : ErrorKind} → Kept r (Err kind)
 
-and_then-kept : {X : Type 0} {r : Rest} (o : Outcome X) (next : X → Outcome Rest) → ((x : X) → Kept r (next x)) → Kept r (and_then o next)
+and_then-kept : {X : Type 0} {r : Rest} (o : ActOutcome X) (next : X → ActOutcome Rest) → ((x : X) → Kept r (next x)) → Kept r (and_then o next)
 and_then-kept (Ok x) next keeps = keeps x
 and_then-kept (Err kind) next keeps = refused
 
-if-kept : {r : Rest} (truth : Bool) (a b : Outcome Rest) → Kept r a → Kept r b → Kept r (if truth then a else b)
+if-kept : {r : Rest} (truth : Bool) (a b : ActOutcome Rest) → Kept r a → Kept r b → Kept r (if truth then a else b)
 if-kept true a b first second = first
 if-kept false a b first second = second
 
@@ -148,23 +148,23 @@ looks-kept which agent r = if-kept (is_drawn r agent) _ _ (kept (slot_set-ground
 -- ---- acts on the stage
 
 -- what comes of an act leaves a stage with the ground of the rest, where it isn't an error
-data Told (r : Rest) : Outcome (Plain × Stage) → Type 0 where
+data Told (r : Rest) : ActOutcome (Plain × Stage) → Type 0 where
   told : {answer : Plain × Stage} → SameGround answer.1.rest r → Told r (Ok answer)
   wrong : {kind : ErrorKind} → Told r (Err kind)
 
-and_then-told : {X : Type 0} {r : Rest} (o : Outcome X) (next : X → Outcome (Plain × Stage)) → ((x : X) → Told r (next x)) → Told r (and_then o next)
+and_then-told : {X : Type 0} {r : Rest} (o : ActOutcome X) (next : X → ActOutcome (Plain × Stage)) → ((x : X) → Told r (next x)) → Told r (and_then o next)
 and_then-told (Ok x) next keeps = keeps x
 and_then-told (Err kind) next keeps = wrong
 
-stream-told : (st : Stage) (o : Outcome (Plain × ℕ)) → Told st.rest (outcome_map (with_stream st) o)
+stream-told : (st : Stage) (o : ActOutcome (Plain × ℕ)) → Told st.rest (outcome_map (with_stream st) o)
 stream-told st (Ok answer) = told (refl, refl)
 stream-told st (Err kind) = wrong
 
-ticks-told : (st : Stage) (o : Outcome (Plain × Option ℤ)) → Told st.rest (outcome_map (at_ticks st) o)
+ticks-told : (st : Stage) (o : ActOutcome (Plain × Option ℤ)) → Told st.rest (outcome_map (at_ticks st) o)
 ticks-told st (Ok answer) = told (refl, refl)
 ticks-told st (Err kind) = wrong
 
-on_stage-told : (st : Stage) (o : Outcome Rest) → Kept st.rest o → Told st.rest (on_stage st o)
+on_stage-told : (st : Stage) (o : ActOutcome Rest) → Kept st.rest o → Told st.rest (on_stage st o)
 on_stage-told st (Ok now) (kept same) = told same
 on_stage-told st (Err kind) refused = wrong
 
@@ -189,7 +189,7 @@ act-told (act.Bound which) breed agent asker inputs st = told (refl, refl)
 act-told (act.OfRun which) breed agent asker inputs st = and_then-told _ _ (λ value. told (refl, refl))
 act-told act.Idle breed agent asker inputs st = told (refl, refl)
 
-answer-ground : (r : Rest) (o : Outcome (Plain × Stage)) (answer : Plain × Stage) → Told r o → o ≡ Ok answer → SameGround answer.1.rest r
+answer-ground : (r : Rest) (o : ActOutcome (Plain × Stage)) (answer : Plain × Stage) → Told r o → o ≡ Ok answer → SameGround answer.1.rest r
 answer-ground r o answer (told {answer = given} same) is = subst {A = Plain × Stage} (λ a. SameGround a.1.rest r) {x = given} {y = answer} (cc) same
 answer-ground r o answer wrong is = cc
 

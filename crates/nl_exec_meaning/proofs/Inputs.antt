@@ -12,10 +12,6 @@ use Rattle.nl_exec_meaning.proofs.Lists.{get_snoc, grown_length, grown_get}
 none_some : {A : Type 0} (x : A) → None ≡ Some x → ⊥
 none_some x e = cc
 
-mapped_length : {A B : Type 0} (f : A → B) (xs : List A) → length (map f xs) ≡ length xs
-mapped_length f [] = refl
-mapped_length f (x ∷ xs) = ap suc (mapped_length f xs)
-
 -- what is said of a procedure at a place is said of its numbers
 abbrev pub ids_of : Option (List ℕ) → List ℕ
 ids_of None = []
@@ -40,9 +36,6 @@ inputs_right names ids ps i o h e = inputs_by names ids ps i o (slice_get ps i) 
 
 pub input_right : (names : Names) (ids : List (List ℕ)) (ps : List Procedure) (i at : ℕ) (is : List ℕ) → AreInputs names ids ps → slice_get ids i ≡ Some is → option_map (name_of names) (slice_get is at) ≡ slice_get (inputs_of (slice_get ps i)) at
 input_right names ids ps i at is h e = sym (slice_get-map (name_of names) is at) ∙ ap (λ xs. slice_get xs at) (inputs_right names ids ps i (Some is) h e)
-
-pub count_right : (names : Names) (ids : List (List ℕ)) (ps : List Procedure) (i : ℕ) (is : List ℕ) → AreInputs names ids ps → slice_get ids i ≡ Some is → length is ≡ length (inputs_of (slice_get ps i))
-count_right names ids ps i is h e = sym (mapped_length (name_of names) is) ∙ ap length (inputs_right names ids ps i (Some is) h e)
 
 pub no_inputs : (names : Names) (ids : List (List ℕ)) (ps : List Procedure) (i : ℕ) → AreInputs names ids ps → slice_get ids i ≡ None → inputs_of (slice_get ps i) ≡ []
 no_inputs names ids ps i h e = sym (inputs_right names ids ps i None h e)

@@ -191,7 +191,7 @@ answers-within : {n : ℕ} (agents : Chosen) (made : List Answer) (place : Span)
 answers-within (Several set) made place s few = within few
 answers-within (One which number) made place s few = one-within made place s few
 
-made-within : {X : Type 0} {n : ℕ} (outcome : births.Outcome X) (after : X → Stage → Stage) (place : Span) (s : State)
+made-within : {X : Type 0} {n : ℕ} (outcome : births.BirthOutcome X) (after : X → Stage → Stage) (place : Span) (s : State)
     (next : Serials → State → Outcome) → s.units ≤ n → ((made : Serials) (s1 : State) → s1.units ≤ n → Within n (next made s1)) →
     Within n (made_by outcome after place s next)
 made-within (births.Made made now) after place s next few keeps = keeps made _ few

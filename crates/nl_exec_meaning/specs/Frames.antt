@@ -4,7 +4,6 @@ use Rattle.std.specs.Prelude.{ℕ, ◌++◌, ◌||◌, Bool, true, false, neg_�
 use Rattle.nl_fixed.specs.declared.span.Span.{Span}
 use Rattle.nl_value.specs.Plain.{Plain, PlainNumber, PlainTruth, PlainItems, plains}
 use Rattle.nl_value.specs.Sets.{set_kind}
-use Rattle.nl_value.specs.Views.{plain}
 use Rattle.nl_value.specs.declared.sets.AgentKind.{AgentKind}
 use Rattle.nl_value.specs.declared.sets.AgentSet.{AgentSet}
 use Rattle.nl_tree.specs.Tree.{Node, label, span, parts}
@@ -144,7 +143,7 @@ resumed c prev (frame.SomeNumber node word up) o =
     o >>= λ n s. with_part (node_at c node) 1 (span (node_at c node)) s (λ second.
     prev second s >>= λ v s1. some_of_set word up prev (node_at c node) n v s1)
 resumed c prev (frame.SomeSet node word up number) o =
-    o >>= λ v s. some_of_set word up prev (node_at c node) (plain number) v s
+    o >>= λ v s. some_of_set word up prev (node_at c node) number v s
 resumed c prev (frame.OfWho node) o =
     o >>= λ v s. come_to (agents_in (rest_of s) v) (span (node_at c node)) s (λ agents. with_turns agents s (λ group s1.
     collect_group over.Of prev (node_at c node) 0 group s1 (λ all s2.

@@ -44,7 +44,7 @@ run_by_new prev t index which made (Some block) s = with_shuffled which made s (
 -- ---- what was made
 
 -- All were made, or those that there was room for: what `after` says is left in both cases. Where nothing may be made all is left as it was.
-abbrev pub made_by : {X : Type 0} → births.Outcome X → (X → Stage → Stage) → Span → State → (Serials → State → Outcome) → Outcome
+abbrev pub made_by : {X : Type 0} → births.BirthOutcome X → (X → Stage → Stage) → Span → State → (Serials → State → Outcome) → Outcome
 made_by (births.Made made now) after place s next = next made (with_stage (after now s.stage) s)
 made_by (births.Filled now) after place s next = fails TooMany place (with_stage (after now s.stage) s)
 made_by (births.Refused now) after place s next = fails LinkFault place s

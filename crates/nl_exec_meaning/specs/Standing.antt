@@ -58,7 +58,7 @@ pub record AnsweringFits (g : Ground) (member : ℕ) (ts : Turns) (made : List T
 abbrev pub FrameFits : Ground → Frame → Type 0
 FrameFits g (frame.Part node at made) = IsTrue (all_fit g made)
 FrameFits g (frame.Body node reporter saved site) = LocalsFit g saved × SiteFits g site
-FrameFits g (frame.SomeSet node word up number) = IsTrue (fits g (plain number))
+FrameFits g (frame.SomeSet node word up number) = IsTrue (fits g number)
 FrameFits g (frame.Asked node index turns) = TurnsFit g turns
 FrameFits g (frame.Answering node index word member turns made what) =
     AnsweringFits g member turns made × MembersAscend what (members_kept made ++ member ∷ drop turns.at turns.members)

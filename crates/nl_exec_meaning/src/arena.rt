@@ -66,7 +66,7 @@ impl<'a> Code<'a> {
         let mut items = Vec::new(alloc);
         let inputs = number_inputs(alloc, &mut names, procedures_of(program))?;
         push_bodies(&mut trees, program)?;
-        resolve_all(program, &mut trees, &mut names, &mut items)?;
+        resolve_all(alloc, program, &mut trees, &mut names, &mut items)?;
         let kept = items.len();
         Ok(Code {
             program,
@@ -80,7 +80,7 @@ impl<'a> Code<'a> {
 
     /// Makes the nodes of a lone text in the place of those of an earlier one, and gives its first node. Where memory is refused, there is no
     /// lone text.
-    pub fn open(&mut self, text: &'a Tree) -> Result<u32, NoMemory>
+    pub fn open(&mut self, alloc: Global, text: &'a Tree) -> Result<u32, NoMemory>
         ensures text { IfOk result (λ root. node_at self.new root ≡ plain text.now) }
         ensures first { IfOk result (λ root. root ≡ self.old.kept) }
         ensures closed { OnErr result (length self.new.nodes ≡ self.old.kept) }
@@ -91,6 +91,7 @@ impl<'a> Code<'a> {
         self.trees.truncate(kept);
         self.items.truncate(kept);
         match resolve_text(
+            alloc,
             self.program,
             &mut self.trees,
             &mut self.names,
@@ -226,17 +227,6 @@ impl<'a> Code<'a> {
         match numbers_at(&self.inputs, procedure as usize) {
             Some(ids) => ids.get(at),
             None => None,
-        }
-    }
-
-    /// How many inputs a procedure has.
-    #[inline]
-    pub fn input_count(&self, procedure: u32) -> usize
-        ensures { result ≡ length (inputs_at self.now.program procedure) }
-    {
-        match numbers_at(&self.inputs, procedure as usize) {
-            Some(ids) => ids.len(),
-            None => 0,
         }
     }
 }

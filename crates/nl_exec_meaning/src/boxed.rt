@@ -132,11 +132,11 @@ impl BoxedAnswers {
 
     /// Appends an answer, or leaves all as they were.
     #[inline(always)]
-    pub fn push(&mut self, answer: Answered) -> Result<(), NoMemory>
+    pub fn push(&mut self, alloc: Global, answer: Answered) -> Result<(), NoMemory>
         ensures ok { OnOk result (self.new ≡ self.old ++ answered answer ∷ []) }
         ensures err { OnErr result (self.new ≡ self.old) }
     {
-        self.held.push(answer)
+        self.held.push(alloc, answer)
     }
 
     /// The same answers again.

@@ -3,11 +3,12 @@ ghost use Rattle.std.specs.Prelude.{◌≡◌, IfOk, length, vec_len};
 
 use crate::boxed::{BoxedAnswers, BoxedSite, BoxedTurns};
 use crate::exits::Exit;
+use crate::held::HeldValue;
 use crate::locals::Locals;
 use crate::turns::Gathered;
 use crate::{Making, Over};
 use nl_fixed::{NoMemory, Num};
-use nl_value::{Items, Value};
+use nl_value::Items;
 use nl_words::Kinds;
 use std::alloc::Global;
 
@@ -144,7 +145,7 @@ pub enum Frame {
         node: u32,
         word: Over,
         up: bool,
-        number: Value,
+        number: HeldValue,
     },
     /// The agents of `of`.
     OfWho {

@@ -36,7 +36,7 @@ impl<'a> LocalNames<'a> {
     }
 
     /// The number of a name, which gets the next one if it has none.
-    pub fn number(&mut self, name: &'a Str) -> Result<u32, NoMemory>
+    pub fn number(&mut self, _alloc: Global, name: &'a Str) -> Result<u32, NoMemory>
         ensures number { IfOk result (λ id. slice_get self.new id ≡ Some name.now) }
         ensures grows { Grows self.old self.new }
         ensures apart { AreNames self.new }

@@ -47,7 +47,7 @@ impl Locals {
     }
 
     /// Makes a local, which is the newest one, or leaves all as they were.
-    pub fn push(&mut self, local: Local) -> Result<(), NoMemory>
+    pub fn push(&mut self, _alloc: Global, local: Local) -> Result<(), NoMemory>
         ensures ok { OnOk result (self.new ≡ self.old ++ kept local ∷ []) }
         ensures err { OnErr result (self.new ≡ self.old) }
     {
@@ -107,10 +107,12 @@ impl Locals {
     {
         let mut copied = Locals::empty(alloc);
         for local in &self.list {
-            copied.push(Local {
+            let value = local.value.copy(alloc)?;
+            let again = Local {
                 id: local.id,
-                value: local.value.copy(alloc)?,
-            })?;
+                value,
+            };
+            copied.push(alloc, again)?;
         }
         Ok(copied)
     }

@@ -19,6 +19,7 @@ use nl_fixed::{NoMemory, Str};
 use nl_tree::{Label, Program, What, Word, word};
 use nl_value::colors::color_named;
 use nl_words::codes;
+use std::alloc::Global;
 
 /// The slot of a built-in variable, by the code of its word.
 fn slot_of_code(code: u16) -> Option<u32>
@@ -85,6 +86,7 @@ fn word_op(name: &[u8], word: &Word) -> Result<Op, NoMemory>
 
 /// What a name is: a word of the model's table, and else a local.
 fn name_op<'a>(
+    alloc: Global,
     program: &'a Program,
     names: &mut LocalNames<'a>,
     name: &'a Str,
@@ -98,7 +100,7 @@ fn name_op<'a>(
     match word(program.declared(), name.as_bytes()) {
         Some(word) => word_op(name.as_bytes(), &word),
         None => {
-            let id = names.number(name)?;
+            let id = names.number(alloc, name)?;
             Ok(Op::Local(id))
         }
     }
@@ -106,6 +108,7 @@ fn name_op<'a>(
 
 /// What a node of this label is.
 pub fn label_op<'a>(
+    alloc: Global,
     program: &'a Program,
     names: &mut LocalNames<'a>,
     label: &'a Label,
@@ -120,7 +123,7 @@ pub fn label_op<'a>(
         Label::Number(number) => Ok(Op::Number(*number)),
         Label::Text(_) => Ok(Op::Words),
         Label::List => Ok(Op::Items),
-        Label::Named(name) => name_op(program, names, name),
+        Label::Named(name) => name_op(alloc, program, names, name),
         Label::Negate => Ok(Op::Negation),
         Label::Paren => Ok(Op::Inside),
         Label::Commands => Ok(Op::Statements),

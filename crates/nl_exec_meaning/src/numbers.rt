@@ -1,5 +1,5 @@
 //! Numbers of the inputs of a procedure.
-ghost use Rattle.std.specs.Prelude.{◌≡◌, [], ◌∷◌, ◌++◌, IfOk, OnOk, length, slice_get};
+ghost use Rattle.std.specs.Prelude.{◌≡◌, [], ◌∷◌, ◌++◌, IfOk, OnOk, slice_get};
 
 use nl_fixed::NoMemory;
 use std::alloc::Global;
@@ -30,7 +30,7 @@ impl Numbers {
     }
 
     /// Appends a number.
-    pub fn push(&mut self, number: u32) -> Result<(), NoMemory>
+    pub fn push(&mut self, _alloc: Global, number: u32) -> Result<(), NoMemory>
         ensures { OnOk result (self.new ≡ self.old ++ number ∷ []) }
     {
         self.list.push(number)?;
@@ -43,14 +43,6 @@ impl Numbers {
         ensures { result ≡ slice_get self.now at }
     {
         self.list.get(at).copied()
-    }
-
-    /// How many numbers there are.
-    #[inline]
-    pub fn len(&self) -> usize
-        ensures { result ≡ length self.now }
-    {
-        self.list.len()
     }
 
     /// The same numbers again.

@@ -61,6 +61,7 @@ fn push_trees<'a>(trees: &mut Vec<&'a Tree>, more: &'a [Tree]) -> Result<u32, No
 
 /// Makes the node of a tree, and puts its parts behind the others.
 fn resolve<'a>(
+    alloc: Global,
     program: &'a Program,
     trees: &mut Vec<&'a Tree>,
     names: &mut LocalNames<'a>,
@@ -74,7 +75,7 @@ fn resolve<'a>(
     ensures names { Grows names.old names.new }
     ensures apart { AreNames names.old → AreNames names.new }
 {
-    let op: Op = label_op(program, names, tree.label())?;
+    let op: Op = label_op(alloc, program, names, tree.label())?;
     let more = parts_of(tree);
     let first = push_trees(trees, more)?;
     let count = more.len() as u32;
@@ -88,6 +89,7 @@ fn resolve<'a>(
 
 /// Makes the nodes of all trees that have none yet.
 pub(crate) fn resolve_all<'a>(
+    alloc: Global,
     program: &'a Program,
     trees: &mut Vec<&'a Tree>,
     names: &mut LocalNames<'a>,
@@ -105,7 +107,7 @@ pub(crate) fn resolve_all<'a>(
 {
     'trees: while items.len() < trees.len() {
         let tree = trees[items.len()];
-        let Ok(item) = resolve(program, trees, names, tree) else {
+        let Ok(item) = resolve(alloc, program, trees, names, tree) else {
             return Err(NoMemory);
         };
         push_item(items, item)?;
@@ -115,6 +117,7 @@ pub(crate) fn resolve_all<'a>(
 
 /// Makes the nodes of one tree more. The place of the first comes back.
 pub(crate) fn resolve_text<'a>(
+    alloc: Global,
     program: &'a Program,
     trees: &mut Vec<&'a Tree>,
     names: &mut LocalNames<'a>,
@@ -137,7 +140,7 @@ pub(crate) fn resolve_text<'a>(
         return Err(NoMemory);
     };
     trees.push(text)?;
-    resolve_all(program, trees, names, items)?;
+    resolve_all(alloc, program, trees, names, items)?;
     Ok(root)
 }
 
@@ -166,8 +169,8 @@ fn number_all<'a>(
 {
     let mut ids = Numbers::empty(alloc);
     for name in list {
-        let id = names.number(name)?;
-        ids.push(id)?;
+        let id = names.number(alloc, name)?;
+        ids.push(alloc, id)?;
     }
     Ok(ids)
 }

@@ -85,7 +85,7 @@ impl Answers {
     }
 
     /// Appends an answer, or leaves all as they were.
-    pub fn push(&mut self, answer: Answered) -> Result<(), NoMemory>
+    pub fn push(&mut self, _alloc: Global, answer: Answered) -> Result<(), NoMemory>
         ensures ok { OnOk result (self.new ≡ self.old ++ answered answer ∷ []) }
         ensures err { OnErr result (self.new ≡ self.old) }
     {
@@ -99,10 +99,12 @@ impl Answers {
     {
         let mut copied = Answers::empty(alloc);
         for answer in &self.list {
-            copied.push(Answered {
+            let value = answer.value.copy(alloc)?;
+            let answered = Answered {
                 member: answer.member,
-                value: answer.value.copy(alloc)?,
-            })?;
+                value,
+            };
+            copied.push(alloc, answered)?;
         }
         Ok(copied)
     }

@@ -19,6 +19,7 @@ ghost use Rattle.nl_exec_meaning.specs.State.{State, gives};
 ghost use Rattle.nl_exec_meaning.specs.Variables.{read_owned, read_apart};
 ghost use Rattle.nl_exec_meaning.specs.Seen.{state_of};
 ghost use Rattle.nl_exec_meaning.specs.Standing.{HandsFit};
+ghost use Rattle.nl_exec_variables.specs.Facts.{value_of_fact};
 ghost use Rattle.nl_exec_short.specs.Had.{IsHad};
 
 use crate::members::count;
@@ -26,9 +27,9 @@ use crate::running::{lives_and_may_run, may_run};
 use nl_agents::Store;
 use nl_agentset_query::words::{OfSet, QueryWord};
 use nl_exec_acts::Act;
-use nl_exec_meaning::ends::number_of;
 use nl_exec_meaning::{Apart, Built, Code, Exit, Hands, Op};
-use nl_exec_variables::variables::{global, local, owner_of, read_apart};
+use nl_exec_variables::apart::{Fact, fact_of};
+use nl_exec_variables::variables::{global, local, owner_of};
 use nl_fixed::{Num, NumFault, Span};
 use nl_listops::ValueWord;
 use nl_listops::words::OfNumbers;
@@ -63,26 +64,31 @@ fn number_owned<S: Store>(hands: &Hands<S>, runs: Kinds, slot: u32) -> Option<Nu
     number_in(hands.stage.store.var(owner_of(hands, slot), slot))
 }
 
-// The number that a variable of agents holds which is kept apart.
-#[inline(never)]
-fn number_apart<S: Store>(
-    code: &Code,
-    hands: &Hands<S>,
-    place: Span,
-    runs: Kinds,
-    which: Apart,
-) -> Option<Num>
-    requires { HandsFit hands.now }
-    ensures { IfSome result (λ number. (n : ℕ) →
-        let s = state_of code.now.names hands.now n in
-        read_apart runs which place s ≡ gives (PlainNumber number) s) }
+// The number that a fact is.
+fn number_of_fact(fact: Fact) -> Option<Num>
+    ensures { IfSome result (λ number. value_of_fact fact ≡ PlainNumber number) }
 {
-    if runs.observer {
+    match fact {
+        Fact::Number(number) => Some(number),
+        Fact::Turtle(_) => None,
+        Fact::Breed(_) => None,
+        Fact::LinkBreed(_) => None,
+    }
+}
+
+// The number that a variable of agents holds which is kept under no slot.
+#[inline(never)]
+fn number_apart<S: Store>(hands: &Hands<S>, runs: Kinds, which: Apart) -> Option<Num>
+    requires { HandsFit hands.now }
+    ensures { IfSome result (λ number. (c : Nodes) (n : ℕ) (place : Place) →
+        let s = state_of c.names hands.now n in read_apart runs which place s ≡ gives (PlainNumber number) s) }
+{
+    if !lives_and_may_run(hands, runs) {
         return None;
     }
-    match read_apart(code, hands, runs, which, place) {
-        Exit::Gives(value) => number_of(value),
-        _ => None,
+    match fact_of(which, &hands.stage.store, hands.site.agent) {
+        Some(fact) => number_of_fact(fact),
+        None => None,
     }
 }
 
@@ -171,7 +177,7 @@ fn leaf<S: Store>(code: &Code, hands: &Hands<S>, node: u32) -> Option<Num>
         Op::Local(id) => number_in(local(code, hands, id)),
         Op::Global(slot) => number_in(global(hands, slot)),
         Op::Owned { runs, slot } => number_owned(hands, runs, slot),
-        Op::Aside { runs, which } => number_apart(code, hands, code.span(node), runs, which),
+        Op::Aside { runs, which } => number_apart(hands, runs, which),
         _ => count_of_word(code, hands, node),
     }
 }

@@ -35,6 +35,7 @@ use nl_fixed::{NoMemory, Num, Span};
 use nl_motion::place as place_turtle;
 use nl_value::{AgentSet, Value};
 use nl_words::Kinds;
+use std::alloc::Global;
 
 // ---- `let`
 
@@ -59,6 +60,7 @@ pub fn enter_let<S: Store>(code: &Code, hands: &Hands<S>, node: u32) -> Next
 #[inline(always)]
 #[tactic(auto, using(nl_exec_meaning::proofs::Newest::held_push, nl_exec_meaning::proofs::Grounds::pass_push))]
 pub fn resume_let<S: Store>(
+    alloc: Global,
     code: &Code,
     hands: &mut Hands<S>,
     node: u32,
@@ -75,7 +77,7 @@ pub fn resume_let<S: Store>(
 {
     match exit {
         Exit::Gives(value) => {
-            hands.locals.push(Local { id, value })?;
+            hands.locals.push(alloc, Local { id, value })?;
             Ok(Next::Answer(Exit::Gives(Value::Nobody)))
         }
         exit => Ok(Next::Answer(exit)),
@@ -160,6 +162,7 @@ fn kept_as(rule: Rule, value: Value) -> Option<Value>
         (Rule::Number, Value::Number(number)) => Some(Value::Number(number)),
         (Rule::Truth, Value::Truth(truth)) => Some(Value::Truth(truth)),
         (Rule::Words, Value::Words(words)) => Some(Value::Words(words)),
+        (Rule::Words, Value::Blank) => Some(Value::Blank),
         (Rule::Anything, value) => Some(value),
         _ => None,
     }
@@ -220,11 +223,12 @@ fn breed_in<S: Store>(hands: &Hands<S>, value: &Value) -> Option<u32>
     ensures breed { result ≡ breed_in (S.world hands.now.stage.store).rest (plain value.now) }
     ensures stands { IfSome result (λ breed. IsTrue (is_turtle_breed (S.world hands.now.stage.store).rest.layout breed)) }
 {
-    match value {
-        Value::Set(AgentSet::Turtles) => Some(0),
-        Value::Set(AgentSet::Breed(breed)) if hands.stage.layout.is_turtle_breed(*breed) => {
-            Some(*breed)
-        }
+    let Value::Set(set) = value else {
+        return None;
+    };
+    match &**set {
+        AgentSet::Turtles => Some(0),
+        AgentSet::Breed(breed) if hands.stage.layout.is_turtle_breed(*breed) => Some(*breed),
         _ => None,
     }
 }

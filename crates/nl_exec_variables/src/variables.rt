@@ -1,13 +1,10 @@
 //! Variables that are read.
-ghost use Rattle.std.specs.Prelude.{◌≡◌, ◌<◌, ◌≤◌, ◌*◌, ◌*ℤ◌, pos, false, IsTrue, IfOk, IfSome, not, option_map, slice_get};
-ghost use Rattle.std.specs.Option.{option_and_then, option_copied};
-ghost use Rattle.nl_fixed.specs.Numbers.{one};
+ghost use Rattle.std.specs.Prelude.{◌≡◌, ◌<◌, ◌*◌, IsTrue, IfOk, IfSome, not, option_map, slice_get};
+ghost use Rattle.std.specs.Option.{option_copied};
 ghost use Rattle.nl_value.specs.Views.{plain};
-ghost use Rattle.nl_grid.specs.Geometry.{patches_of};
-ghost use Rattle.nl_agents.specs.World.{Rest};
-ghost use Rattle.nl_agents.specs.Changes.{OwnerLives, TurtleLives, LinkLives, link_of, turtle_of, value_of};
+ghost use Rattle.nl_agents.specs.Changes.{OwnerLives};
 ghost use Rattle.nl_exec_meaning.specs.Code.{IsOneToOne, name_of};
-ghost use Rattle.nl_exec_meaning.specs.Variables.{owner_by, local_value, read_local, read_global, read_owned, read_apart, apart_value, of_patch, of_turtle, of_link, breed_set, link_breed_set};
+ghost use Rattle.nl_exec_meaning.specs.Variables.{owner_by, local_value, read_local, read_global, read_owned};
 ghost use Rattle.nl_exec_meaning.specs.Ground.{fits};
 ghost use Rattle.nl_exec_meaning.specs.Kept.{all_held};
 ghost use Rattle.nl_exec_meaning.specs.Means.{EndsAs};
@@ -18,10 +15,9 @@ use nl_agents::{Owner, Store};
 use nl_agentset_query::agents::own_patch;
 use nl_exec_acts::ErrorKind;
 use nl_exec_meaning::ends::{barred, fault};
-use nl_exec_meaning::{Apart, Code, Exit, Hands};
-use nl_fixed::{NoMemory, Num, Span};
-use nl_grid::Shape;
-use nl_value::{AgentSet, Value};
+use nl_exec_meaning::{Code, Exit, Hands};
+use nl_fixed::{NoMemory, Span};
+use nl_value::Value;
 use nl_words::Kinds;
 use std::alloc::Global;
 
@@ -30,7 +26,7 @@ use std::alloc::Global;
 // The same value again. A number, which comes most often, is had at once.
 #[inline(always)]
 fn again(alloc: Global, value: &Value) -> Result<Value, NoMemory>
-    ensures { IfOk result (λ again. again ≡ value.now) }
+    ensures { IfOk result (λ again. plain again ≡ plain value.now) }
 {
     match value {
         Value::Number(number) => Ok(Value::Number(*number)),
@@ -155,119 +151,5 @@ pub fn read_owned<S: Store>(
     match hands.stage.store.var(owner_of(hands, slot), slot) {
         Some(value) => Ok(Exit::Gives(again(alloc, value)?)),
         None => Ok(fault(ErrorKind::NoVariable, place, hands.site)),
-    }
-}
-
-// ---- variables that are kept apart
-
-// A number of agents, or what an agent is called by.
-fn number_from(count: u64) -> Num
-    requires { count ≤ 9_000_000_000_000 }
-    ensures { result ≡ pos count *ℤ pos one }
-{
-    Num::whole(count as i64).unwrap()
-}
-
-#[tactic(auto, unfolding(nl_grid::specs::Geometry::center_of))]
-fn apart_of_patch(which: Apart, shape: &Shape, patch: u32) -> Option<Value>
-    requires { patch < patches_of shape.now }
-    ensures { (r : Rest) → r.shape ≡ shape.now → option_map plain result ≡ of_patch which r patch }
-{
-    match which {
-        Apart::Pxcor => Some(Value::Number(shape.center(patch).x)),
-        Apart::Pycor => Some(Value::Number(shape.center(patch).y)),
-        Apart::Who | Apart::Xcor | Apart::Ycor | Apart::Breed | Apart::End1 | Apart::End2 => None,
-    }
-}
-
-#[tactic(auto, using(crate::proofs::Aside::turtle_there))]
-fn apart_of_turtle<S: Store>(which: Apart, store: &S, turtle: u64) -> Option<Value>
-    requires { TurtleLives turtle (S.world store.now) }
-    ensures { let r = (S.world store.now).rest in
-        option_map plain result ≡ option_and_then (of_turtle which r) (turtle_of turtle r) }
-{
-    let shape = store.shape();
-    let at = store.at(turtle);
-    match which {
-        Apart::Who => Some(Value::Number(number_from(turtle - store.base()))),
-        Apart::Xcor => Some(Value::Number(at.x)),
-        Apart::Ycor => Some(Value::Number(at.y)),
-        Apart::Breed => Some(breed_set(store.breed_of(turtle))),
-        Apart::Pxcor => apart_of_patch(Apart::Pxcor, &shape, shape.patch_of(at)),
-        Apart::Pycor => apart_of_patch(Apart::Pycor, &shape, shape.patch_of(at)),
-        Apart::End1 | Apart::End2 => None,
-    }
-}
-
-// The set of all turtles of a breed, or of all turtles.
-fn breed_set(breed: u32) -> Value
-    ensures { plain result ≡ breed_set breed }
-{
-    if breed == 0 {
-        Value::Set(AgentSet::Turtles)
-    } else {
-        Value::Set(AgentSet::Breed(breed))
-    }
-}
-
-fn apart_of_link<S: Store>(which: Apart, store: &S, link: u64) -> Option<Value>
-    requires { LinkLives link (S.world store.now) }
-    ensures { let r = (S.world store.now).rest in
-        option_map plain result ≡ option_and_then (of_link which) (link_of link r) }
-{
-    match which {
-        Apart::End1 => Some(Value::Turtle(store.ends(link).0)),
-        Apart::End2 => Some(Value::Turtle(store.ends(link).1)),
-        Apart::Breed => Some(link_breed_set(store.link_breed(link).0)),
-        _ => None,
-    }
-}
-
-fn link_breed_set(breed: u32) -> Value
-    ensures { plain result ≡ link_breed_set breed }
-{
-    if breed == 0 {
-        Value::Set(AgentSet::Links)
-    } else {
-        Value::Set(AgentSet::LinkBreed(breed))
-    }
-}
-
-fn apart_of<S: Store>(which: Apart, store: &S, agent: Owner) -> Option<Value>
-    requires { OwnerLives agent (S.world store.now) }
-    ensures { option_map plain result ≡ apart_value (S.world store.now).rest which agent }
-{
-    match agent {
-        Owner::Observer => None,
-        Owner::Turtle(turtle) => apart_of_turtle(which, store, turtle),
-        Owner::Patch(patch) => apart_of_patch(which, &store.shape(), patch),
-        Owner::Link(link) => apart_of_link(which, store, link),
-    }
-}
-
-/// A variable of agents that is kept under no slot.
-#[inline]
-#[tactic(auto, using(crate::proofs::Aside::aside_fits))]
-pub fn read_apart<S: Store>(
-    code: &Code,
-    hands: &Hands<S>,
-    runs: Kinds,
-    which: Apart,
-    place: Span,
-) -> Exit
-    requires agents { IsTrue (not runs.observer) }
-    requires fit { HandsFit hands.now }
-    ensures meaning { EndsAs code.now result hands.now hands.now
-        (λ s. read_apart runs which place s) }
-    ensures fits { ExitFits (ground hands.now) result }
-{
-    if let Some(exit) = barred(hands, runs, place) {
-        return exit;
-    }
-    // What the value's fit rests on: the store stands for a world.
-    let _stands = hands.stage.store.shape();
-    match apart_of(which, &hands.stage.store, hands.site.agent) {
-        Some(value) => Exit::Gives(value),
-        None => fault(ErrorKind::NoVariable, place, hands.site),
     }
 }

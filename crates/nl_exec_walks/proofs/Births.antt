@@ -16,11 +16,11 @@ use Rattle.nl_agents.specs.Changes.{born}
 use Rattle.nl_agents.specs.declared.store.Store.{Ghosts}
 use Rattle.nl_agentset_query.specs.Agents.{breed_or_none}
 use Rattle.nl_agentset.specs.Queries.{is_breed_or_none}
-use Rattle.nl_birth.specs.Births.{Scene, drawn_birth, drawn_births, ordered_births, hatchings, count_of, place_of, origin, turtle_room, turtles_born, creations, created, sproutings, sprouted, hatched}
+use Rattle.nl_birth.specs.Births.{Scene, drawn_birth, drawn_births, ordered_births, hatchings, count_of, birthplace, origin, turtle_room, turtles_born, creations, created, sproutings, sprouted, hatched}
 use Rattle.nl_birth.specs.Looks.{born_with, looks_in_order}
 use Rattle.nl_birth.specs.Keeping.{Keeps}
 use Rattle.nl_birth.specs.Links.{wanted, tied_to, tied_to_all, is_refused, link_room, links_made, linkings, linked}
-use Rattle.nl_birth.specs.Outcomes.{Outcome, Made, Filled, Refused, outcome_of, IsOutcome}
+use Rattle.nl_birth.specs.Outcomes.{BirthOutcome, Made, Filled, Refused, outcome_of, IsOutcome}
 use Rattle.nl_birth.specs.declared.failing.BirthFail.{BirthFail}
 use Rattle.nl_birth.specs.declared.failing.BirthFail.TheVariants as birth
 use Rattle.nl_birth.specs.declared.way.Way.{Way}
@@ -45,12 +45,12 @@ bare_world w = bare w.rest
 abbrev pub bare_scene : Scene → Scene
 bare_scene s = record s { world = bare s.world.rest }
 
-abbrev pub mapped : {X : Type 0} → (X → X) → Outcome X → Outcome X
+abbrev pub mapped : {X : Type 0} → (X → X) → BirthOutcome X → BirthOutcome X
 mapped f (Made made now) = Made made (f now)
 mapped f (Filled now) = Filled (f now)
 mapped f (Refused now) = Refused (f now)
 
-if-mapped : {X : Type 0} (f : X → X) (truth : Bool) (a b c d : Outcome X) → mapped f a ≡ c → mapped f b ≡ d →
+if-mapped : {X : Type 0} (f : X → X) (truth : Bool) (a b c d : BirthOutcome X) → mapped f a ≡ c → mapped f b ≡ d →
     mapped f (if truth then a else b) ≡ (if truth then c else d)
 if-mapped f true a b c d first second = first
 if-mapped f false a b c d first second = second
@@ -103,8 +103,8 @@ sprouted_bare patch breed number s =
 pub hatched_bare : (parent : ℕ) (breed : BreedNumber) (number : ℤ) (w : World) →
     mapped bare_world (hatched parent breed number w) ≡ hatched parent breed number (bare_world w)
 hatched_bare parent breed number w =
-    outcome-mapped bare_world (hatchings breed parent (place_of parent w) w) (hatchings breed parent (place_of parent (bare_world w)) (bare_world w)) _ _ _
-    (hatched-bare breed parent (place_of parent w) w)
+    outcome-mapped bare_world (hatchings breed parent (birthplace parent w) w) (hatchings breed parent (birthplace parent (bare_world w)) (bare_world w)) _ _ _
+    (hatched-bare breed parent (birthplace parent w) w)
 
 pub linked_bare : (way : Way) (breed : BreedNumber) (caller : ℕ) (targets : Serials) (w : World) →
     mapped bare_world (linked way breed caller targets w) ≡ linked way breed caller targets (bare_world w)
@@ -118,7 +118,7 @@ linked_bare way breed caller targets w =
 
 -- ---- what is refused
 
-if-not : {X : Type 0} (truth : Bool) (a b : Outcome X) (now : X) → (a ≡ Refused now → ⊥) → (b ≡ Refused now → ⊥) → (if truth then a else b) ≡ Refused now → ⊥
+if-not : {X : Type 0} (truth : Bool) (a b : BirthOutcome X) (now : X) → (a ≡ Refused now → ⊥) → (b ≡ Refused now → ⊥) → (if truth then a else b) ≡ Refused now → ⊥
 if-not true a b now first second is = first is
 if-not false a b now first second is = second is
 
@@ -135,7 +135,7 @@ link_refused way breed caller targets w now is =
     by (is_refused way breed caller targets w) (links_made (linkings way breed caller targets w) w (length (wanted way breed caller targets w)))
     (never-refused (linkings way breed caller targets w) (link_room w) w.rest.links_given (length (wanted way breed caller targets w)) now) is
   where
-    by : (truth : Bool) (made : Outcome World) → (made ≡ Refused now → ⊥) → (if truth then Refused w else made) ≡ Refused now → w ≡ now
+    by : (truth : Bool) (made : BirthOutcome World) → (made ≡ Refused now → ⊥) → (if truth then Refused w else made) ≡ Refused now → w ≡ now
     by true made other h = cc
     by false made other h = absurd (other h)
 
@@ -156,7 +156,7 @@ Comes (Err birth.TooMany) o place s next = o ≡ fails error.TooMany place s
 Comes (Err birth.LinkFault) o place s next = o ≡ fails error.LinkFault place s
 Comes (Err birth.NoMemory) o place s next = ⊤
 
-pub comes : {X : Type 0} (f : X → X) (after : X → Stage → Stage) (outcome other : Outcome X) → mapped f outcome ≡ other →
+pub comes : {X : Type 0} (f : X → X) (after : X → Stage → Stage) (outcome other : BirthOutcome X) → mapped f outcome ≡ other →
     (result : Result Serials BirthFail) (steps : ℕ → X) (most : ℕ) (now : X) → IsOutcome outcome steps most result now →
     (s s1 : State) → with_stage (after (f now) s.stage) s ≡ s1 → (outcome ≡ Refused now → s ≡ s1) →
     (place : Span) (next : Serials → State → meant.Outcome) → Comes result (made_by other after place s next) place s1 next

@@ -1,5 +1,6 @@
 //! Who is asked: the members of a set in the order of their turns, or one agent.
-ghost use Rattle.std.specs.Prelude.{◌≡◌, ◌<◌, [], ◌∷◌, ℕ, IsTrue, IfOk, IfSome, IsPermutation};
+ghost use Rattle.std.specs.Prelude.{◌≡◌, ◌<◌, [], ◌∷◌, ℕ, IsTrue, IfOk, IfSome, IsPermutation, option_map};
+ghost use Rattle.std.specs.Result.{result_ok};
 ghost use Rattle.std.specs.List.Sorted.{IsStrictlyIncreasing};
 ghost use Rattle.nl_fixed.specs.Nouns.{Names};
 ghost use Rattle.nl_value.specs.Sets.{set_kind};
@@ -7,7 +8,7 @@ ghost use Rattle.nl_value.specs.Views.{plain};
 ghost use Rattle.nl_draw.specs.Stream.{shuffled};
 ghost use Rattle.nl_agents.specs.Members.{members_of};
 ghost use Rattle.nl_agents.specs.Names.{set_fits};
-ghost use Rattle.nl_exec_meaning.specs.Walks.{at_stream, one_of};
+ghost use Rattle.nl_exec_meaning.specs.Walks.{at_stream, one_of, set_in};
 ghost use Rattle.nl_exec_meaning.specs.Ground.{Ground, agent_fits, fits, ground_of};
 ghost use Rattle.nl_exec_meaning.specs.Means.{Stands};
 ghost use Rattle.nl_exec_meaning.specs.Seen.{ground, state_of};
@@ -140,6 +141,16 @@ fn one_agent<S: Store>(alloc: Global, hands: &Hands<S>, value: &Value) -> Result
     })
 }
 
+// The set that a value is.
+fn set_of(value: &Value) -> Option<&AgentSet>
+    ensures { option_map (λ set. set.now) result ≡ result_ok (set_in (plain value.now)) }
+{
+    match value {
+        Value::Set(set) => Some(&**set),
+        _ => None,
+    }
+}
+
 /// Who is asked: the living members of a set, shuffled once, or one living agent, without a draw.
 pub fn agents_in<S: Store>(
     alloc: Global,
@@ -152,8 +163,8 @@ pub fn agents_in<S: Store>(
     ensures fits { IfOk result (λ group. MembersFit (ground hands.new) group.which group.members) }
     ensures stands { Stands hands.new hands.old }
 {
-    match value {
-        Value::Set(set) => {
+    match set_of(value) {
+        Some(set) => {
             let members = shuffled_set(alloc, hands, set)?;
             Ok(Group {
                 which: set.kind(),
@@ -161,7 +172,7 @@ pub fn agents_in<S: Store>(
                 several: true,
             })
         }
-        _ => one_agent(alloc, hands, value),
+        None => one_agent(alloc, hands, value),
     }
 }
 
@@ -175,6 +186,7 @@ pub fn set_in<S: Store>(alloc: Global, hands: &Hands<S>, value: &Value) -> Resul
     let Value::Set(set) = value else {
         return Err(ActFail::Error(ErrorKind::WrongType));
     };
+    let set: &AgentSet = set;
     let members = in_order(alloc, set, &hands.stage.store)?;
     Ok(Group {
         which: set.kind(),

@@ -193,7 +193,7 @@ fn answer_told<S: Store>(
 {
     match reply_to(word, &value) {
         Reply::Keep => {
-            made.push(Answered { member, value })?;
+            made.push(alloc, Answered { member, value })?;
             next_answer(alloc, code, hands, node, index, word, turns, made, gathered)
         }
         Reply::Pass => next_answer(alloc, code, hands, node, index, word, turns, made, gathered),

@@ -33,7 +33,7 @@ fn all_members(alloc: Global, which: AgentKind, made: &Answers) -> Result<Exit, 
         MembersFit g which (members_kept made.now) → ExitFits g exit) }
 {
     let members = members_of(alloc, made.as_slice())?;
-    Ok(Exit::Gives(listed_value(which, members)))
+    Ok(Exit::Gives(listed_value(alloc, which, members)?))
 }
 
 // The set of the members with the greatest number, or with the least.
@@ -44,7 +44,7 @@ fn all_extremes(alloc: Global, which: AgentKind, up: bool, made: &Answers) -> Re
         MembersFit g which (members_kept made.now) → ExitFits g exit) }
 {
     let members = extremes(alloc, up, made.as_slice())?;
-    Ok(Exit::Gives(listed_value(which, members)))
+    Ok(Exit::Gives(listed_value(alloc, which, members)?))
 }
 
 // The value of one agent, which may have died before its turn.
@@ -118,7 +118,7 @@ pub fn finish<S: Store>(
         }
         Gathered::OfAll { several: true } => {
             let values = values_of(alloc, made.into_vec())?;
-            Ok(Exit::Gives(Value::Items(values)))
+            Ok(Exit::Gives(Value::items(alloc, values)?))
         }
         Gathered::OfAll { several: false } => Ok(one_value(code, hands, node, made)),
     }

@@ -24,11 +24,11 @@ pub fn members_of(alloc: Global, answers: &[Answered]) -> Result<Vec<u64>, NoMem
 }
 
 /// The set that lists members, which ascend.
-pub fn listed_value(which: AgentKind, members: Vec<u64>) -> Value
+pub fn listed_value(alloc: Global, which: AgentKind, members: Vec<u64>) -> Result<Value, NoMemory>
     requires { IsStrictlyIncreasing members.items }
-    ensures { plain result ≡ listed_value which members.items }
+    ensures { IfOk result (λ value. plain value ≡ listed_value which members.items) }
 {
-    Value::Set(listed(which, Serials::of_vec(members)))
+    Value::set(alloc, listed(which, Serials::of_vec(members)))
 }
 
 /// The values of the answers, in order.

@@ -31,7 +31,7 @@ use nl_exec_acts::{ActFail, ErrorKind};
 use nl_exec_meaning::ends::{fault, left, number_of};
 use nl_exec_meaning::{BoxedTurns, Code, Exit, Frame, Hands, Making, Next, Turns};
 use nl_fixed::{NoMemory, Num};
-use nl_value::{AgentKind, Serials, Value};
+use nl_value::{AgentKind, AgentSet, Serials, Value};
 use nl_words::Kinds;
 use std::alloc::Global;
 
@@ -199,6 +199,7 @@ fn turtles_in<S: Store>(alloc: Global, store: &S, value: &Value) -> Result<Seria
     let Value::Set(set) = value else {
         return Err(ActFail::Error(ErrorKind::WrongType));
     };
+    let set: &AgentSet = set;
     match set.kind() {
         AgentKind::Turtle => {
             // What the serials rest on: the store stands for a world.

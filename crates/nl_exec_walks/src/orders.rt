@@ -166,5 +166,5 @@ pub fn sorted_on<S: Store>(
         return Ok(fault(ErrorKind::WrongType, code.span(node), hands.site));
     }
     let agents = in_order(alloc, which, answers, &view)?;
-    Ok(Exit::Gives(Value::Items(agents)))
+    Ok(Exit::Gives(Value::items(alloc, agents)?))
 }

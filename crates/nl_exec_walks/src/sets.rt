@@ -22,7 +22,7 @@ use nl_exec_acts::{ActFail, ErrorKind};
 use nl_exec_meaning::children::go;
 use nl_exec_meaning::ends::{fault, number_of};
 use nl_exec_meaning::{
-    BoxedAnswers, BoxedTurns, Code, Exit, Frame, Gathered, Hands, Next, Over, Turns,
+    BoxedAnswers, BoxedTurns, Code, Exit, Frame, Gathered, Hands, HeldValue, Next, Over, Turns,
 };
 use nl_fixed::NoMemory;
 use nl_value::Value;
@@ -153,7 +153,7 @@ pub fn resume_some_number<S: Store>(
     ensures fits { ExitFits (ground hands.now) exit → NextFits (ground hands.now) result }
 {
     let number = match exit {
-        Exit::Gives(value) => value,
+        Exit::Gives(value) => HeldValue::new(value),
         exit => return Next::Answer(exit),
     };
     match code.part(node, 1) {
@@ -178,7 +178,7 @@ pub fn resume_some_set<S: Store>(
     node: u32,
     word: Over,
     up: bool,
-    number: Value,
+    number: HeldValue,
     exit: Exit,
 ) -> Result<Next, NoMemory>
     requires fit { HandsFit hands.old }
@@ -194,7 +194,7 @@ pub fn resume_some_set<S: Store>(
         Exit::Gives(value) => value,
         exit => return Ok(Next::Answer(exit)),
     };
-    let Some(number) = number_of(number) else {
+    let Some(number) = number_of(number.into_value()) else {
         return Ok(Next::Answer(fault(ErrorKind::WrongType, code.span(node), hands.site)));
     };
     let gathered = Gathered::Several { up, number };

@@ -151,7 +151,7 @@ fn first_extremes<S: Store>(
     let list = mixed(hands, answers.into_vec());
     let first = first_members(alloc, up, count, &list)?;
     let kept = members_among(alloc, &members, &first)?;
-    Ok(Exit::Gives(listed_value(which, kept)))
+    Ok(Exit::Gives(listed_value(alloc, which, kept)?))
 }
 
 // How many answers are numbers.

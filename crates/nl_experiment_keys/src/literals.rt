@@ -68,7 +68,10 @@ fn value_of(alloc: Global, text: &[u8], token: &Token) -> Result<Option<Value>, 
             Ok(named(word.as_bytes()))
         }
         Lexeme::Number(number) => Ok(Some(Value::Number(number))),
-        Lexeme::Text => Ok(Some(Value::Words(text_of(alloc, text, token)?))),
+        Lexeme::Text => {
+            let content = text_of(alloc, text, token)?;
+            Ok(Some(Value::words(alloc, content)?))
+        }
         Lexeme::Open | Lexeme::Close | Lexeme::OpenParen | Lexeme::CloseParen => Ok(None),
     }
 }
@@ -103,8 +106,11 @@ fn take(alloc: Global, text: &[u8], token: &Token, nested: &mut Nested) -> Resul
             Ok(Taken::Further)
         }
         Lexeme::Close => {
-            let items = nested.end();
-            put(alloc, nested, items.map(Value::Items))
+            let value = match nested.end() {
+                Some(items) => Some(Value::items(alloc, items)?),
+                None => None,
+            };
+            put(alloc, nested, value)
         }
         Lexeme::Word | Lexeme::Number(_) | Lexeme::Text | Lexeme::OpenParen | Lexeme::CloseParen =>
             {

@@ -368,7 +368,7 @@ fn worded(alloc: Global, letters: u64) -> Option<Varies> {
         text.append(alloc, b"x").ok()?;
     }
     let mut values = Items::empty(alloc);
-    values.push(alloc, Value::Words(text)).ok()?;
+    values.push(alloc, Value::words(alloc, text).ok()?).ok()?;
     let mut varies = Varies::empty(alloc);
     let name = Str::of(alloc, b"word").ok()?;
     let choice = Choice::Listed(values);

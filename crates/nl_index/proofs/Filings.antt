@@ -4,7 +4,7 @@ use Rattle.std.specs.Option.{option_map}
 use Rattle.std.proofs.lemmas.Grind.{common_steps}
 use Rattle.std.proofs.lemmas.Bool.{cases_eq}
 use Rattle.nl_grid.specs.Geometry.{Plane}
-use Rattle.nl_store_lists.specs.Threads.{at_number, has, without}
+use Rattle.nl_store_lists.specs.Chained.{at_number, has, without}
 use Rattle.nl_store_lists.specs.Rising.{IsRisingBy}
 use Rattle.nl_store_lists.proofs.Places.{at-here, at-other, at-each}
 use Rattle.nl_store_lists.proofs.Threaded.{home-of}

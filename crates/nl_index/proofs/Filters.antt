@@ -1,7 +1,7 @@
 -- Chains are filters.
 use Rattle.std.proofs.Common.{◌≡◌, ℕ, Bool, true, false, Option, Some, None, cond, ◌&&◌, refl, sym, ap, ◌∙◌}
 use Rattle.nl_grid.specs.Geometry.{Plane}
-use Rattle.nl_store_lists.specs.Threads.{is_in}
+use Rattle.nl_store_lists.specs.Chained.{is_in}
 use Rattle.nl_store_lists.proofs.Threaded.{lists_are_one}
 use Rattle.nl_store_records.specs.Records.{fields_at}
 use Rattle.nl_store_records.specs.declared.fields.Body.{Body}

@@ -1,7 +1,7 @@
 -- Lemmas on an index whose records, or whose test, are others.
 use Rattle.std.proofs.Common.{◌≡◌, ℕ, Bool, true, false, List, Option, Some, None, IsSome, IsSomeAnd, cond, refl, sym, ap, ◌∙◌, subst}
 use mathlib.Core.Path.{fun_ext}
-use Rattle.nl_store_lists.specs.Threads.{has, IsPlace}
+use Rattle.nl_store_lists.specs.Chained.{has, IsPlace}
 use Rattle.nl_store_lists.proofs.Threaded.{home-of, stays_threaded}
 use Rattle.nl_store_lists.proofs.Rising.{rising-same}
 use Rattle.nl_store_records.specs.Records.{fields_at}

@@ -1,7 +1,7 @@
 -- Lemmas on the chains that keys are in.
 use Rattle.std.proofs.Common.{◌≡◌, ◌≢◌, ℕ, Bool, true, false, Option, Some, None, cond, refl, sym, ap, ◌∙◌, inl, inr}
 use Rattle.std.proofs.lemmas.Bool.{cases_eq}
-use Rattle.nl_store_lists.specs.Threads.{at_number}
+use Rattle.nl_store_lists.specs.Chained.{at_number}
 use Rattle.nl_store_lists.proofs.Places.{at-here, at-other}
 use Rattle.nl_store_records.specs.Records.{fields_at}
 use Rattle.nl_store_records.specs.declared.fields.Fields.{Fields}

@@ -1,7 +1,7 @@
 -- What holds of the chains of an index, in the words of the agents that they hold.
 use Rattle.std.specs.Prelude.{◌≡◌, ℕ, ◌==◌, ◌&&◌, Bool, true, false, List, Option, Some, None}
 use Rattle.nl_grid.specs.Geometry.{Plane, patch_at}
-use Rattle.nl_store_lists.specs.Threads.{has, IsOnce}
+use Rattle.nl_store_lists.specs.Chained.{has, IsOnce}
 use Rattle.nl_store_lists.specs.Rising.{IsRisingBy}
 use Rattle.nl_store_records.specs.Records.{fields_at}
 use Rattle.nl_store_records.specs.declared.fields.Body.{Body}

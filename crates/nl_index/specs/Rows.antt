@@ -1,6 +1,6 @@
 -- Rows of chains of one kind, and the lists that they hold.
 use Rattle.std.specs.Prelude.{◌≡◌, ℕ, List, Option, Some, None, slice_index_or}
-use Rattle.nl_store_lists.specs.Threads.{put_last, take_out}
+use Rattle.nl_store_lists.specs.Chained.{put_last, take_out}
 use Rattle.nl_store_records.specs.Filed.{no_keys, IsFiled}
 use Rattle.nl_store_records.specs.declared.record.Record.{Record}
 use Rattle.nl_store_records.specs.declared.places.Border.{Border}

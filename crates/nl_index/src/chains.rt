@@ -1,7 +1,7 @@
 //! The chains by birth, by patch and by breed.
 ghost use Rattle.std.specs.Prelude.{◌≡◌, ◌<◌, ◌==◌, ℕ, Bool, true, false, Option, Some, None, IsSome, IsSomeAnd, IfOk, length, slice_get, if◌then◌else◌};
 ghost use Rattle.nl_grid.specs.Geometry.{IsPointOf, patch_at, patches_of};
-ghost use Rattle.nl_store_lists.specs.Threads.{at_number};
+ghost use Rattle.nl_store_lists.specs.Chained.{at_number};
 ghost use Rattle.nl_store_records.specs.Records.{record_at, fields_at};
 ghost use Rattle.nl_store_records.specs.Filed.{no_keys};
 ghost use Rattle.nl_store_records.specs.declared.fields.Fields.{Fields};

@@ -1,6 +1,6 @@
 //! Rows of chains of one kind.
 ghost use Rattle.std.specs.Prelude.{◌≡◌, ◌<◌, ◌==◌, ℕ, List, Option, length, if◌then◌else◌, Some, None, IsSome, IfSome};
-ghost use Rattle.nl_store_lists.specs.Threads.{at_number};
+ghost use Rattle.nl_store_lists.specs.Chained.{at_number};
 ghost use Rattle.nl_store_records.specs.Packed.{IsSmall};
 ghost use Rattle.nl_store_records.specs.Records.{record_at};
 ghost use Rattle.nl_store_records.specs.Filed.{after, before, IsFiled, IsHeld, KeepsOthers, Redirects, Stays};

@@ -1,6 +1,6 @@
 -- Chains of links are filters.
 use Rattle.std.proofs.Common.{◌≡◌, ℕ, Bool, true, false, Option, Some, None, cond, ◌&&◌, refl, ◌∙◌}
-use Rattle.nl_store_lists.specs.Threads.{is_in}
+use Rattle.nl_store_lists.specs.Chained.{is_in}
 use Rattle.nl_store_lists.proofs.Threaded.{lists_are_one}
 use Rattle.nl_store_records.specs.Records.{fields_at}
 use Rattle.nl_store_records.specs.declared.fields.Body.{Body}

@@ -1,7 +1,7 @@
 -- Lemmas on turtles that are held or let go.
 use Rattle.std.proofs.Common.{◌≡◌, ◌≢◌, ℕ, Bool, true, false, List, [], ◌∷◌, Option, Some, None, IsSome, IsSomeAnd, is_some, eqb, cond, refl, sym, ap, ap₂, ◌∙◌, subst}
 use mathlib.Core.Path.{fun_ext}
-use Rattle.nl_store_lists.specs.Threads.{has, IsPlace, IsWalk}
+use Rattle.nl_store_lists.specs.Chained.{has, IsPlace, IsWalk}
 use Rattle.nl_store_lists.proofs.Threaded.{listed}
 use Rattle.nl_store_lists.proofs.Threaded.{no_keys as none_threaded}
 use Rattle.nl_store_records.specs.Records.{fields_at}

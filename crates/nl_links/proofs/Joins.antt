@@ -1,7 +1,7 @@
 -- Lemmas on links that come, go, and whose records, or whose test, are others.
 use Rattle.std.proofs.Common.{◌≡◌, ℕ, Bool, true, false, List, Option, Some, None, IsSome, IsSomeAnd, is_some, cond, refl, sym, ap, ◌∙◌, subst}
 use mathlib.Core.Path.{fun_ext}
-use Rattle.nl_store_lists.specs.Threads.{IsPlace}
+use Rattle.nl_store_lists.specs.Chained.{IsPlace}
 use Rattle.nl_store_lists.proofs.Threaded.{stays_threaded}
 use Rattle.nl_store_records.specs.Records.{fields_at}
 use Rattle.nl_store_records.specs.Filed.{after, before, IsFiled}

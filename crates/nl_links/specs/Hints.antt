@@ -1,5 +1,5 @@
 -- Hints of where the entries of serials stand. A serial has its hint at its last bits, and serials with the same last bits share one.
-use Rattle.std.specs.Prelude.{◌≡◌, ◌⊎◌, ◌^◌, ◌%◌, ℕ, List, length, nat_lt, if◌then◌else◌, slice_index_or, slice_set}
+use Rattle.std.specs.Prelude.{◌≡◌, ◌⊎◌, ◌≤◌, ◌-◌, ◌*◌, ◌^◌, ◌%◌, ℕ, List, length, max, nat_lt, if◌then◌else◌, slice_index_or, slice_set}
 
 -- as many hints as some power of two, or none
 abbrev pub AreHints : List ℕ → Type 0
@@ -16,3 +16,7 @@ with_hint hints serial index = if nat_lt index (2 ^ 32) then slice_set hints (se
 -- each serial has the hint that it had
 abbrev pub SameHints : (new old : List ℕ) → Type 0
 SameHints new old = (serial : ℕ) → hint_of new serial ≡ hint_of old serial
+
+-- no more hints than there were, than 64, or than less than twice as many as there are entries
+abbrev pub FewHints : (new old : List ℕ) (entries : ℕ) → Type 0
+FewHints new old entries = length new ≤ max (length old) (max 64 (2 * (entries - 1)))

@@ -1,6 +1,6 @@
 -- What holds of the chains of links, in the words of the links that they hold.
 use Rattle.std.specs.Prelude.{◌≡◌, ℕ, ◌==◌, ◌&&◌, Bool, false, List, Option, Some, None}
-use Rattle.nl_store_lists.specs.Threads.{has, IsOnce}
+use Rattle.nl_store_lists.specs.Chained.{has, IsOnce}
 use Rattle.nl_store_records.specs.Records.{fields_at}
 use Rattle.nl_store_records.specs.declared.fields.Body.{Body}
 use Rattle.nl_store_records.specs.declared.fields.Body.TheVariants.{Turtle, Link}

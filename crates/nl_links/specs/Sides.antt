@@ -1,6 +1,6 @@
 -- Where the chains of a turtle's links begin and end.
 use Rattle.std.specs.Prelude.{◌≡◌, ℕ, ◌==◌, List, Option, Some, None, nat_eq, is_some, if◌then◌else◌}
-use Rattle.indexmap.specs.IndexMap.{get}
+use Rattle.indexmap.specs.IndexMap.{get, index_map_len}
 use Rattle.nl_store_records.specs.Filed.{no_keys, IsFiled}
 use Rattle.nl_store_records.specs.declared.places.Border.{Border}
 use Rattle.nl_store_records.specs.declared.record.Record.{Record}
@@ -36,6 +36,10 @@ with_last side to s = with_border side (record { first = (border_of side s).firs
 -- two empty chains
 abbrev pub no_links : Sides
 no_links = record { first = no_keys; second = no_keys }
+
+-- how many turtles are held
+abbrev pub held_count : Ends → ℕ
+held_count ends = index_map_len ends.map
 
 -- what is held of each turtle
 abbrev pub sides_at : Ends → ℕ → Option Sides

@@ -1,13 +1,14 @@
 //! The chains of links by their ends.
-ghost use Rattle.std.specs.Prelude.{◌≡◌, ◌==◌, ℕ, Bool, true, false, [], Option, Some, None, IsSome, IsSomeAnd, OnOk, OnErr};
+ghost use Rattle.std.specs.Prelude.{◌≡◌, ◌==◌, ◌+◌, ℕ, Bool, true, false, [], Option, Some, None, IsSome, IsSomeAnd, OnOk, OnErr};
 ghost use Rattle.std.specs.Option.{option_map};
-ghost use Rattle.nl_store_lists.specs.Threads.{at_number};
+ghost use Rattle.nl_store_lists.specs.Chained.{at_number};
 ghost use Rattle.nl_store_records.specs.Packed.{IsSmall};
 ghost use Rattle.nl_store_records.specs.Records.{record_at, fields_at};
 ghost use Rattle.nl_store_records.specs.declared.fields.Fields.{Fields};
 ghost use Rattle.nl_store_records.specs.declared.record.Record.{Record};
 ghost use Rattle.nl_index.specs.Index.{chain_of, first_of};
-ghost use Rattle.nl_links.specs.Sides.{sides_at, with_first, with_last, no_links, HoldsSame, SameSides, SetsSides};
+ghost use Rattle.nl_links.specs.Sides.{held_count, sides_at, with_first, with_last, no_links, HoldsSame, SameSides, SetsSides};
+ghost use Rattle.nl_links.specs.Hints.{FewHints};
 ghost use Rattle.nl_links.specs.Ends.{by_first, by_second, lists_joined, lists_parted, no_link_lists, HasEnds, Holds, IsEnded, IsFree, IsHeldBy, IsJoined, LinkLists, MayJoin, SameUnjoined};
 
 use crate::guesses::{Hints, guessed};
@@ -82,14 +83,15 @@ impl Ends {
     }
 
     /// Holds a turtle, with two empty chains. Refused for want of memory, it leaves all as it was.
-    pub fn enter(&mut self, _alloc: Global, turtle: u64) -> Result<(), NoMemory>
+    pub fn enter(&mut self, alloc: Global, turtle: u64) -> Result<(), NoMemory>
         requires { sides_at self.old turtle ≡ None }
         ensures held { OnOk result (Holds self.old self.new turtle true) }
         ensures ended { OnOk result ((at : ℕ → Option Record) (filed : ℕ → Bool) (lists : LinkLists) →
             IsEnded self.old at filed lists → IsEnded self.new at filed lists) }
         ensures kept { OnErr result (SameSides (sides_at self.old) (sides_at self.new)) }
+        ensures few { FewHints self.new.hints self.old.hints (held_count self.old + 1) }
     {
-        self.hold(turtle)
+        self.hold(alloc, turtle)
     }
 
     /// Holds a turtle no more, whose chains are empty. It takes no memory.
@@ -151,12 +153,13 @@ impl Ends {
         unlink(self, records, Side::Second, ends.second, key);
     }
 
-    fn hold(&mut self, turtle: u64) -> Result<(), NoMemory>
+    fn hold(&mut self, alloc: Global, turtle: u64) -> Result<(), NoMemory>
         ensures held { OnOk result (SetsSides (sides_at self.old) (sides_at self.new) turtle (Some no_links)) }
         ensures kept { OnErr result (SameSides (sides_at self.old) (sides_at self.new)) }
+        ensures few { FewHints self.new.hints self.old.hints (held_count self.old + 1) }
     {
         let index = self.map.len();
-        self.hints.room(index + 1)?;
+        self.hints.room(alloc, index + 1)?;
         self.hints.put(turtle, index);
         self.map.insert(turtle, Sides::empty())?;
         Ok(())

@@ -1,7 +1,7 @@
 //! Entries of maps by serial, looked for where they may stand.
-ghost use Rattle.std.specs.Prelude.{◌≡◌, ◌≤◌, ◌%◌, ◌<◌, [], length, nat_eq, Some, IfSome, OnOk};
+ghost use Rattle.std.specs.Prelude.{◌≡◌, ◌≤◌, ◌*◌, ◌%◌, ◌<◌, [], length, max, nat_eq, Some, IfSome, OnOk};
 ghost use Rattle.indexmap.specs.IndexMap.{get};
-ghost use Rattle.nl_links.specs.Hints.{hint_of, with_hint, SameHints};
+ghost use Rattle.nl_links.specs.Hints.{hint_of, with_hint, FewHints, SameHints};
 
 use indexmap::IndexMap;
 use nl_fixed::NoMemory;
@@ -40,9 +40,12 @@ impl Hints {
         }
     }
 
-    /// Makes room for the hints of so many entries. Whatever it answers, each serial has the hint that it had.
-    pub fn room(&mut self, entries: usize) -> Result<(), NoMemory>
+    /// Makes room for the hints of so many entries, and for less than twice as many where there wasn't. Whatever it answers, each serial has
+    /// the hint that it had.
+    pub fn room(&mut self, _alloc: Global, entries: usize) -> Result<(), NoMemory>
         ensures room { OnOk result (entries ≤ length self.new) }
+        ensures kept { entries ≤ length self.old → self.new ≡ self.old }
+        ensures few { FewHints self.new self.old entries }
         ensures same { SameHints self.new self.old }
     {
         while self.indices.len() < entries {
@@ -54,6 +57,7 @@ impl Hints {
     // Makes room for twice as many hints, or for the first ones.
     fn grow(&mut self) -> Result<(), NoMemory>
         ensures more { OnOk result (length self.old < length self.new) }
+        ensures few { length self.new ≤ max 64 (2 * length self.old) }
         ensures same { SameHints self.new self.old }
     {
         if self.indices.is_empty() {

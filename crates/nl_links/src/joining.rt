@@ -1,7 +1,7 @@
 //! One chain of a turtle's links.
 ghost use Rattle.std.specs.Prelude.{◌≡◌, ◌<◌, ℕ, List, Option, Some, None, IsSome};
 ghost use Rattle.std.specs.Option.{option_map};
-ghost use Rattle.nl_store_lists.specs.Threads.{at_number};
+ghost use Rattle.nl_store_lists.specs.Chained.{at_number};
 ghost use Rattle.nl_store_records.specs.Records.{record_at};
 ghost use Rattle.nl_store_records.specs.Filed.{after, before, IsFiled, IsHeld, KeepsOthers, Redirects, Stays};
 ghost use Rattle.nl_index.specs.Rows.{put_in, take_from};

@@ -9,7 +9,7 @@ use Rattle.nl_draw.specs.Stream.{first_state, next_state, word_of, state_after, 
 use Rattle.nl_words.specs.declared.codes.TheConstants as code
 use Rattle.nl_words.specs.Row.{Code}
 use Rattle.nl_listops_series.specs.declared.fail.ListFail.TheVariants.{WrongType, OutOfList, ZeroDivide, Domain, TooFew}
-use Rattle.nl_listops_series.specs.Outcomes.{Outcome, outcome_map}
+use Rattle.nl_listops_series.specs.Outcomes.{ListOutcome, outcome_map}
 use Rattle.nl_listops.specs.Answers.{applied}
 
 -- values
@@ -32,7 +32,7 @@ abbrev truth : Bool → Plain
 truth holds = PlainTruth holds
 
 -- what a word answers where nothing lives
-abbrev gives : Code → List Plain → Outcome Plain
+abbrev gives : Code → List Plain → ListOutcome Plain
 gives word inputs = outcome_map (λ answer. answer.0) (applied no_life word inputs 0)
 
 sentence_takes_lists_apart : gives code.SENTENCE (l (n 1 ∷ n 2 ∷ []) ∷ n 3 ∷ []) ≡ Ok (l (n 1 ∷ n 2 ∷ n 3 ∷ []))

@@ -13,9 +13,9 @@ use Rattle.nl_value.specs.Order.{comes_first}
 use Rattle.nl_value.specs.Views.{plain}
 use Rattle.nl_value.specs.declared.values.Value.{Value}
 use Rattle.nl_listops_series.specs.declared.fail.ListFail.TheVariants.{OutOfList, TooLarge}
-use Rattle.nl_listops_series.specs.Outcomes.{Outcome, and_then, outcome_map, or_fail, list_value}
+use Rattle.nl_listops_series.specs.Outcomes.{ListOutcome, and_then, outcome_map, or_fail, list_value}
 use Rattle.nl_listops_series.specs.Lists.{items_in, sentence_of}
-use Rattle.nl_listops_series.specs.Places.{first_of, last_of, without_first, without_last, item_at, without_at, part_of, between, place_of, place_below}
+use Rattle.nl_listops_series.specs.Places.{first_of, last_of, without_first, without_last, item_at, without_at, part_of, between, index_of, place_below}
 use Rattle.nl_listops_series.specs.Ranges.{range_of, number_list}
 use Rattle.nl_listops_series.specs.Searches.{each_once, without_item, times_in, most_times}
 use Rattle.nl_listops_series.specs.Sorts.{sortable, is_of, sorted_kind}
@@ -46,32 +46,32 @@ use Rattle.nl_listops.proofs.Parts.{head, tail, onto, pass_both, pass_take, pass
 
 module _ (w : Living) where
   -- what the outcome answers fits, as a value and as a list of values
-  abbrev Fit : Outcome Plain → Type 0
+  abbrev Fit : ListOutcome Plain → Type 0
   Fit o = IfOk o (λ value. fits w value ≡ true)
 
   abbrev All : List Plain → Type 0
   All items = list_all (fits w) items ≡ true
 
-  abbrev FitAll : Outcome (List Plain) → Type 0
+  abbrev FitAll : ListOutcome (List Plain) → Type 0
   FitAll o = IfOk o All
 
   -- ---- answers of one kind
 
-  then_fit : {X : Type 0} (o : Outcome X) (next : X → Outcome Plain) → ((x : X) → Ok x ≡ o → Fit (next x)) → Fit (and_then o next)
+  then_fit : {X : Type 0} (o : ListOutcome X) (next : X → ListOutcome Plain) → ((x : X) → Ok x ≡ o → Fit (next x)) → Fit (and_then o next)
   then_fit (Ok x) next fit = fit x refl
   then_fit (Err fail) next fit = tt
 
-  kind_fit : {X : Type 0} (value : X → Plain) → ((x : X) → fits w (value x) ≡ true) → (o : Outcome X) → Fit (outcome_map value o)
+  kind_fit : {X : Type 0} (value : X → Plain) → ((x : X) → fits w (value x) ≡ true) → (o : ListOutcome X) → Fit (outcome_map value o)
   kind_fit value fit (Ok x) = fit x
   kind_fit value fit (Err fail) = tt
 
-  number_fit : (o : Outcome ℤ) → Fit (number_answer o)
+  number_fit : (o : ListOutcome ℤ) → Fit (number_answer o)
   number_fit o = kind_fit PlainNumber (λ n. refl) o
 
-  truth_fit : (o : Outcome Bool) → Fit (truth_answer o)
+  truth_fit : (o : ListOutcome Bool) → Fit (truth_answer o)
   truth_fit o = kind_fit PlainTruth (λ b. refl) o
 
-  text_fit : (o : Outcome Bytes) → Fit (text_answer o)
+  text_fit : (o : ListOutcome Bytes) → Fit (text_answer o)
   text_fit o = kind_fit PlainWords (λ bytes. refl) o
 
   place_fit : (place : Option ℕ) → Fit (place_answer place)
@@ -81,7 +81,7 @@ module _ (w : Living) where
   value_fit : (items : List Plain) → All items → fits w (list_value items) ≡ true
   value_fit items all = sym (items_fit w items) ∙ all
 
-  list_fit : (o : Outcome (List Plain)) → FitAll o → Fit (list_answer o)
+  list_fit : (o : ListOutcome (List Plain)) → FitAll o → Fit (list_answer o)
   list_fit (Ok items) all = value_fit items all
   list_fit (Err fail) all = tt
 
@@ -107,7 +107,7 @@ module _ (w : Living) where
   last_fit items all = got_fit items (Some (length items - 1)) (slice_get items (length items - 1)) refl all
 
   item_fit : (number : ℤ) (items : List Plain) → All items → Fit (item_at number items)
-  item_fit number items all = got_fit items (place_of number) (option_and_then (slice_get items) (place_of number)) refl all
+  item_fit number items all = got_fit items (index_of number) (option_and_then (slice_get items) (index_of number)) refl all
 
   but_first_fit : (items : List Plain) → All items → FitAll (without_first items)
   but_first_fit [] all = tt
@@ -117,7 +117,7 @@ module _ (w : Living) where
   but_last_fit [] all = tt
   but_last_fit (x ∷ xs) all = pass_take (fits w) (length xs) (x ∷ xs) all
 
-  then_all : {X : Type 0} (o : Outcome X) (next : X → List Plain) → ((x : X) → All (next x)) → FitAll (and_then o (λ x. Ok (next x)))
+  then_all : {X : Type 0} (o : ListOutcome X) (next : X → List Plain) → ((x : X) → All (next x)) → FitAll (and_then o (λ x. Ok (next x)))
   then_all (Ok x) next fit = fit x
   then_all (Err fail) next fit = tt
 
@@ -156,7 +156,7 @@ module _ (w : Living) where
   sentence_fit [] all = refl
   sentence_fit (x ∷ xs) all = pass_both (fits w) (items_in x) (sentence_of xs) (in_fit x (head (fits w) x xs all)) (sentence_fit xs (tail (fits w) x xs all))
 
-  range_fit : (o : Outcome (List ℤ)) → Fit (outcome_map number_list o)
+  range_fit : (o : ListOutcome (List ℤ)) → Fit (outcome_map number_list o)
   range_fit (Ok ns) = value_fit (map PlainNumber ns) (numbers_fit ns)
   range_fit (Err fail) = tt
 
@@ -312,7 +312,7 @@ module _ (w : Living) where
       then_fit (number_at inputs 0) _ (λ n is. then_fit (value_at inputs 1) _ (λ v more. then_fit (value_at inputs 2) _ (λ u last. put_at_fit which n v u (input_fits w inputs 1 v all more) (input_fits w inputs 2 u all last))))
   answer_fit (word.Search which) inputs all = then_fit (value_at inputs 0) _ (λ v is. then_fit (value_at inputs 1) _ (λ series more. sought_fit which v series (input_fits w inputs 1 series all more)))
   answer_fit word.Sublist inputs all =
-      then_fit (list_at inputs 0) _ (λ items is. then_fit (number_at inputs 1) _ (λ a more. then_fit (number_at inputs 2) _ (λ b last. list_fit (part_of a b items) (between_fit (place_of a) (place_of b) items (list_input_fits w inputs 0 items all is)))))
+      then_fit (list_at inputs 0) _ (λ items is. then_fit (number_at inputs 1) _ (λ a more. then_fit (number_at inputs 2) _ (λ b last. list_fit (part_of a b items) (between_fit (index_of a) (index_of b) items (list_input_fits w inputs 0 items all is)))))
   answer_fit word.Substring inputs all = then_fit (text_at inputs 0) _ (λ text is. then_fit (number_at inputs 1) _ (λ a more. then_fit (number_at inputs 2) _ (λ b last. text_fit _)))
   answer_fit (word.Statistic which) inputs all = then_fit (list_at inputs 0) _ (λ items is. number_fit _)
   answer_fit word.ShadeOf inputs all = then_fit (number_at inputs 0) _ (λ a is. then_fit (number_at inputs 1) _ (λ b more. truth_fit _))
@@ -321,14 +321,14 @@ module _ (w : Living) where
   answer_fit (word.Draws which) inputs all = tt
 
   -- beside the state of the stream
-  abbrev FitBeside : Outcome (Plain × ℕ) → Type 0
+  abbrev FitBeside : ListOutcome (Plain × ℕ) → Type 0
   FitBeside o = IfOk o (λ answer. fits w answer.0 ≡ true)
 
-  beside_fit : (o : Outcome Plain) (state : ℕ) → Fit o → FitBeside (outcome_map (λ value. (value, state)) o)
+  beside_fit : (o : ListOutcome Plain) (state : ℕ) → Fit o → FitBeside (outcome_map (λ value. (value, state)) o)
   beside_fit (Ok value) state fit = fit
   beside_fit (Err fail) state fit = tt
 
-  then_beside : {X : Type 0} (o : Outcome X) (next : X → Outcome (Plain × ℕ)) → ((x : X) → Ok x ≡ o → FitBeside (next x)) → FitBeside (and_then o next)
+  then_beside : {X : Type 0} (o : ListOutcome X) (next : X → ListOutcome (Plain × ℕ)) → ((x : X) → Ok x ≡ o → FitBeside (next x)) → FitBeside (and_then o next)
   then_beside (Ok x) next fit = fit x refl
   then_beside (Err fail) next fit = tt
 
@@ -341,7 +341,7 @@ module _ (w : Living) where
   kept_by answer true fit = fit
   kept_by answer false fit = tt
 
-  kept_fit : (o : Outcome (Plain × ℕ)) → FitBeside o → FitBeside (and_then o kept_answer)
+  kept_fit : (o : ListOutcome (Plain × ℕ)) → FitBeside o → FitBeside (and_then o kept_answer)
   kept_fit (Ok answer) fit = kept_by answer (within_limits answer.0) fit
   kept_fit (Err fail) fit = tt
 
@@ -371,6 +371,6 @@ module _ (w : Living) where
   word_fit word.ScaleColor inputs state all = plain_fit word.ScaleColor inputs state all
 
   -- what a call answers
-  pub given_fit : (result : Outcome Value) (state : ℕ) (o : Outcome (Plain × ℕ)) → Answers result state o → FitBeside o → IfOk result (λ value. fits w (plain value) ≡ true)
+  pub given_fit : (result : ListOutcome Value) (state : ℕ) (o : ListOutcome (Plain × ℕ)) → Answers result state o → FitBeside o → IfOk result (λ value. fits w (plain value) ≡ true)
   given_fit (Ok value) state o is fit = subst FitBeside is fit
   given_fit (Err fail) state o is fit = tt

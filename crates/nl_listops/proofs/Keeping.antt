@@ -6,7 +6,7 @@ use Rattle.nl_value.specs.Living.{Living}
 use Rattle.nl_value.specs.Limits.{within_limits}
 use Rattle.nl_value.specs.Views.{plain}
 use Rattle.nl_listops_series.specs.declared.fail.ListFail.TheVariants.{TooLarge}
-use Rattle.nl_listops_series.specs.Outcomes.{Outcome, and_then, outcome_map, kept_within, limited, Gives}
+use Rattle.nl_listops_series.specs.Outcomes.{ListOutcome, and_then, outcome_map, kept_within, limited, Gives}
 use Rattle.nl_listops.specs.declared.words.ValueWord.{ValueWord}
 use Rattle.nl_listops.specs.declared.words.ValueWord.TheVariants as word
 use Rattle.nl_listops.specs.declared.words.Draw.{Draw}
@@ -22,7 +22,7 @@ by_limit : (value : Plain) (state : ℕ) (b : Bool) → (if b then Ok (value, st
 by_limit value state true = refl
 by_limit value state false = refl
 
-kept_beside : (o : Outcome Plain) (state : ℕ) → and_then (outcome_map (beside state) o) kept_answer ≡ outcome_map (beside state) (limited o)
+kept_beside : (o : ListOutcome Plain) (state : ℕ) → and_then (outcome_map (beside state) o) kept_answer ≡ outcome_map (beside state) (limited o)
 kept_beside (Ok value) state = by_limit value state (within_limits value)
 kept_beside (Err fail) state = refl
 
@@ -30,7 +30,7 @@ again_by : (value : Plain) (b : Bool) → within_limits value ≡ b → and_then
 again_by value true is = ap (λ b. if b then Ok value else Err TooLarge) is
 again_by value false is = refl
 
-limited_again : (o : Outcome Plain) → limited (limited o) ≡ limited o
+limited_again : (o : ListOutcome Plain) → limited (limited o) ≡ limited o
 limited_again (Ok value) = again_by value (within_limits value) refl
 limited_again (Err fail) = refl
 
@@ -60,10 +60,10 @@ told w word.ShadeOf inputs state never = kept_beside (answer_of w word.ShadeOf i
 told w word.ScaleColor inputs state never = kept_beside (answer_of w word.ScaleColor inputs) state
 
 -- what a call gives beside a state that stays
-pub gives_beside : (result : Outcome Value) (state : ℕ) (o : Outcome Plain) → Gives (outcome_map plain result) o → Answers result state (outcome_map (beside state) o)
+pub gives_beside : (result : ListOutcome Value) (state : ℕ) (o : ListOutcome Plain) → Gives (outcome_map plain result) o → Answers result state (outcome_map (beside state) o)
 gives_beside (Ok value) state o is = ap (outcome_map (beside state)) is
 gives_beside (Err fail) state o is = λ other. ap (outcome_map (beside state)) (is other)
 
-pub stays_at : (result : Outcome Value) (state : ℕ) → OnErr result (state ≡ state)
+pub stays_at : (result : ListOutcome Value) (state : ℕ) → OnErr result (state ≡ state)
 stays_at (Ok value) state = tt
 stays_at (Err fail) state = refl

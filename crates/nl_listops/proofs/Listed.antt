@@ -9,7 +9,7 @@ use Rattle.nl_value.specs.declared.values.Value.{Value}
 use Rattle.nl_value.specs.Plain.{Plain, Plains, no_items, item_then, PlainNumber, PlainTruth, PlainWords, PlainItems, PlainTurtle, PlainPatch, PlainLink, PlainNobody, PlainSet, plains, items_of}
 use Rattle.nl_value.specs.Views.{plain}
 use Rattle.nl_listops_series.specs.declared.fail.ListFail.{ListFail}
-use Rattle.nl_listops_series.specs.Outcomes.{Outcome, and_then}
+use Rattle.nl_listops_series.specs.Outcomes.{ListOutcome, and_then}
 use Rattle.nl_listops.specs.Inputs.{as_number, as_list, value_at, list_at, numbers_in}
 
 -- the items of a list as a value are the list
@@ -24,17 +24,17 @@ plains_of_items (item_then p ps) = ap (item_then p) (plains_of_items ps)
 -- ---- numbers so far
 
 -- numbers, and behind them those of the outcome
-abbrev pub behind : List ℤ → Outcome (List ℤ) → Outcome (List ℤ)
+abbrev pub behind : List ℤ → ListOutcome (List ℤ) → ListOutcome (List ℤ)
 behind ns outcome = and_then outcome (λ rest. Ok (ns ++ rest))
 
-behind_none : (o : Outcome (List ℤ)) → o ≡ behind [] o
+behind_none : (o : ListOutcome (List ℤ)) → o ≡ behind [] o
 behind_none (Ok ns) = refl
 behind_none (Err fail) = refl
 
 pub from_first : (values : List Value) → numbers_in (map plain values) ≡ behind [] (numbers_in (map plain values))
 from_first values = behind_none (numbers_in (map plain values))
 
-behind_one : (ns : List ℤ) (n : ℤ) (o : Outcome (List ℤ)) → behind ns (and_then o (λ rest. Ok (n ∷ rest))) ≡ behind (ns ++ n ∷ []) o
+behind_one : (ns : List ℤ) (n : ℤ) (o : ListOutcome (List ℤ)) → behind ns (and_then o (λ rest. Ok (n ∷ rest))) ≡ behind (ns ++ n ∷ []) o
 behind_one ns n (Ok rest) = ap Ok (sym (append_assoc ns (n ∷ []) rest))
 behind_one ns n (Err fail) = refl
 
@@ -119,6 +119,6 @@ list_told (PlainSet set) items is = cc
 pub list_input_fits : (w : Living) (inputs : List Plain) (at : ℕ) (items : List Plain) → list_all (fits w) inputs ≡ true → Ok items ≡ list_at inputs at → list_all (fits w) items ≡ true
 list_input_fits w inputs at items all is = by (value_at inputs at) refl is
   where
-    by : (o : Outcome Plain) → value_at inputs at ≡ o → Ok items ≡ and_then o as_list → list_all (fits w) items ≡ true
+    by : (o : ListOutcome Plain) → value_at inputs at ≡ o → Ok items ≡ and_then o as_list → list_all (fits w) items ≡ true
     by (Ok p) found given = items_fit w items ∙ (ap (fits w) (sym (list_told p items given)) ∙ input_fits w inputs at p all (sym found))
     by (Err fail) found given = cc

@@ -4,44 +4,44 @@ use Rattle.std.specs.Prelude.{ℕ, ℤ, Bool, Ok, Err, List, [], ◌∷◌, slic
 use Rattle.nl_fixed.specs.Nouns.{Bytes}
 use Rattle.nl_value.specs.Plain.{Plain, PlainNumber, PlainTruth, PlainWords, PlainItems, items_of}
 use Rattle.nl_listops_series.specs.declared.fail.ListFail.TheVariants.{WrongType}
-use Rattle.nl_listops_series.specs.Outcomes.{Outcome, and_then, or_fail}
+use Rattle.nl_listops_series.specs.Outcomes.{ListOutcome, and_then, or_fail}
 
-abbrev pub value_at : List Plain → ℕ → Outcome Plain
+abbrev pub value_at : List Plain → ℕ → ListOutcome Plain
 value_at inputs at = or_fail WrongType (slice_get inputs at)
 
 -- ---- what a value is taken for
 
-abbrev pub as_number : Plain → Outcome ℤ
+abbrev pub as_number : Plain → ListOutcome ℤ
 as_number (PlainNumber count) = Ok count
 as_number value = Err WrongType
 
-abbrev pub as_truth : Plain → Outcome Bool
+abbrev pub as_truth : Plain → ListOutcome Bool
 as_truth (PlainTruth truth) = Ok truth
 as_truth value = Err WrongType
 
-abbrev pub as_text : Plain → Outcome Bytes
+abbrev pub as_text : Plain → ListOutcome Bytes
 as_text (PlainWords bytes) = Ok bytes
 as_text value = Err WrongType
 
-abbrev pub as_list : Plain → Outcome (List Plain)
+abbrev pub as_list : Plain → ListOutcome (List Plain)
 as_list (PlainItems items) = Ok (items_of items)
 as_list value = Err WrongType
 
 -- ---- the input at a place
 
-abbrev pub number_at : List Plain → ℕ → Outcome ℤ
+abbrev pub number_at : List Plain → ℕ → ListOutcome ℤ
 number_at inputs at = and_then (value_at inputs at) as_number
 
-abbrev pub truth_at : List Plain → ℕ → Outcome Bool
+abbrev pub truth_at : List Plain → ℕ → ListOutcome Bool
 truth_at inputs at = and_then (value_at inputs at) as_truth
 
-abbrev pub text_at : List Plain → ℕ → Outcome Bytes
+abbrev pub text_at : List Plain → ℕ → ListOutcome Bytes
 text_at inputs at = and_then (value_at inputs at) as_text
 
-abbrev pub list_at : List Plain → ℕ → Outcome (List Plain)
+abbrev pub list_at : List Plain → ℕ → ListOutcome (List Plain)
 list_at inputs at = and_then (value_at inputs at) as_list
 
 -- all of the values as numbers
-abbrev pub numbers_in : List Plain → Outcome (List ℤ)
+abbrev pub numbers_in : List Plain → ListOutcome (List ℤ)
 numbers_in [] = Ok []
 numbers_in (value ∷ values) = and_then (as_number value) (λ n. and_then (numbers_in values) (λ ns. Ok (n ∷ ns)))

@@ -4,7 +4,7 @@ use Rattle.std.specs.Prelude.{ℕ, ◌*◌, ℤ, pos, Bool, Result, Ok, if◌the
 use Rattle.std.specs.Ordering.{int_eq}
 use Rattle.nl_fixed.specs.declared.number.NumFault.{NumFault}
 use Rattle.nl_fixed.specs.Numbers.{one, and_next, sum_of, difference_of, product_of, quotient_of, floor_of}
-use Rattle.nl_listops_series.specs.Outcomes.{Outcome, and_then, numbered}
+use Rattle.nl_listops_series.specs.Outcomes.{ListOutcome, and_then, numbered}
 use Rattle.nl_listops_series.specs.Statistics.{lesser, larger}
 
 -- how many shades a color has
@@ -20,7 +20,7 @@ abbrev pub range_of_shades : ℤ → Result ℤ NumFault
 range_of_shades color = and_next (quotient_of color (pos ten)) (λ tenth. Ok (floor_of tenth))
 
 -- `shade-of?`
-abbrev pub are_shades : ℤ → ℤ → Outcome Bool
+abbrev pub are_shades : ℤ → ℤ → ListOutcome Bool
 are_shades a b = and_then (numbered (range_of_shades a)) (λ first. and_then (numbered (range_of_shades b)) (λ second. Ok (int_eq first second)))
 
 -- the darkest shade of the color

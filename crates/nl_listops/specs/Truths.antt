@@ -6,7 +6,7 @@ use Rattle.nl_value.specs.Living.{Living}
 use Rattle.nl_value.specs.Equality.{same_values}
 use Rattle.nl_value.specs.Order.{comes_before}
 use Rattle.nl_listops_series.specs.declared.fail.ListFail.TheVariants.{WrongType}
-use Rattle.nl_listops_series.specs.Outcomes.{Outcome, outcome_map, or_fail}
+use Rattle.nl_listops_series.specs.Outcomes.{ListOutcome, outcome_map, or_fail}
 use Rattle.nl_listops.specs.declared.words.OfTruths.{OfTruths}
 use Rattle.nl_listops.specs.declared.words.OfTruths.TheVariants.{And, Or, Xor}
 use Rattle.nl_listops.specs.declared.words.Comparison.{Comparison}
@@ -18,10 +18,10 @@ truth_of_two Or a b = a || b
 truth_of_two Xor a b = not (beq a b)
 
 -- whether the first value comes before the second, which only values that have an order tell
-abbrev pub ordered : Living → Plain → Plain → Outcome Bool
+abbrev pub ordered : Living → Plain → Plain → ListOutcome Bool
 ordered w a b = or_fail WrongType (comes_before w a b)
 
-abbrev pub comparison_of : Living → Comparison → Plain → Plain → Outcome Bool
+abbrev pub comparison_of : Living → Comparison → Plain → Plain → ListOutcome Bool
 comparison_of w Equal a b = Ok (same_values w a b)
 comparison_of w NotEqual a b = Ok (not (same_values w a b))
 comparison_of w Less a b = ordered w a b

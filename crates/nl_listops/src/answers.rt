@@ -16,6 +16,7 @@ use crate::words::{
     PutAtEnd, PutAtPlace, Search, Statistic, ValueWord, value_word,
 };
 use nl_draw::Stream;
+use nl_fixed::Str;
 use nl_listops_series::ListFail;
 use nl_listops_series::lists::part_of;
 use nl_listops_series::texts::text_part_of;
@@ -87,7 +88,7 @@ impl OfList {
             Gives (outcome_map plain result) (list_word w self (map plain inputs.now)) }
     {
         let items = list_at(inputs, 0)?;
-        Ok(Value::Items(self.of(alloc, items, life)?))
+        Ok(Value::items(alloc, self.of(alloc, items, life)?)?)
     }
 }
 
@@ -97,7 +98,7 @@ impl PutAtEnd {
     {
         let value = value_at(inputs, 0)?;
         let items = list_at(inputs, 1)?;
-        Ok(Value::Items(self.of(alloc, value, items)?))
+        Ok(Value::items(alloc, self.of(alloc, value, items)?)?)
     }
 }
 
@@ -150,17 +151,18 @@ fn sublist(alloc: Global, inputs: &[Value]) -> Result<Value, ListFail>
     let items = list_at(inputs, 0)?;
     let first = number_at(inputs, 1)?;
     let second = number_at(inputs, 2)?;
-    Ok(Value::Items(part_of(alloc, first, second, items)?))
+    Ok(Value::items(alloc, part_of(alloc, first, second, items)?)?)
 }
 
 /// `substring`
 fn substring(alloc: Global, inputs: &[Value]) -> Result<Value, ListFail>
     ensures { Gives (outcome_map plain result) (substring_word (map plain inputs.now)) }
 {
-    let text = text_at(inputs, 0)?;
+    let empty = Str::of_vec(Vec::new(alloc));
+    let text = text_at(inputs, 0, &empty)?;
     let first = number_at(inputs, 1)?;
     let second = number_at(inputs, 2)?;
-    Ok(Value::Words(text_part_of(alloc, first, second, text)?))
+    Ok(Value::words(alloc, text_part_of(alloc, first, second, text)?)?)
 }
 
 impl Statistic {

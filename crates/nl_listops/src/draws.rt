@@ -100,7 +100,16 @@ impl Draw {
             }
             Draw::Shuffle => {
                 let items = list_at(inputs, 0)?;
-                Ok(Value::Items(shuffled(alloc, items, stream)?))
+                let before = stream.save();
+                let mixed = shuffled(alloc, items, stream)?;
+                match Value::items(alloc, mixed) {
+                    Ok(value) => Ok(value),
+                    Err(refused) => {
+                        // An error draws nothing.
+                        stream.restore(before);
+                        Err(ListFail::from(refused))
+                    }
+                }
             }
         }
     }

@@ -1,5 +1,5 @@
 //! The inputs of a word, by place. One that is of another kind than the word takes there is WrongType, as one that is missing.
-ghost use Rattle.std.specs.Prelude.{◌≡◌, map};
+ghost use Rattle.std.specs.Prelude.{◌≡◌, [], map};
 ghost use Rattle.nl_value.specs.Views.{plain};
 ghost use Rattle.nl_value.specs.Plain.{PlainWords};
 ghost use Rattle.nl_listops_series.specs.Outcomes.{Gives, outcome_map};
@@ -29,12 +29,14 @@ fn as_truth(value: &Value) -> Result<bool, ListFail>
     }
 }
 
-/// The value as a text.
-pub(crate) fn as_text(value: &Value) -> Result<&Str, ListFail>
+/// The value as a text. One that takes no memory is the empty text that is given.
+pub(crate) fn as_text<'a>(value: &'a Value, empty: &'a Str) -> Result<&'a Str, ListFail>
+    requires { empty.now ≡ [] }
     ensures { outcome_map (λ text. text.now) result ≡ as_text (plain value.now) }
 {
     match value {
-        Value::Words(text) => Ok(text),
+        Value::Words(text) => Ok(&**text),
+        Value::Blank => Ok(empty),
         _ => Err(ListFail::WrongType),
     }
 }
@@ -43,7 +45,7 @@ fn as_list(value: &Value) -> Result<&Items, ListFail>
     ensures { outcome_map (λ items. items.now) result ≡ as_list (plain value.now) }
 {
     match value {
-        Value::Items(items) => Ok(items),
+        Value::Items(items) => Ok(&**items),
         _ => Err(ListFail::WrongType),
     }
 }
@@ -73,10 +75,15 @@ pub(crate) fn truth_at(inputs: &[Value], at: usize) -> Result<bool, ListFail>
 }
 
 /// The input at a place, as a text.
-pub(crate) fn text_at(inputs: &[Value], at: usize) -> Result<&Str, ListFail>
+pub(crate) fn text_at<'a>(
+    inputs: &'a [Value],
+    at: usize,
+    empty: &'a Str,
+) -> Result<&'a Str, ListFail>
+    requires { empty.now ≡ [] }
     ensures { outcome_map (λ text. text.now) result ≡ text_at (map plain inputs.now) at }
 {
-    as_text(value_at(inputs, at)?)
+    as_text(value_at(inputs, at)?, empty)
 }
 
 /// The input at a place, as a list.

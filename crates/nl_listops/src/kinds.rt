@@ -36,7 +36,7 @@ impl KindTest {
         match self {
             KindTest::Number => matches!(value, Value::Number(_)),
             KindTest::Boolean => matches!(value, Value::Truth(_)),
-            KindTest::Text => matches!(value, Value::Words(_)),
+            KindTest::Text => matches!(value, Value::Words(_) | Value::Blank),
             KindTest::List => matches!(value, Value::Items(_)),
             KindTest::Agent => is_agent(value, life),
             KindTest::Patch => matches!(value, Value::Patch(_)),

@@ -45,7 +45,7 @@ impl Fixed {
             Fixed::True => Ok(Value::Truth(true)),
             Fixed::False => Ok(Value::Truth(false)),
             Fixed::Nobody => Ok(Value::Nobody),
-            Fixed::BaseColors => Ok(Value::Items(primary_colors(alloc)?)),
+            Fixed::BaseColors => Ok(Value::items(alloc, primary_colors(alloc)?)?),
         }
     }
 }
@@ -54,7 +54,7 @@ impl Fixed {
 fn listed(alloc: Global, values: &[Value]) -> Result<Value, ListFail>
     ensures { Gives (outcome_map plain result) (kept_within (list_value (map plain values.now))) }
 {
-    kept_within(Value::Items(list_of(alloc, values)?))
+    kept_within(Value::items(alloc, list_of(alloc, values)?)?)
 }
 
 /// The list of the values, with the lists among them taken apart.
@@ -62,7 +62,7 @@ fn sentenced(alloc: Global, values: &[Value]) -> Result<Value, ListFail>
     ensures { let whole = sentence_of (map plain values.now) in
         Gives (outcome_map plain result) (kept_within (list_value whole)) }
 {
-    kept_within(Value::Items(sentence(alloc, values)?))
+    kept_within(Value::items(alloc, sentence(alloc, values)?)?)
 }
 
 /// The text of the values in one.
@@ -71,7 +71,7 @@ fn worded<L: Life>(alloc: Global, values: &[Value], life: &L) -> Result<Value, L
     ensures { let w = L.living life.now in
         Gives (outcome_map plain result) (kept_within (PlainWords (word_of w (map plain values.now)))) }
 {
-    Ok(Value::Words(word(alloc, values, life)?))
+    Ok(Value::words(alloc, word(alloc, values, life)?)?)
 }
 
 /// The numbers in a row that the values tell.
@@ -79,7 +79,7 @@ fn ranged(alloc: Global, values: &[Value]) -> Result<Value, ListFail>
     ensures { Gives (outcome_map plain result) (limited (range_answer (map plain values.now))) }
 {
     let numbers = numbers_in(alloc, values)?;
-    Ok(Value::Items(range(alloc, &numbers)?))
+    Ok(Value::items(alloc, range(alloc, &numbers)?)?)
 }
 
 impl OfMany {

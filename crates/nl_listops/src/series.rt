@@ -2,6 +2,7 @@
 ghost use Rattle.std.specs.Prelude.{◌≡◌, IsTrue, IfOk};
 ghost use Rattle.std.specs.List.{list_all};
 ghost use Rattle.nl_value.specs.Living.{fits};
+ghost use Rattle.nl_value.specs.Plain.{PlainWords};
 ghost use Rattle.nl_value.specs.Views.{plain};
 ghost use Rattle.nl_listops_series.specs.Outcomes.{Gives, outcome_map};
 ghost use Rattle.nl_listops.specs.Answers.{place_answer, list_answer, of_items, of_text, of_series, at_place_of_items, at_place_of_text, at_place, put_in_items, put_in_text, put_at_place, sought_in_items, sought_in_text, not_in_text, value_in_text, sought_in};
@@ -23,11 +24,11 @@ impl OfSeries {
         match self {
             OfSeries::First => lists::first(alloc, items),
             OfSeries::Last => lists::last(alloc, items),
-            OfSeries::ButFirst => Ok(Value::Items(lists::without_first(alloc, items)?)),
-            OfSeries::ButLast => Ok(Value::Items(lists::without_last(alloc, items)?)),
+            OfSeries::ButFirst => Ok(Value::items(alloc, lists::without_first(alloc, items)?)?),
+            OfSeries::ButLast => Ok(Value::items(alloc, lists::without_last(alloc, items)?)?),
             OfSeries::Length => Ok(Value::Number(counted(items.len())?)),
             OfSeries::IsEmpty => Ok(Value::Truth(items.as_slice().is_empty())),
-            OfSeries::Reverse => Ok(Value::Items(lists::reversed(alloc, items)?)),
+            OfSeries::Reverse => Ok(Value::items(alloc, lists::reversed(alloc, items)?)?),
         }
     }
 
@@ -35,13 +36,13 @@ impl OfSeries {
         ensures { Gives (outcome_map plain result) (of_text self text.now) }
     {
         match self {
-            OfSeries::First => Ok(Value::Words(texts::first_character(alloc, text)?)),
-            OfSeries::Last => Ok(Value::Words(texts::last_character(alloc, text)?)),
-            OfSeries::ButFirst => Ok(Value::Words(texts::text_without_first(alloc, text)?)),
-            OfSeries::ButLast => Ok(Value::Words(texts::text_without_last(alloc, text)?)),
+            OfSeries::First => Ok(Value::words(alloc, texts::first_character(alloc, text)?)?),
+            OfSeries::Last => Ok(Value::words(alloc, texts::last_character(alloc, text)?)?),
+            OfSeries::ButFirst => Ok(Value::words(alloc, texts::text_without_first(alloc, text)?)?),
+            OfSeries::ButLast => Ok(Value::words(alloc, texts::text_without_last(alloc, text)?)?),
             OfSeries::Length => Ok(Value::Number(counted(text.char_count())?)),
             OfSeries::IsEmpty => Ok(Value::Truth(text.as_bytes().is_empty())),
-            OfSeries::Reverse => Ok(Value::Words(texts::text_reversed(alloc, text)?)),
+            OfSeries::Reverse => Ok(Value::words(alloc, texts::text_reversed(alloc, text)?)?),
         }
     }
 
@@ -52,6 +53,7 @@ impl OfSeries {
         match series {
             Value::Items(items) => self.of_items(alloc, items),
             Value::Words(text) => self.of_text(alloc, text),
+            Value::Blank => self.of_text(alloc, &Str::of_vec(Vec::new(alloc))),
             _ => Err(ListFail::WrongType),
         }
     }
@@ -63,7 +65,10 @@ impl AtPlace {
     {
         match self {
             AtPlace::Item => lists::item_at(alloc, number, items),
-            AtPlace::RemoveItem => Ok(Value::Items(lists::without_at(alloc, number, items)?)),
+            AtPlace::RemoveItem => Ok(Value::items(
+                alloc,
+                lists::without_at(alloc, number, items)?,
+            )?),
         }
     }
 
@@ -71,8 +76,11 @@ impl AtPlace {
         ensures { Gives (outcome_map plain result) (at_place_of_text self number text.now) }
     {
         match self {
-            AtPlace::Item => Ok(Value::Words(texts::character_at(alloc, number, text)?)),
-            AtPlace::RemoveItem => Ok(Value::Words(texts::text_without_at(alloc, number, text)?)),
+            AtPlace::Item => Ok(Value::words(alloc, texts::character_at(alloc, number, text)?)?),
+            AtPlace::RemoveItem => Ok(Value::words(
+                alloc,
+                texts::text_without_at(alloc, number, text)?,
+            )?),
         }
     }
 
@@ -83,6 +91,7 @@ impl AtPlace {
         match series {
             Value::Items(items) => self.of_items(alloc, number, items),
             Value::Words(text) => self.of_text(alloc, number, text),
+            Value::Blank => self.of_text(alloc, number, &Str::of_vec(Vec::new(alloc))),
             _ => Err(ListFail::WrongType),
         }
     }
@@ -103,7 +112,7 @@ impl PutAtPlace {
             PutAtPlace::ReplaceItem => lists::replaced_at(alloc, number, items, value)?,
             PutAtPlace::InsertItem => lists::inserted_at(alloc, number, items, value)?,
         };
-        Ok(Value::Items(put))
+        Ok(Value::items(alloc, put)?)
     }
 
     fn in_text(self, alloc: Global, number: Num, text: &Str, other: &Str) -> Result<Str, ListFail>
@@ -113,6 +122,21 @@ impl PutAtPlace {
             PutAtPlace::ReplaceItem => texts::text_replaced_at(alloc, number, text, other),
             PutAtPlace::InsertItem => texts::text_inserted_at(alloc, number, text, other),
         }
+    }
+
+    fn value_in_text(
+        self,
+        alloc: Global,
+        number: Num,
+        text: &Str,
+        value: &Value,
+    ) -> Result<Value, ListFail>
+        ensures { let put = put_at_place self number (PlainWords text.now) (plain value.now) in
+            Gives (outcome_map plain result) put }
+    {
+        let empty = Str::of_vec(Vec::new(alloc));
+        let other = as_text(value, &empty)?;
+        Ok(Value::words(alloc, self.in_text(alloc, number, text, other)?)?)
     }
 
     /// The list or text with the value put at a place. Only a text fits into a text.
@@ -128,9 +152,9 @@ impl PutAtPlace {
     {
         match series {
             Value::Items(items) => self.in_items(alloc, number, items, value),
-            Value::Words(text) => {
-                let other = as_text(value)?;
-                Ok(Value::Words(self.in_text(alloc, number, text, other)?))
+            Value::Words(text) => self.value_in_text(alloc, number, text, value),
+            Value::Blank => {
+                self.value_in_text(alloc, number, &Str::of_vec(Vec::new(alloc)), value)
             }
             _ => Err(ListFail::WrongType),
         }
@@ -166,7 +190,7 @@ impl Search {
                 Ok(Value::Truth(place.is_some()))
             }
             Search::Position => place_answer(place_of_item(alloc, value, items, life)?),
-            Search::Remove => Ok(Value::Items(without_item(alloc, value, items, life)?)),
+            Search::Remove => Ok(Value::items(alloc, without_item(alloc, value, items, life)?)?),
         }
     }
 
@@ -176,7 +200,7 @@ impl Search {
         match self {
             Search::Member => Ok(Value::Truth(place_of_text(part, text).is_some())),
             Search::Position => place_answer(place_of_text(part, text)),
-            Search::Remove => Ok(Value::Words(text_without(alloc, part, text)?)),
+            Search::Remove => Ok(Value::words(alloc, text_without(alloc, part, text)?)?),
         }
     }
 
@@ -186,7 +210,7 @@ impl Search {
     {
         match self {
             Search::Member | Search::Position => Ok(Value::Truth(false)),
-            Search::Remove => Ok(Value::Words(text.copy(alloc)?)),
+            Search::Remove => Ok(Value::words(alloc, text.copy(alloc)?)?),
         }
     }
 
@@ -195,6 +219,7 @@ impl Search {
     {
         match value {
             Value::Words(part) => self.in_text(alloc, part, text),
+            Value::Blank => self.in_text(alloc, &Str::of_vec(Vec::new(alloc)), text),
             _ => Ok(self.not_in_text(alloc, text)?),
         }
     }
@@ -215,6 +240,7 @@ impl Search {
         match series {
             Value::Items(items) => self.in_items(alloc, value, items, life),
             Value::Words(text) => self.value_in_text(alloc, value, text),
+            Value::Blank => self.value_in_text(alloc, value, &Str::of_vec(Vec::new(alloc))),
             _ => Err(ListFail::WrongType),
         }
     }

@@ -20,7 +20,7 @@ impl Statistic {
             Statistic::Min => statistics::least(&numbers),
             Statistic::Max => statistics::greatest(&numbers),
             Statistic::Mean => statistics::mean(&numbers),
-            Statistic::Median => statistics::median(numbers),
+            Statistic::Median => statistics::median(alloc, numbers),
             Statistic::Variance => statistics::variance(&numbers),
             Statistic::StandardDeviation => statistics::deviation(&numbers),
         }

@@ -8,7 +8,7 @@ use Rattle.nl_fixed.specs.declared.number.NumFault.{NumFault}
 use Rattle.nl_fixed.specs.declared.number.NumFault.TheVariants.{Overflow}
 use Rattle.nl_fixed.specs.Numbers.{one, in_range, as_number, and_next, sum_of, quotient_of, number_of_integer, rounded_quotient}
 use Rattle.nl_fixed.specs.NumberLaws.{IsNearest, RoundedIsNearest}
-use Rattle.nl_listops_series.specs.Outcomes.{Outcome, and_then, numbered}
+use Rattle.nl_listops_series.specs.Outcomes.{ListOutcome, and_then, numbered}
 use Rattle.nl_listops_series.specs.Lists.{counted}
 use Rattle.nl_listops_series.specs.Statistics.{lesser, larger, sum_from, total_of, divided_among, mean_of}
 use Rattle.nl_listops_series.specs.StatisticLaws.{IsLeast, IsGreatest, MinIsLeast, MaxIsGreatest, MeanLiesBetween}
@@ -190,7 +190,7 @@ scaled_at_least n (negsuc l) t h = omega (arith, ints, h)
 
 -- ---- the mean
 
-then_told : (o : Outcome ℤ) (f : ℤ → Outcome ℤ) (v : ℤ) → and_then o f ≡ Ok v → (x : ℤ) × (o ≡ Ok x) × (f x ≡ Ok v)
+then_told : (o : ListOutcome ℤ) (f : ℤ → ListOutcome ℤ) (v : ℤ) → and_then o f ≡ Ok v → (x : ℤ) × (o ≡ Ok x) × (f x ≡ Ok v)
 then_told (Ok x) f v is = (x, refl, is)
 then_told (Err fail) f v is = cc
 

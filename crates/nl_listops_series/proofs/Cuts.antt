@@ -5,7 +5,7 @@ use Rattle.std.specs.List.{splice}
 use Rattle.nl_value.specs.Plain.{Plain, plains, items_of}
 use Rattle.nl_listops_series.specs.declared.fail.ListFail.TheVariants.{OutOfList}
 use Rattle.nl_listops_series.specs.Outcomes.{and_then}
-use Rattle.nl_listops_series.specs.Places.{place_of, place_below, below, without_at, replaced_at, inserted_at, without_last, part_of, between}
+use Rattle.nl_listops_series.specs.Places.{index_of, place_below, below, without_at, replaced_at, inserted_at, without_last, part_of, between}
 
 -- the items of a list as a value are the list
 pub items_of-plains : (ps : List Plain) → items_of (plains ps) ≡ ps
@@ -53,13 +53,13 @@ module _ {A X : Type 0} (f : A → X) (values : List A) (xs : List X) (seen : ma
       ∙ ap Ok (sym (is ∙ (ap (λ s. s ++ (x ∷ map f (take (length values - (place + 1)) (drop (place + 1) values)))) front ∙ ap (λ s. take place xs ++ (x ∷ s)) back)))
 
   -- a place up to the end
-  up_to_end : (number : ℤ) (place : ℕ) → Some place ≡ place_of number → place ≤ length values → place_below number (length xs + 1) ≡ Ok place
+  up_to_end : (number : ℤ) (place : ℕ) → Some place ≡ index_of number → place ≤ length values → place_below number (length xs + 1) ≡ Ok place
   up_to_end number place named within =
       let same : length values ≡ length xs = long in
       let test : nat_lt place (length xs + 1) ≡ true = grind arith in
       ap (below (length xs + 1)) (sym named) ∙ ap (λ b. if b then Ok place else Err OutOfList) test
 
-  pub inserted_at_is : (number : ℤ) (place : ℕ) (x : X) (all : List X) → Some place ≡ place_of number → place ≤ length values →
+  pub inserted_at_is : (number : ℤ) (place : ℕ) (x : X) (all : List X) → Some place ≡ index_of number → place ≤ length values →
       all ≡ map f (take place values) ++ (x ∷ map f (take (length values - place) (drop place values))) →
       inserted_at number xs (x ∷ []) ≡ Ok all
   inserted_at_is number place x all named within is =
@@ -68,13 +68,13 @@ module _ {A X : Type 0} (f : A → X) (values : List A) (xs : List X) (seen : ma
       ap (λ o. and_then o (λ p. Ok (splice xs p p (x ∷ [])))) (up_to_end number place named within)
       ∙ ap Ok (sym (is ∙ (ap (λ s. s ++ (x ∷ map f (take (length values - place) (drop place values)))) front ∙ ap (λ s. take place xs ++ (x ∷ s)) back)))
 
-  pub part_of_is : (first second : ℤ) (from to : ℕ) (all : List X) → Some from ≡ place_of first → Some to ≡ place_of second → from ≤ to → to ≤ length values →
+  pub part_of_is : (first second : ℤ) (from to : ℕ) (all : List X) → Some from ≡ index_of first → Some to ≡ index_of second → from ≤ to → to ≤ length values →
       all ≡ map f (take (to - from) (drop from values)) → part_of first second xs ≡ Ok all
   part_of_is first second from to all named_first named_second ordered within is =
       let same : length values ≡ length xs = long in
       let test : (nat_le from to && nat_le to (length xs)) ≡ true = grind arith in
       let cut : all ≡ take (to - from) (drop from xs) = is ∙ (sym (take-map f (to - from) (drop from values)) ∙ ap (take (to - from)) (rest_is from)) in
-      ap (λ o. between o (place_of second) xs) (sym named_first)
+      ap (λ o. between o (index_of second) xs) (sym named_first)
       ∙ (ap (λ o. between (Some from) o xs) (sym named_second)
       ∙ (ap (λ b. if b then Ok (take (to - from) (drop from xs)) else Err OutOfList) test ∙ ap Ok (sym cut)))
 

@@ -11,7 +11,7 @@ use Rattle.nl_value.specs.Living.{Living}
 use Rattle.nl_value.specs.Equality.{same_values}
 use Rattle.nl_listops_series.specs.declared.fail.ListFail.TheVariants.{OutOfList}
 use Rattle.nl_listops_series.specs.Outcomes.{and_then}
-use Rattle.nl_listops_series.specs.Places.{place_of, below, between, part_of, replaced_at}
+use Rattle.nl_listops_series.specs.Places.{index_of, below, between, part_of, replaced_at}
 use Rattle.nl_listops_series.specs.Laws.{PartsStayElsewhere, SearchesFindTheFirst, ItemsAreFound}
 
 -- ---- parts
@@ -44,14 +44,14 @@ same_part xs place from to x away =
     ap (λ n. if nat_le from to && nat_le to n then Ok (slice_range (set xs place x) from to) else Err OutOfList) (length-set xs place x)
     ∙ ap (λ part. if nat_le from to && nat_le to (length xs) then Ok part else Err OutOfList) (stays xs place from to x away)
 
-put_in : {X : Type 0} (number : ℤ) (place : ℕ) (xs : List X) (x : X) → place_of number ≡ Some place → place < length xs → replaced_at number xs (x ∷ []) ≡ Ok (set xs place x)
+put_in : {X : Type 0} (number : ℤ) (place : ℕ) (xs : List X) (x : X) → index_of number ≡ Some place → place < length xs → replaced_at number xs (x ∷ []) ≡ Ok (set xs place x)
 put_in number place xs x at h =
     let inside : nat_lt place (length xs) ≡ true = grind (arith, nat_tests, h) in
     ap (λ o. and_then (below (length xs) o) (λ place. Ok (splice xs place (place + 1) (x ∷ [])))) at
     ∙ (ap (λ b. and_then (if b then Ok place else Err OutOfList) (λ place. Ok (splice xs place (place + 1) (x ∷ [])))) inside ∙ ap Ok (replaced xs place x h))
 
-part_told : {X : Type 0} (first second : ℤ) (from to : ℕ) (xs : List X) → place_of first ≡ Some from → place_of second ≡ Some to → part_of first second xs ≡ between (Some from) (Some to) xs
-part_told first second from to xs begin end = ap (λ o. between o (place_of second) xs) begin ∙ ap (λ o. between (Some from) o xs) end
+part_told : {X : Type 0} (first second : ℤ) (from to : ℕ) (xs : List X) → index_of first ≡ Some from → index_of second ≡ Some to → part_of first second xs ≡ between (Some from) (Some to) xs
+part_told first second from to xs begin end = ap (λ o. between o (index_of second) xs) begin ∙ ap (λ o. between (Some from) o xs) end
 
 pub parts_stay : (X : Type 0) → PartsStayElsewhere X
 parts_stay X number first second place from to xs x at begin end h away =

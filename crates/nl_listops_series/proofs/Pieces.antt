@@ -6,7 +6,7 @@ use Rattle.std.proofs.lemmas.List.{append-nil, take_rest}
 use Rattle.nl_fixed.specs.Nouns.{Bytes, Texts}
 use Rattle.nl_listops_series.specs.declared.fail.ListFail.TheVariants.{OutOfList}
 use Rattle.nl_listops_series.specs.Outcomes.{and_then, outcome_map, or_fail}
-use Rattle.nl_listops_series.specs.Places.{last_of, place_of, place_below, below, item_at, without_at, replaced_at, inserted_at}
+use Rattle.nl_listops_series.specs.Places.{last_of, index_of, place_below, below, item_at, without_at, replaced_at, inserted_at}
 use Rattle.nl_listops_series.proofs.Characters.{concat-append}
 
 -- ---- a place that is found is the number's, and below the bound
@@ -19,8 +19,8 @@ below_told (Some p) bound place e = told (nat_lt p bound) refl e
     told true test e = (cc, (let same : p ≡ place = cc in grind (arith, same, test)))
     told false test e = cc
 
-pub place_told : (number : ℤ) (bound place : ℕ) → Ok place ≡ place_below number bound → (place_of number ≡ Some place) × (place < bound)
-place_told number bound place e = below_told (place_of number) bound place e
+pub place_told : (number : ℤ) (bound place : ℕ) → Ok place ≡ place_below number bound → (index_of number ≡ Some place) × (place < bound)
+place_told number bound place e = below_told (index_of number) bound place e
 
 -- ---- one piece
 
@@ -64,7 +64,7 @@ pieces_replaced number cs other place e =
     ap (λ o. outcome_map concat (and_then o (λ p. Ok (splice cs p (p + 1) (other ∷ []))))) (sym e)
     ∙ (ap Ok (spliced cs (other ∷ []) place (place + 1)) ∙ ap (λ s. Ok (concat (slice_range cs 0 place) ++ (s ++ concat (slice_range cs (place + 1) (length cs))))) (append-nil other))
 
-pub pieces_inserted : (number : ℤ) (cs : Texts) (other : Bytes) (place : ℕ) → Some place ≡ place_of number → place ≤ length cs →
+pub pieces_inserted : (number : ℤ) (cs : Texts) (other : Bytes) (place : ℕ) → Some place ≡ index_of number → place ≤ length cs →
     outcome_map concat (inserted_at number cs (other ∷ [])) ≡ Ok (concat (slice_range cs 0 place) ++ (other ++ concat (slice_range cs place (length cs))))
 pieces_inserted number cs other place named within =
     let test : nat_lt place (length cs + 1) ≡ true = grind arith in

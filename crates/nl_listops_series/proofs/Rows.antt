@@ -1,16 +1,18 @@
 -- Numbers in a row.
-use Rattle.std.proofs.Common.{◌≡◌, ◌≢◌, ℕ, zero, suc, ◌+◌, ◌-◌, ◌*◌, ◌/◌, ◌<◌, ◌≤◌, ℤ, pos, negsuc, ◌+ℤ◌, ◌-ℤ◌, ◌*ℤ◌, ◌<ℤ◌, Bool, true, false, ◌&&◌, nat_le, Ok, Err, List, [], ◌∷◌, ◌++◌, length, map, refl, sym, ap, ◌∙◌, arith, if◌then◌else◌}
+use Rattle.std.proofs.Common.{◌≡◌, ◌≢◌, ℕ, zero, suc, ◌+◌, ◌-◌, ◌*◌, ◌/◌, ◌<◌, ◌≤◌, ℤ, pos, negsuc, ◌+ℤ◌, ◌-ℤ◌, ◌*ℤ◌, ◌<ℤ◌, ◌≤ℤ◌, Bool, true, false, ◌&&◌, nat_le, Some, Ok, Err, List, [], ◌∷◌, ◌++◌, length, map, refl, sym, ap, subst, ◌∙◌, arith, if◌then◌else◌}
 use Rattle.std.specs.List.{range_with_len}
 use Rattle.std.proofs.lemmas.Int.{ints}
 use Rattle.std.proofs.lemmas.List.{map-append}
-use Rattle.std.proofs.lemmas.List.FromFn.{length-map-range_with_len}
-use Rattle.std.proofs.Math.Nat.{div-add-mod', mul-le-mul_left}
+use Rattle.std.specs.List.{slice_get}
+use Rattle.std.proofs.lemmas.List.FromFn.{get_or-map-range_with_len, length-map-range_with_len}
+use Rattle.std.proofs.lemmas.Option.{slice_get-get_or}
+use Rattle.std.proofs.Math.Nat.{div-add-mod', lt-div-mul-add, mul-le-mul_left, mul-le-mul_right}
 use Rattle.nl_fixed.specs.Numbers.{IsInRange}
 use Rattle.nl_value.specs.Plain.{PlainNumber, plains}
 use Rattle.nl_value.specs.Measures.{sizes_of, deepest_of}
 use Rattle.nl_listops_series.specs.declared.fail.ListFail.TheVariants.{TooLarge}
 use Rattle.nl_listops_series.specs.Outcomes.{kept_within, limited, outcome_map}
-use Rattle.nl_listops_series.specs.Laws.{RangesAreAsLong}
+use Rattle.nl_listops_series.specs.Laws.{IsRange, RangesEndAtTheBound}
 use Rattle.nl_listops_series.specs.Ranges.{steps_within, range_length, numbers_from, number_list, range_by}
 
 -- ---- one number more
@@ -107,9 +109,52 @@ range_many start bound step some many =
     let size : length (numbers_from start step n) ≡ n = long start step n in
     ap (λ o. limited (outcome_map number_list o)) (range_by_some start bound step some) ∙ many_numbers (numbers_from start step n) (omega arith)
 
--- ---- the length
+-- ---- where a range ends
 
-pub as_long : RangesAreAsLong
-as_long start bound (pos zero) ns is = cc
-as_long start bound (pos (suc step)) ns is = let same : numbers_from start (pos (suc step)) (range_length start bound (pos (suc step))) ≡ ns = cc in ap length (sym same) ∙ long start (pos (suc step)) (range_length start bound (pos (suc step)))
-as_long start bound (negsuc step) ns is = let same : numbers_from start (negsuc step) (range_length start bound (negsuc step)) ≡ ns = cc in ap length (sym same) ∙ long start (negsuc step) (range_length start bound (negsuc step))
+so_many : (distance : ℤ) (size k : ℕ) → 0 < size → steps_within distance size ≤ k → distance ≤ℤ pos (k * size)
+so_many (pos distance) size k some h =
+    let past = lt-div-mul-add {a = distance + (size - 1)} {b = size} some in
+    let most : ((distance + (size - 1)) / size) * size ≤ k * size = mul-le-mul_right size h in
+    omega (arith, ints)
+so_many (negsuc distance) size k some h = omega (arith, ints)
+
+stepped : (start step : ℤ) (n k : ℕ) → k < n → slice_get (numbers_from start step n) k ≡ Some (start +ℤ (pos k *ℤ step))
+stepped start step n k h =
+    let below : k < length (numbers_from start step n) = subst (λ (m : ℕ). k < m) (sym (long start step n)) h in
+    slice_get-get_or (numbers_from start step n) k (pos 0) below
+    ∙ ap Some (get_or-map-range_with_len (λ j. start +ℤ (pos j *ℤ step)) 0 n k k (pos 0) h (omega arith))
+
+climbs : (start bound : ℤ) (step : ℕ) → let n = range_length start bound (pos (suc step)) in IsRange start bound (pos (suc step)) (numbers_from start (pos (suc step)) n)
+climbs start bound step =
+    let n = range_length start bound (pos (suc step)) in
+    let size : length (numbers_from start (pos (suc step)) n) ≡ n = long start (pos (suc step)) n in
+    record {
+      steps = λ k h. stepped start (pos (suc step)) n k (subst (λ (m : ℕ). k < m) size h);
+      before = λ k h. let below = within (bound -ℤ start) (suc step) k (omega arith) (subst (λ (m : ℕ). k < m) size h) in omega (arith, ints);
+      ends = λ more.
+          let next : (start +ℤ (pos n *ℤ pos (suc step))) <ℤ bound = subst (λ (k : ℕ). (start +ℤ (pos k *ℤ pos (suc step))) <ℤ bound) size more in
+          let last = so_many (bound -ℤ start) (suc step) n (omega arith) (omega arith) in
+          absurd (omega (arith, ints));
+    }
+
+falls : (start bound : ℤ) (step : ℕ) → let n = range_length start bound (negsuc step) in IsRange start bound (negsuc step) (numbers_from start (negsuc step) n)
+falls start bound step =
+    let n = range_length start bound (negsuc step) in
+    let size : length (numbers_from start (negsuc step) n) ≡ n = long start (negsuc step) n in
+    record {
+      steps = λ k h. stepped start (negsuc step) n k (subst (λ (m : ℕ). k < m) size h);
+      before = λ k h. let below = within (start -ℤ bound) (suc step) k (omega arith) (subst (λ (m : ℕ). k < m) size h) in omega (arith, ints);
+      ends = λ more.
+          let next : bound <ℤ (start +ℤ (pos n *ℤ negsuc step)) = subst (λ (k : ℕ). bound <ℤ (start +ℤ (pos k *ℤ negsuc step))) size more in
+          let last = so_many (start -ℤ bound) (suc step) n (omega arith) (omega arith) in
+          absurd (omega (arith, ints));
+    }
+
+pub ends_at_bound : RangesEndAtTheBound
+ends_at_bound start bound (pos zero) numbers is = cc
+ends_at_bound start bound (pos (suc step)) numbers is =
+    let same : numbers_from start (pos (suc step)) (range_length start bound (pos (suc step))) ≡ numbers = cc in
+    subst (IsRange start bound (pos (suc step))) same (climbs start bound step)
+ends_at_bound start bound (negsuc step) numbers is =
+    let same : numbers_from start (negsuc step) (range_length start bound (negsuc step)) ≡ numbers = cc in
+    subst (IsRange start bound (negsuc step)) same (falls start bound step)

@@ -1,5 +1,5 @@
 -- What the words of lists and texts make of each other: laws above the definitions.
-use Rattle.std.specs.Prelude.{◌≡◌, ◌<◌, ◌≤◌, ◌⊎◌, ℕ, ℤ, Bool, true, false, not, ◌&&◌, Some, Ok, List, [], ◌∷◌, length, map, reverse, slice_get}
+use Rattle.std.specs.Prelude.{◌≡◌, ◌<◌, ◌≤◌, ◌⊎◌, ℕ, suc, ℤ, pos, negsuc, ◌+ℤ◌, ◌*ℤ◌, ◌<ℤ◌, Bool, true, false, not, ◌&&◌, Some, Ok, List, [], ◌∷◌, length, map, reverse, slice_get}
 use Rattle.std.specs.List.{sum_by}
 use Rattle.std.specs.List.Sorted.{IsPermutation}
 use Rattle.nl_fixed.specs.Nouns.{Bytes}
@@ -9,12 +9,12 @@ use Rattle.nl_value.specs.Living.{Living}
 use Rattle.nl_value.specs.Equality.{same_values}
 use Rattle.nl_value.specs.Order.{comes_first}
 use Rattle.nl_listops_series.specs.Outcomes.{and_then}
-use Rattle.nl_listops_series.specs.Places.{place_of, replaced_at, part_of}
+use Rattle.nl_listops_series.specs.Places.{index_of, replaced_at, part_of}
 use Rattle.nl_listops_series.specs.Lists.{items_in, sentence_of}
 use Rattle.nl_listops_series.specs.Texts.{word_of}
 use Rattle.nl_listops_series.specs.Searches.{place_of_item}
 use Rattle.nl_listops_series.specs.Sorts.{sortable, sorted_items}
-use Rattle.nl_listops_series.specs.Ranges.{range_length, range_by}
+use Rattle.nl_listops_series.specs.Ranges.{range_by}
 
 -- a list turned twice is itself
 abbrev pub ListsTurnBack : Type 0 → Type 0
@@ -28,7 +28,7 @@ SentencesAddUp = (values : List Plain) → length (sentence_of values) ≡ sum_b
 abbrev pub PartsStayElsewhere : Type 0 → Type 0
 PartsStayElsewhere X =
     (number first second : ℤ) (place from to : ℕ) (xs : List X) (x : X) →
-    place_of number ≡ Some place → place_of first ≡ Some from → place_of second ≡ Some to →
+    index_of number ≡ Some place → index_of first ≡ Some from → index_of second ≡ Some to →
     place < length xs → (to ≤ place) ⊎ (place < from) →
     and_then (replaced_at number xs (x ∷ [])) (part_of first second) ≡ part_of first second xs
 
@@ -67,6 +67,16 @@ pub record IsSort (w : Living) (items : List Plain) : Type 0 where
 abbrev pub SortsPermute : Type 0
 SortsPermute = (w : Living) (items : List Plain) → IsSort w items
 
--- a range is as long as its formula says
-abbrev pub RangesAreAsLong : Type 0
-RangesAreAsLong = (start bound step : ℤ) (ns : List ℤ) → range_by start bound step ≡ Ok ns → length ns ≡ range_length start bound step
+-- whether a number is one that a range has before its bound: below it where the range climbs, and above it where it falls
+abbrev pub IsBefore : ℤ → ℤ → ℤ → Type 0
+IsBefore (pos step) bound number = number <ℤ bound
+IsBefore (negsuc step) bound number = bound <ℤ number
+
+-- a range goes by steps from its start to before its bound, and one step more would be no longer before it
+pub record IsRange (start bound step : ℤ) (numbers : List ℤ) : Type 0 where
+  pub steps : (k : ℕ) → k < length numbers → slice_get numbers k ≡ Some (start +ℤ (pos k *ℤ step))
+  pub before : (k : ℕ) → k < length numbers → IsBefore step bound (start +ℤ (pos k *ℤ step))
+  pub ends : IsBefore step bound (start +ℤ (pos (length numbers) *ℤ step)) → ⊥
+
+abbrev pub RangesEndAtTheBound : Type 0
+RangesEndAtTheBound = (start bound step : ℤ) (numbers : List ℤ) → range_by start bound step ≡ Ok numbers → IsRange start bound step numbers

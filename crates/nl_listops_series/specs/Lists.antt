@@ -2,7 +2,7 @@
 use Rattle.std.specs.Prelude.{ℕ, ℤ, pos, List, [], ◌∷◌, ◌++◌, flat_map}
 use Rattle.nl_fixed.specs.Numbers.{number_of_integer}
 use Rattle.nl_value.specs.Plain.{Plain, PlainItems, items_of}
-use Rattle.nl_listops_series.specs.Outcomes.{Outcome, numbered}
+use Rattle.nl_listops_series.specs.Outcomes.{ListOutcome, numbered}
 
 -- a list stands for its items, each other value for itself
 abbrev pub items_in : Plain → List Plain
@@ -21,5 +21,5 @@ abbrev pub put_last : Plain → List Plain → List Plain
 put_last value items = items ++ value ∷ []
 
 -- a count as a number
-abbrev pub counted : ℕ → Outcome ℤ
+abbrev pub counted : ℕ → ListOutcome ℤ
 counted n = numbered (number_of_integer (pos n))

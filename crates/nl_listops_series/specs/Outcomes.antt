@@ -8,38 +8,38 @@ use Rattle.nl_listops_series.specs.declared.fail.ListFail.{ListFail}
 use Rattle.nl_listops_series.specs.declared.fail.ListFail.TheVariants.{TooLarge, NoMemory}
 use Rattle.nl_listops_series.specs.Fails.{fail_of}
 
-abbrev pub Outcome : Type 0 → Type 0
-Outcome X = Result X ListFail
+abbrev pub ListOutcome : Type 0 → Type 0
+ListOutcome X = Result X ListFail
 
 -- what comes of an outcome and of a next step, which is taken only where the first has an answer
-abbrev pub and_then : {X Y : Type 0} → Outcome X → (X → Outcome Y) → Outcome Y
+abbrev pub and_then : {X Y : Type 0} → ListOutcome X → (X → ListOutcome Y) → ListOutcome Y
 and_then (Ok x) next = next x
 and_then (Err fail) next = Err fail
 
 -- the answer, seen in another way
-abbrev pub outcome_map : {X Y : Type 0} → (X → Y) → Outcome X → Outcome Y
+abbrev pub outcome_map : {X Y : Type 0} → (X → Y) → ListOutcome X → ListOutcome Y
 outcome_map f (Ok x) = Ok (f x)
 outcome_map f (Err fail) = Err fail
 
 -- what a call on numbers gives, with its fault as an error
-abbrev pub numbered : {X : Type 0} → Result X NumFault → Outcome X
+abbrev pub numbered : {X : Type 0} → Result X NumFault → ListOutcome X
 numbered (Ok x) = Ok x
 numbered (Err fault) = Err (fail_of fault)
 
 -- what may be there, or the error where it isn't
-abbrev pub or_fail : {X : Type 0} → ListFail → Option X → Outcome X
+abbrev pub or_fail : {X : Type 0} → ListFail → Option X → ListOutcome X
 or_fail fail None = Err fail
 or_fail fail (Some x) = Ok x
 
 -- an answer that passes the limits on values is TooLarge, where no other error stands
-abbrev pub kept_within : Plain → Outcome Plain
+abbrev pub kept_within : Plain → ListOutcome Plain
 kept_within value = if within_limits value then Ok value else Err TooLarge
 
-abbrev pub limited : Outcome Plain → Outcome Plain
+abbrev pub limited : ListOutcome Plain → ListOutcome Plain
 limited outcome = and_then outcome kept_within
 
 -- what a call gives is the outcome, unless it wants memory
-abbrev pub Gives : {X : Type 0} → Outcome X → Outcome X → Type 0
+abbrev pub Gives : {X : Type 0} → ListOutcome X → ListOutcome X → Type 0
 Gives (Ok x) outcome = outcome ≡ Ok x
 Gives (Err fail) outcome = fail ≢ NoMemory → outcome ≡ Err fail
 

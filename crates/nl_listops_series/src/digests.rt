@@ -51,6 +51,7 @@ pub(crate) fn digest_of<L: Life>(value: &Value, life: &L) -> u64
         Value::Number(number) => stirred(0, number.millionths().unsigned_abs()),
         Value::Truth(truth) => { if *truth { 1 } else { 2 } }
         Value::Words(text) => stirred_bytes(3, text.as_bytes()),
+        Value::Blank => 3,
         Value::Items(items) => stirred_items(4, items, life),
         Value::Turtle(turtle) if life.turtle_lives(*turtle) => stirred(5, *turtle),
         Value::Patch(patch) => stirred(6, u64::from(*patch)),

@@ -1,5 +1,5 @@
 //! What the words of lists and texts make of each other, and what statistics say of numbers. These functions do nothing: the contract of each is a law.
-ghost use Rattle.nl_listops_series.specs.Laws.{ListsTurnBack, SentencesAddUp, PartsStayElsewhere, SearchesFindTheFirst, ItemsAreFound, CharactersMakeTheText, SortsPermute, RangesAreAsLong};
+ghost use Rattle.nl_listops_series.specs.Laws.{ListsTurnBack, SentencesAddUp, PartsStayElsewhere, SearchesFindTheFirst, ItemsAreFound, CharactersMakeTheText, SortsPermute, RangesEndAtTheBound};
 ghost use Rattle.nl_listops_series.specs.StatisticLaws.{MinIsLeast, MaxIsGreatest, MeanLiesBetween};
 
 use nl_fixed::number_laws::quotients_are_rounded;
@@ -32,9 +32,9 @@ pub fn sorts_permute()
     all_values_have_an_order();
 }
 
-/// A range is as long as its formula says.
-pub fn ranges_are_as_long()
-    ensures { RangesAreAsLong }
+/// A range goes by its steps to before its bound, and no further step would be before it.
+pub fn ranges_end_at_the_bound()
+    ensures { RangesEndAtTheBound }
 {}
 
 /// `min` is a number of the list that none is below, and `max` one that none is above.

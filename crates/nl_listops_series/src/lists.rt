@@ -6,7 +6,7 @@ ghost use Rattle.nl_listops_series.specs.Lists.{sentence_of, put_first, put_last
 ghost use Rattle.nl_value.specs.Views.{plain};
 
 use crate::fail::ListFail;
-use crate::places::{place_below, place_of};
+use crate::places::{index_of, place_below};
 use nl_fixed::{NoMemory, Num};
 use nl_value::{Items, Value};
 use std::alloc::Global;
@@ -175,7 +175,7 @@ pub fn inserted_at(
     ensures { Gives result (inserted_at number items.now (plain value.now ∷ [])) }
 {
     let values = items.as_slice();
-    match place_of(number) {
+    match index_of(number) {
         Some(place) if place <= values.len() => {
             Ok(with_value(alloc, &values[..place], value, &values[place..])?)
         }
@@ -189,7 +189,7 @@ pub fn part_of(alloc: Global, first: Num, second: Num, items: &Items) -> Result<
     ensures { Gives result (part_of first second items.now) }
 {
     let values = items.as_slice();
-    match (place_of(first), place_of(second)) {
+    match (index_of(first), index_of(second)) {
         (Some(from), Some(to)) if from <= to && to <= values.len() => {
             Ok(list_of(alloc, &values[from..to])?)
         }
@@ -199,7 +199,7 @@ pub fn part_of(alloc: Global, first: Num, second: Num, items: &Items) -> Result<
 
 /// Copies of the values, in order.
 pub fn copies(alloc: Global, values: &[Value]) -> Result<Vec<Value>, NoMemory>
-    ensures { IfOk result (λ list. list.items ≡ values.now) }
+    ensures { IfOk result (λ list. map plain list.items ≡ map plain values.now) }
 {
     let mut list = Vec::new(alloc);
     for value in values {

@@ -67,7 +67,7 @@ fn numbers_from(alloc: Global, start: Num, step: Num, length: usize) -> Result<I
 }
 
 /// The numbers from the start by steps to before the bound. Domain for a step of 0, and TooLarge where they pass the limit on
-/// values, for which no memory is taken.
+/// values.
 pub fn range_by(alloc: Global, start: Num, bound: Num, step: Num) -> Result<Items, ListFail>
     ensures { Gives (outcome_map list_value result) (limited_range (range_by start bound step)) }
 {

@@ -3,7 +3,7 @@ ghost use Rattle.std.specs.Prelude.{◌≡◌, pos, IfOk};
 ghost use Rattle.nl_value.specs.Views.{plain};
 ghost use Rattle.nl_listops_series.specs.Outcomes.{Gives, numbered};
 ghost use Rattle.nl_listops_series.specs.Lists.{counted};
-ghost use Rattle.nl_listops_series.specs.Statistics.{number_in, numbers_among, sum_from, total_of, least_of, greatest_of, divided_among, mean_of, middle_of, ascending, square_from, squares_from, spread_about, variance_of, median_of, deviation_of};
+ghost use Rattle.nl_listops_series.specs.Statistics.{number_of_item, numbers_among, sum_from, total_of, least_of, greatest_of, divided_among, mean_of, middle_of, ascending, square_from, squares_from, spread_about, variance_of, median_of, deviation_of};
 
 use crate::fail::ListFail;
 use nl_fixed::{NoMemory, Num, NumFault};
@@ -19,8 +19,8 @@ pub fn counted(n: usize) -> Result<Num, ListFail>
 }
 
 /// The value where it is a number.
-fn number_in(value: &Value) -> Option<Num>
-    ensures { result ≡ number_in (plain value.now) }
+fn number_of_item(value: &Value) -> Option<Num>
+    ensures { result ≡ number_of_item (plain value.now) }
 {
     match value {
         Value::Number(number) => Some(*number),
@@ -35,7 +35,7 @@ pub fn numbers_among(alloc: Global, items: &Items) -> Result<Vec<Num>, NoMemory>
     let values = items.as_slice();
     let mut numbers = Vec::new(alloc);
     for value in values {
-        if let Some(number) = number_in(value) {
+        if let Some(number) = number_of_item(value) {
             numbers.push(number)?;
         }
     }
@@ -178,7 +178,7 @@ fn sorted(mut numbers: Vec<Num>) -> Result<Vec<Num>, NoMemory>
 }
 
 /// The mean of the one or the two in the middle of the numbers in order. TooFew for none.
-pub fn median(numbers: Vec<Num>) -> Result<Num, ListFail>
+pub fn median(_alloc: Global, numbers: Vec<Num>) -> Result<Num, ListFail>
     ensures { Gives result (median_of numbers.items) }
 {
     middle_mean(&sorted(numbers)?)

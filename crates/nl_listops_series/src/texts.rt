@@ -13,7 +13,7 @@ ghost use Rattle.nl_listops_series.specs.inner.Puts.{PutsText};
 ghost use Rattle.nl_listops_series.specs.Texts.{first_character, last_character, character_at, text_without_first, text_without_last, text_without_at, text_replaced_at, text_inserted_at, text_part_of, text_reversed, word_of};
 
 use crate::fail::ListFail;
-use crate::places::{place_below, place_of};
+use crate::places::{index_of, place_below};
 use nl_fixed::{NoMemory, Num, Str};
 use nl_value::measures::MOST_SIZE;
 use nl_value::texts::{TextFail, text};
@@ -141,7 +141,7 @@ pub fn text_inserted_at(
     ensures { Gives result (text_inserted_at number text.now other.now) }
 {
     let count = text.char_count();
-    match place_of(number) {
+    match index_of(number) {
         Some(place) if place <= count => {
             let front = characters_between(text, 0, place);
             let back = characters_between(text, place, count);
@@ -156,7 +156,7 @@ pub fn text_inserted_at(
 pub fn text_part_of(alloc: Global, first: Num, second: Num, text: &Str) -> Result<Str, ListFail>
     ensures { Gives result (text_part_of first second text.now) }
 {
-    match (place_of(first), place_of(second)) {
+    match (index_of(first), index_of(second)) {
         (Some(from), Some(to)) if from <= to && to <= text.char_count() => {
             Ok(Str::of(alloc, characters_between(text, from, to))?)
         }

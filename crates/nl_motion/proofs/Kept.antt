@@ -12,7 +12,7 @@ use Rattle.nl_agents.specs.Changes.{changed_at, value_in, value_set, set_entry, 
 use Rattle.nl_agents_layout.specs.declared.layout.Layout.{Layout}
 use Rattle.nl_agents.specs.declared.agents.Owner.TheVariants as owner
 use Rattle.nl_agents.proofs.Vars.{set_same}
-use Rattle.nl_motion.specs.Motion.{number_in, or_zero}
+use Rattle.nl_motion.specs.Motion.{held_number, or_zero}
 use Rattle.nl_motion.specs.Climbing.{patch_number}
 use Rattle.nl_motion.specs.Diffusion.{are_numbers, field_of, with_counts, field_set}
 use Rattle.nl_motion.proofs.Fields.{there_at}
@@ -49,7 +49,7 @@ pub set_at_turn : (slot : Slot) (counts : List ℤ) (w here after : World) (k : 
 set_at_turn slot counts w here after k count within read is turn =
     turn ∙ ap (λ x. revalued (owner.Patch k) slot (PlainNumber x) here) read ∙ set_more slot counts w here k within is
 
-some_value : (value : Option Plain) → is_some (number_in value) ≡ true → is_some value ≡ true
+some_value : (value : Option Plain) → is_some (held_number value) ≡ true → is_some value ≡ true
 some_value None there = absurd (false≢true there)
 some_value (Some value) there = refl
 
@@ -85,4 +85,4 @@ field_is_set slot counts w all many =
     (λ k below.
     let there = some_value (value_of (owner.Patch k) slot w) (there_at (patch_number w slot) (patches_of w.rest.shape) k all below) in
     let within : k < length counts = subst (λ n. k < n) (sym many) below in
-    sym (ap (λ o. or_zero (number_in o)) (set_at w.rest.layout slot counts w.rest.patches k within there))))
+    sym (ap (λ o. or_zero (held_number o)) (set_at w.rest.layout slot counts w.rest.patches k within there))))

@@ -13,7 +13,7 @@ use Rattle.nl_agents.specs.World.{Rest, World}
 use Rattle.nl_agents.specs.Changes.{turtle_of, value_of, moved, revalued}
 use Rattle.nl_agents.specs.declared.agents.Turtle.{Turtle}
 use Rattle.nl_agents.specs.declared.agents.Owner.TheVariants as owner
-use Rattle.nl_motion.specs.Motion.{number_in}
+use Rattle.nl_motion.specs.Motion.{held_number}
 
 -- the neighbors of a patch: all of them, or the four that are one step away on one axis
 abbrev pub ring_of : Bool → Plane → ℕ → Patches
@@ -21,7 +21,7 @@ ring_of four plane patch = if four then neighbors4_of plane patch else neighbors
 
 -- the number that a patch keeps under a slot
 abbrev pub patch_number : World → Slot → ℕ → Option ℤ
-patch_number w slot patch = number_in (value_of (owner.Patch patch) slot w)
+patch_number w slot patch = held_number (value_of (owner.Patch patch) slot w)
 
 -- ---- the best of some patches
 

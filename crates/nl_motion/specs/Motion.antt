@@ -13,17 +13,17 @@ use Rattle.nl_motion.specs.declared.faults.MoveFault.{MoveFault}
 use Rattle.nl_motion.specs.declared.faults.MoveFault.TheVariants as fault
 
 -- the count of a value that is a number
-abbrev pub number_in : Option Plain → Option ℤ
-number_in None = None
-number_in (Some (PlainNumber count)) = Some count
-number_in (Some (PlainTruth truth)) = None
-number_in (Some (PlainWords bytes)) = None
-number_in (Some (PlainItems items)) = None
-number_in (Some (PlainTurtle turtle)) = None
-number_in (Some (PlainPatch patch)) = None
-number_in (Some (PlainLink link)) = None
-number_in (Some PlainNobody) = None
-number_in (Some (PlainSet set)) = None
+abbrev pub held_number : Option Plain → Option ℤ
+held_number None = None
+held_number (Some (PlainNumber count)) = Some count
+held_number (Some (PlainTruth truth)) = None
+held_number (Some (PlainWords bytes)) = None
+held_number (Some (PlainItems items)) = None
+held_number (Some (PlainTurtle turtle)) = None
+held_number (Some (PlainPatch patch)) = None
+held_number (Some (PlainLink link)) = None
+held_number (Some PlainNobody) = None
+held_number (Some (PlainSet set)) = None
 
 -- the number that is there, or 0
 abbrev pub or_zero : Option ℤ → ℤ
@@ -34,7 +34,7 @@ or_zero (Some count) = count
 
 -- the heading of a turtle; one that keeps none has the heading 0
 abbrev pub heading_in : Rest → Turtle → ℤ
-heading_in r t = or_zero (number_in (value_in r.layout.some_turtle t.vars heading_slot))
+heading_in r t = or_zero (held_number (value_in r.layout.some_turtle t.vars heading_slot))
 
 -- the point so far ahead of a turtle, none where the world forbids it
 abbrev pub step_point : ℤ → Rest → Option Turtle → Result (Option Point) NumFault

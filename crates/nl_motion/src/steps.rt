@@ -3,7 +3,7 @@ ghost use Rattle.std.specs.Prelude.{◌≡◌};
 ghost use Rattle.nl_grid.specs.Geometry.{wrapped_point};
 ghost use Rattle.nl_agents.specs.Changes.{TurtleLives, turtle_of, value_of};
 ghost use Rattle.nl_agents_layout.specs.BuiltIn.{heading_slot};
-ghost use Rattle.nl_motion.specs.Motion.{or_zero, number_in, step_end, step_answer, stepped, place_answer, placed};
+ghost use Rattle.nl_motion.specs.Motion.{or_zero, held_number, step_end, step_answer, stepped, place_answer, placed};
 
 use crate::faults::MoveFault;
 use crate::numbers::number_of;
@@ -13,7 +13,7 @@ use nl_fixed::Num;
 /// The heading of a turtle, in degrees.
 fn heading_of<S: Store>(store: &S, turtle: u64) -> Num
     requires { TurtleLives turtle (S.world store.now) }
-    ensures { result ≡ or_zero (number_in (value_of (Owner.Turtle turtle) heading_slot (S.world store.now))) }
+    ensures { result ≡ or_zero (held_number (value_of (Owner.Turtle turtle) heading_slot (S.world store.now))) }
 {
     match number_of(store, Owner::Turtle(turtle), HEADING) {
         Some(heading) => heading,

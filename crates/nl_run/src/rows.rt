@@ -106,7 +106,7 @@ impl Rows {
     }
 
     /// The last row, if there is one, ends in this way.
-    pub fn end_last(&mut self, how: RunEnd) -> Result<(), NoMemory>
+    pub fn end_last(&mut self, _alloc: Global, how: RunEnd) -> Result<(), NoMemory>
         ensures { OnOk result (self.new ≡ last_ended how self.old) }
     {
         end_last_in(&mut self.list, how)

@@ -57,7 +57,7 @@ fn close<S: Store>(
 {
     match how {
         RunEnd::Open => Ok(()),
-        RunEnd::Steps | RunEnd::Condition | RunEnd::Stop => progress.rows.end_last(how),
+        RunEnd::Steps | RunEnd::Condition | RunEnd::Stop => progress.rows.end_last(alloc, how),
         RunEnd::Budget | RunEnd::Error(_) => {
             let row = plan.further(alloc, progress.step, how)?;
             progress.rows.push(alloc, row)

@@ -87,7 +87,7 @@ fn set_called<S: Store>(
         machine,
         plan.program(),
         b"behaviorspace-experiment-name",
-        Value::Words(name),
+        Value::words(alloc, name)?,
     );
     Ok(())
 }

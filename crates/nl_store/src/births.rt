@@ -6,14 +6,14 @@ ghost use Rattle.nl_store.specs.Worlds.{birth_vars_among};
 
 use nl_agents::{Layout, Variables};
 use nl_fixed::NoMemory;
-use nl_store_files::Files;
+use nl_store_files::Registry;
 use std::alloc::Global;
 
 /// First values of a turtle of the breed, or copies of a parent's, by the rule on a change of breed.
 pub(crate) fn birth_vars(
     alloc: Global,
     layout: &Layout,
-    files: &Files,
+    files: &Registry,
     breed: u32,
     parent: Option<u64>,
 ) -> Result<Variables, NoMemory>

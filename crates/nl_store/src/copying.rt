@@ -9,7 +9,7 @@ ghost use Rattle.nl_store.specs.Sound.{AreSound, IsLinkAmong, IsTurtleAmong};
 use crate::roster::Roster;
 use nl_agents::Steps;
 use nl_fixed::NoMemory;
-use nl_store_files::Files;
+use nl_store_files::Registry;
 use nl_value::Serials;
 use std::alloc::Global;
 use std::marker::Brand;
@@ -19,7 +19,7 @@ use std::sync::ledger::{Blank, Ledger};
 fn turtles_counted<L: Ledger>(
     blank: Blank,
     alloc: Global,
-    files: &Files,
+    files: &Registry,
 ) -> Result<Serials, NoMemory>
     requires name { blank.name ≡ L.name }
     requires parts { blank.parts ≡ L.parts }
@@ -33,7 +33,11 @@ fn turtles_counted<L: Ledger>(
 }
 
 /// The serials of the links, read with this counter.
-fn links_counted<L: Ledger>(blank: Blank, alloc: Global, files: &Files) -> Result<Serials, NoMemory>
+fn links_counted<L: Ledger>(
+    blank: Blank,
+    alloc: Global,
+    files: &Registry,
+) -> Result<Serials, NoMemory>
     requires name { blank.name ≡ L.name }
     requires parts { blank.parts ≡ L.parts }
     requires one { blank.parts ≡ 1 }
@@ -46,7 +50,12 @@ fn links_counted<L: Ledger>(blank: Blank, alloc: Global, files: &Files) -> Resul
 }
 
 /// The turtle of a serial is added.
-fn copy_turtle(alloc: Global, from: &Files, serial: u64, into: &mut Roster) -> Result<(), NoMemory>
+fn copy_turtle(
+    alloc: Global,
+    from: &Registry,
+    serial: u64,
+    into: &mut Roster,
+) -> Result<(), NoMemory>
     requires few { length into.old.turtles < 200_000 }
     requires lives { IsSome (find (is_turtle serial) from.now.turtles) }
     requires next { into.old.turtles_given ≤ serial }
@@ -65,7 +74,7 @@ fn copy_turtle(alloc: Global, from: &Files, serial: u64, into: &mut Roster) -> R
 }
 
 /// The link of a serial is added.
-fn copy_link(alloc: Global, from: &Files, serial: u64, into: &mut Roster) -> Result<(), NoMemory>
+fn copy_link(alloc: Global, from: &Registry, serial: u64, into: &mut Roster) -> Result<(), NoMemory>
     requires few { length into.old.links < 400_000 }
     requires lives { IsSome (find (is_link serial) from.now.links) }
     requires next { into.old.links_given ≤ serial }
@@ -85,7 +94,11 @@ fn copy_link(alloc: Global, from: &Files, serial: u64, into: &mut Roster) -> Res
 }
 
 /// All turtles are added to none, under the serials that they have, and as many serials are given.
-pub(crate) fn copy_turtles(alloc: Global, from: &Files, into: &mut Roster) -> Result<(), NoMemory>
+pub(crate) fn copy_turtles(
+    alloc: Global,
+    from: &Registry,
+    into: &mut Roster,
+) -> Result<(), NoMemory>
     requires sound { AreSound from.now }
     requires none { into.old
         ≡ record from.now { turtles = []; links = []; turtles_given = 0; links_given = 0 } }
@@ -100,7 +113,7 @@ pub(crate) fn copy_turtles(alloc: Global, from: &Files, into: &mut Roster) -> Re
 }
 
 /// All links are added between the same turtles, under the serials that they have, and as many serials are given.
-pub(crate) fn copy_links(alloc: Global, from: &Files, into: &mut Roster) -> Result<(), NoMemory>
+pub(crate) fn copy_links(alloc: Global, from: &Registry, into: &mut Roster) -> Result<(), NoMemory>
     requires sound { AreSound from.now }
     requires none { into.old ≡ record from.now { links = []; links_given = 0 } }
     ensures { OnOk result (into.new ≡ from.now) }

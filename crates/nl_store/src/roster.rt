@@ -13,7 +13,7 @@ use crate::copying::{copy_links, copy_turtles};
 use nl_agents::{Layout, Slots, Variables};
 use nl_fixed::NoMemory;
 use nl_grid::{Point, Shape};
-use nl_store_files::Files;
+use nl_store_files::Registry;
 use nl_value::Value;
 use std::alloc::Global;
 use std::marker::Model;
@@ -22,7 +22,7 @@ use std::marker::Model;
 /// links apart, and none is given twice.
 #[derive(Drop)]
 pub struct Roster {
-    files: Files,
+    files: Registry,
     census: Census,
     shape: Shape,
     breeds: u32,
@@ -56,7 +56,7 @@ impl Roster {
         }) }
     {
         Ok(Roster {
-            files: Files::new(alloc, shape, breeds)?,
+            files: Registry::new(alloc, shape, breeds)?,
             census: Census::none(alloc, breeds)?,
             shape,
             breeds,
@@ -64,7 +64,7 @@ impl Roster {
     }
 
     /// The agents.
-    pub fn files(&self) -> &Files
+    pub fn files(&self) -> &Registry
         ensures { result.now ≡ self.now }
     {
         &self.files

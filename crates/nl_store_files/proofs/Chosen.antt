@@ -2,7 +2,7 @@
 use Rattle.std.proofs.Common.{◌≡◌, ℕ, ◌≤◌, Bool, true, false, List, [], ◌∷◌, ◌++◌, length, Option, Some, None, refl, sym, ap, ◌∙◌, subst}
 use Rattle.std.specs.Option.{option_or}
 use Rattle.std.specs.List.{list_any}
-use Rattle.nl_store_lists.specs.Threads.{has}
+use Rattle.nl_store_lists.specs.Chained.{has}
 use Rattle.nl_store_lists.proofs.Members.{has-first}
 use Rattle.nl_store_records.specs.declared.record.Record.{Record}
 use Rattle.nl_index.specs.Index.{breeds_in, first_of}

@@ -3,7 +3,7 @@ use Rattle.std.proofs.Common.{◌≡◌, ℕ, Bool, true, false, Option, Some, N
 use Rattle.std.proofs.lemmas.Option.{same_Some}
 use Rattle.nl_agents.specs.declared.agents.Turtle as living
 use Rattle.nl_agents.specs.declared.agents.Link as tie
-use Rattle.nl_store_lists.specs.Threads.{at_number}
+use Rattle.nl_store_lists.specs.Chained.{at_number}
 use Rattle.nl_store_records.specs.Records.{fields_at}
 use Rattle.nl_store_records.specs.declared.fields.Body.{Body}
 use Rattle.nl_store_records.specs.declared.fields.Body.TheVariants.{Turtle, Link}

@@ -6,7 +6,7 @@ use Rattle.nl_grid.specs.declared.point.Point.{Point}
 use Rattle.nl_agents.specs.Nouns.{Vars}
 use Rattle.nl_agents.specs.declared.agents.Turtle as living
 use Rattle.nl_agents.specs.declared.agents.Link as tie
-use Rattle.nl_store_lists.specs.Threads.{at_number}
+use Rattle.nl_store_lists.specs.Chained.{at_number}
 use Rattle.nl_store_records.specs.Records.{fields_at, SameRecords, Sets}
 use Rattle.nl_store_records.specs.declared.fields.Body.TheVariants.{Turtle}
 use Rattle.nl_store_records.specs.declared.fields.Fields.{Fields}

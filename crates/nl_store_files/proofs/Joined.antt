@@ -2,7 +2,7 @@
 use Rattle.std.proofs.Common.{◌≡◌, ℕ, Bool, true, false, ◌++◌, Option, Some, None, eqb, ◌||◌, refl, sym, ap₂, ◌∙◌, arith}
 use Rattle.nl_agents.specs.Changes.{has_end}
 use Rattle.nl_agents.specs.declared.agents.Link as tie
-use Rattle.nl_store_lists.specs.Threads.{has, IsOnce}
+use Rattle.nl_store_lists.specs.Chained.{has, IsOnce}
 use Rattle.nl_store_records.specs.declared.record.Record.{Record}
 use Rattle.nl_index.specs.declared.chains.Chains.{Chains}
 use Rattle.nl_links.specs.declared.ends.Ends.{Ends}

@@ -3,7 +3,7 @@ use Rattle.std.proofs.Common.{◌≡◌, ℕ, ◌+◌, ◌≤◌, true, List, []
 use Rattle.std.proofs.lemmas.List.{append-nil}
 use Rattle.std.specs.Option.{option_copied}
 use Rattle.std.specs.Borrow.{Bor}
-use Rattle.nl_store_lists.specs.Threads.{has, IsWalk}
+use Rattle.nl_store_lists.specs.Chained.{has, IsWalk}
 use Rattle.nl_store_lists.proofs.Members.{has-first, has-later}
 use Rattle.nl_store_records.specs.Filed.{after, next_of}
 use Rattle.nl_store_records.specs.declared.places.Border.{Border}

@@ -4,7 +4,7 @@ use Rattle.std.proofs.lemmas.List.{length-map}
 use Rattle.std.proofs.lemmas.List.Sums.{count_by-le-length, length-filter}
 use Rattle.std.proofs.lemmas.Grind.{common_steps}
 use Rattle.nl_store_lists.specs.Laws.{IsInOrder}
-use Rattle.nl_store_lists.specs.Threads.{has, IsOnce}
+use Rattle.nl_store_lists.specs.Chained.{has, IsOnce}
 use Rattle.nl_store_lists.specs.Rising.{IsRisingBy}
 use Rattle.nl_store_lists.proofs.Members.{has-first, has-later}
 use Rattle.nl_store_lists.proofs.Rising.{rising-one, rising-same}
@@ -14,7 +14,7 @@ use Rattle.nl_store_records.specs.declared.places.Border.{Border}
 use Rattle.nl_store_records.specs.declared.record.Record.{Record}
 use Rattle.nl_index.specs.Index.{first_of, serial_at}
 use Rattle.nl_links.proofs.Holding.{first-key}
-use Rattle.nl_store_lists.specs.Rolls.{number_in, passes, roll, IsRoll}
+use Rattle.nl_store_lists.specs.Rolls.{listed_serial, passes, roll, IsRoll}
 use Rattle.nl_store_lists.proofs.Walked.{numbers-rise, walked-long, walked-once, walked-rising, walked-same}
 use Rattle.nl_store_files.specs.Walks.{serials_of, IsPath}
 use Rattle.nl_store_files.proofs.Left.{path-of-walk}
@@ -37,19 +37,19 @@ filter-whole (x ∷ xs) = ap (λ ys. x ∷ ys) (filter-whole xs)
 
 module _ {X : Type 0} (number_of : X → ℕ) (item : ℕ → Option X) (key_of : ℕ → Option ℕ) (n : ℕ) (d : IsRoll number_of item key_of n) (p : X → Bool) (at : ℕ → Option Record)
     (serials : (k : ℕ) (x : X) → item k ≡ Some x → serial_at at k ≡ number_of x) (ks : List ℕ) (once : IsOnce ks) (members : (k : ℕ) → has ks k ≡ passes p (item k)) where
-  numbers : (k : ℕ) (o : Option X) → item k ≡ o → has ks k ≡ true → serial_at at k ≡ number_in number_of (item k)
+  numbers : (k : ℕ) (o : Option X) → item k ≡ o → has ks k ≡ true → serial_at at k ≡ listed_serial number_of (item k)
   numbers k None e h = absurd (let z = sym (ap (passes p) e) ∙ sym (members k) ∙ h in cc)
-  numbers k (Some x) e h = serials k x e ∙ sym (ap (number_in number_of) e)
+  numbers k (Some x) e h = serials k x e ∙ sym (ap (listed_serial number_of) e)
 
-  told : serials_of at ks ≡ map (λ k. number_in number_of (item k)) ks
-  told = map-where (serial_at at) (λ k. number_in number_of (item k)) ks (λ k h. numbers k (item k) refl h)
+  told : serials_of at ks ≡ map (λ k. listed_serial number_of (item k)) ks
+  told = map-where (serial_at at) (λ k. listed_serial number_of (item k)) ks (λ k h. numbers k (item k) refl h)
 
   pub listed-once : IsOnce (serials_of at ks)
   listed-once = subst IsOnce (sym told) (walked-once number_of item key_of n d p ks once members)
 
   -- in the order of the chain
   pub listed-order : IsRisingBy (serial_at at) ks → serials_of at ks ≡ map number_of (filter p (roll item key_of n))
-  listed-order r = told ∙ walked-rising number_of item key_of n d p ks once members (rising-same (serial_at at) (λ k. number_in number_of (item k)) ks (λ k h. sym (numbers k (item k) refl h)) r)
+  listed-order r = told ∙ walked-rising number_of item key_of n d p ks once members (rising-same (serial_at at) (λ k. listed_serial number_of (item k)) ks (λ k h. sym (numbers k (item k) refl h)) r)
 
   -- sorted
   pub listed-sorted : (ys : List ℕ) → IsInOrder (serials_of at ks) ys → ys ≡ map number_of (filter p (roll item key_of n))
@@ -57,7 +57,7 @@ module _ {X : Type 0} (number_of : X → ℕ) (item : ℕ → Option X) (key_of 
 
   -- how many there are
   pub listed-long : length ks ≡ length (filter p (roll item key_of n))
-  listed-long = sym (length-map ks (λ k. number_in number_of (item k))) ∙ walked-long number_of item key_of n d p ks once members ∙ length-map (filter p (roll item key_of n)) number_of
+  listed-long = sym (length-map ks (λ k. listed_serial number_of (item k))) ∙ walked-long number_of item key_of n d p ks once members ∙ length-map (filter p (roll item key_of n)) number_of
 
   pub listed-short : length ks ≤ length (roll item key_of n)
   listed-short = subst (λ m. m ≤ length (roll item key_of n)) (sym listed-long) (filter-short p (roll item key_of n))

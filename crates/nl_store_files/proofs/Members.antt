@@ -4,7 +4,7 @@ use Rattle.std.specs.List.{list_any}
 use Rattle.nl_grid.specs.Geometry.{Plane, patch_at}
 use Rattle.nl_agents.specs.declared.agents.Turtle as living
 use Rattle.nl_agents.specs.declared.agents.Link as tie
-use Rattle.nl_store_lists.specs.Threads.{has, IsOnce}
+use Rattle.nl_store_lists.specs.Chained.{has, IsOnce}
 use Rattle.nl_store_lists.specs.Rising.{collect}
 use Rattle.nl_store_lists.proofs.Members.{has-first}
 use Rattle.nl_store_records.specs.declared.fields.Body.{Body}

@@ -2,7 +2,7 @@
 use Rattle.std.proofs.Common.{◌≡◌, ◌≢◌, ℕ, Bool, true, false, List, [], Option, Some, None, IsSomeAnd, is_some, eqb, cond, refl, sym, ap, ◌∙◌, arith, subst}
 use Rattle.std.specs.Option.{option_map}
 use Rattle.nl_grid.specs.Geometry.{Plane}
-use Rattle.nl_store_lists.specs.Threads.{has, IsPlace}
+use Rattle.nl_store_lists.specs.Chained.{has, IsPlace}
 use Rattle.nl_store_lists.proofs.Threaded.{home-of, stays_threaded}
 use Rattle.nl_store_lists.proofs.Rising.{rising-same}
 use Rattle.nl_store_records.specs.Records.{fields_at, no_place, with_fields}

@@ -2,7 +2,7 @@
 use Rattle.std.proofs.Common.{◌≡◌, ℕ, ◌+◌, Bool, true, false, not, [], length, filter, Option, Some, None, sym, ap, ◌∙◌, arith}
 use Rattle.std.specs.List.{list_any}
 use Rattle.nl_agents.specs.Changes.{has_end}
-use Rattle.nl_store_lists.specs.Threads.{at_number}
+use Rattle.nl_store_lists.specs.Chained.{at_number}
 use Rattle.nl_store_records.specs.Records.{fields_at, Sets}
 use Rattle.nl_store_records.specs.declared.fields.Fields.{Fields}
 use Rattle.nl_store_records.specs.declared.record.Record.{Record}

@@ -1,7 +1,7 @@
 -- What the steps of calls on links come to.
 use Rattle.std.proofs.Common.{◌≡◌, ℕ, ◌+◌, ◌<◌, Bool, true, false, [], ◌∷◌, ◌++◌, length, Option, Some, None, IsSome, IsSomeAnd, eqb, sym, ap, ◌∙◌, arith, subst, length-append}
 use Rattle.nl_agents.specs.Nouns.{Vars}
-use Rattle.nl_store_lists.specs.Threads.{at_number}
+use Rattle.nl_store_lists.specs.Chained.{at_number}
 use Rattle.nl_store_records.specs.Records.{fields_at, SameRecords, Sets}
 use Rattle.nl_store_records.specs.declared.fields.Body.TheVariants.{Link}
 use Rattle.nl_store_records.specs.declared.fields.Fields.{Fields}

@@ -1,6 +1,6 @@
 -- Walks along a chain of records.
 use Rattle.std.specs.Prelude.{◌≡◌, ℕ, ◌≤◌, List, [], ◌∷◌, ◌++◌, length, map, Option, Some, None, IsSome}
-use Rattle.nl_store_lists.specs.Threads.{IsOnce}
+use Rattle.nl_store_lists.specs.Chained.{IsOnce}
 use Rattle.nl_store_lists.specs.Rising.{IsRisingBy}
 use Rattle.nl_store_records.specs.Filed.{next_of}
 use Rattle.nl_store_records.specs.declared.record.Record.{Record}

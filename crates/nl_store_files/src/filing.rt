@@ -22,7 +22,7 @@ pub(crate) fn make_room(
     ensures keys { SameKeys keys.old keys.new }
 {
     records.room(alloc)?;
-    keys.room()?;
+    keys.room(alloc)?;
     Ok(())
 }
 

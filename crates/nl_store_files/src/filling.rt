@@ -1,6 +1,6 @@
 //! Lists of serials of whole chains.
 ghost use Rattle.std.specs.Prelude.{◌≡◌, ◌+◌, ◌<◌, ◌≤◌, ◌++◌, [], ℕ, List, length, OnOk};
-ghost use Rattle.nl_store_lists.specs.Threads.{IsOnce};
+ghost use Rattle.nl_store_lists.specs.Chained.{IsOnce};
 ghost use Rattle.nl_store_lists.specs.Rising.{IsRisingBy};
 ghost use Rattle.nl_store_lists.specs.Laws.{IsInOrder};
 ghost use Rattle.nl_store_records.specs.Records.{record_at};

@@ -52,13 +52,13 @@ impl Keys {
     }
 
     /// Makes room for one more.
-    pub(crate) fn room(&mut self) -> Result<(), NoMemory>
+    pub(crate) fn room(&mut self, alloc: Global) -> Result<(), NoMemory>
         ensures room { OnOk result (HasPlace self.new) }
         ensures keys { (s : ℕ) → key_in self.new s ≡ key_in self.old s }
         ensures count { key_count self.new ≡ key_count self.old }
     {
         self.map.reserve(1)?;
-        self.hints.room(self.map.len() + 1)
+        self.hints.room(alloc, self.map.len() + 1)
     }
 
     /// Keeps the key of a serial that has none. It takes no memory.

@@ -2,11 +2,11 @@
 #![tactic(auto)]
 
 pub mod changing;
-pub mod files;
 pub mod filing;
 pub mod filling;
 pub mod keys;
 pub mod looking;
+pub mod registry;
 pub mod walk;
 
-pub use files::Files;
+pub use registry::Registry;

@@ -4,7 +4,7 @@ use Rattle.std.specs.Option.{option_to_list}
 use Rattle.std.proofs.lemmas.Grind.{common_steps}
 use Rattle.std.proofs.lemmas.Bool.{cases_eq}
 use Rattle.std.proofs.lemmas.List.{append-nil}
-use Rattle.nl_store_lists.specs.Threads.{has, without, at_number}
+use Rattle.nl_store_lists.specs.Chained.{has, without, at_number}
 use Rattle.nl_store_lists.specs.Rising.{IsRisingBy, collect}
 use Rattle.nl_store_lists.proofs.Members.{has-rest, has-append, has-without}
 use Rattle.nl_store_lists.proofs.Places.{at-here, at-other}

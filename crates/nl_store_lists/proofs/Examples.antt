@@ -1,6 +1,6 @@
 -- What the definitions are for three keys, and for lists of other keys.
 use Rattle.std.proofs.Common.{◌≡◌, ℕ, List, [], ◌∷◌, Option, Some, None, refl}
-use Rattle.nl_store_lists.specs.Threads.{IsOnce, without, at_number, IsWalk, put_last, take_out}
+use Rattle.nl_store_lists.specs.Chained.{IsOnce, without, at_number, IsWalk, put_last, take_out}
 use Rattle.nl_store_lists.specs.Rising.{collect}
 
 -- the border leads to 7, 7 to 3, 3 to 5, and 5 to the border

@@ -1,6 +1,6 @@
 -- Lemmas on steps that lead forth and back.
 use Rattle.std.proofs.Common.{◌≡◌, ◌≢◌, ℕ, Option, Some, None, sym, ap, ◌∙◌, inl, inr, subst}
-use Rattle.nl_store_lists.specs.Threads.{at_number, IsPlace, IsInverse, Turns}
+use Rattle.nl_store_lists.specs.Chained.{at_number, IsPlace, IsInverse, Turns}
 use Rattle.nl_store_lists.proofs.Places.{at-here, spot-cases, at-spot, place-kept, place-stays, place-new, place-old}
 
 -- from two places no step leads to one

@@ -1,7 +1,7 @@
 -- Lemmas on places, and on functions that are changed at one number.
 use Rattle.std.proofs.Common.{◌≡◌, ◌≢◌, ◌⊎◌, ℕ, true, false, Option, Some, None, eqb, cond, refl, sym, ap, ◌∙◌, inl, inr, arith, subst}
 use Rattle.std.proofs.lemmas.Bool.{cases_eq}
-use Rattle.nl_store_lists.specs.Threads.{at_number, is_in, IsPlace}
+use Rattle.nl_store_lists.specs.Chained.{at_number, is_in, IsPlace}
 
 pub at-here : {A : Type 0} (f : ℕ → A) (number : ℕ) (value : A) → at_number f number value number ≡ value
 at-here f number value = let e : eqb number number ≡ true = grind arith in ap (λ b. cond b value (f number)) e

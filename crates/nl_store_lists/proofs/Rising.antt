@@ -6,7 +6,7 @@ use Rattle.std.proofs.lemmas.Grind.{common_steps}
 use Rattle.std.proofs.lemmas.Bool.{cases_eq}
 use Rattle.std.proofs.lemmas.List.Sums.{sum_by-cons}
 use Rattle.std.proofs.lemmas.List.Sorted.{sum_by-IsPermutation, list_any-IsPermutation}
-use Rattle.nl_store_lists.specs.Threads.{has, IsOnce, without}
+use Rattle.nl_store_lists.specs.Chained.{has, IsOnce, without}
 use Rattle.nl_store_lists.specs.Rising.{IsRisingBy}
 use Rattle.nl_store_lists.specs.Laws.{IsInOrder}
 use Rattle.nl_store_lists.proofs.Members.{has-first, has-later, has-rest, has-append}

@@ -1,7 +1,7 @@
 -- What becomes of a roll when an item comes, goes or is changed.
 use Rattle.std.proofs.Common.{◌≡◌, ◌≢◌, ℕ, ◌+◌, ◌<◌, ◌≤◌, Bool, not, [], ◌∷◌, ◌++◌, length, map, filter, find, Option, Some, None, cond, refl, sym, ap, ◌∙◌, inl, inr, arith, subst}
 use Rattle.std.proofs.lemmas.Bool.{cases_eq, cases_lt}
-use Rattle.nl_store_lists.specs.Threads.{at_number}
+use Rattle.nl_store_lists.specs.Chained.{at_number}
 use Rattle.nl_store_lists.proofs.Places.{at-here, at-other}
 use Rattle.nl_store_lists.proofs.Collected.{collect-same}
 use Rattle.nl_store_lists.specs.Rolls.{under, numbered, roll, HasNumber, IsRoll}

@@ -1,7 +1,7 @@
 -- What becomes of lists when a key is taken out or put at the end.
 use Rattle.std.proofs.Common.{◌≡◌, ◌≢◌, ℕ, Bool, true, false, List, [], ◌∷◌, ◌++◌, Option, Some, None, eqb, cond, refl, sym, ap, ◌∙◌, inl, inr, subst}
 use Rattle.std.proofs.lemmas.Bool.{cases_eq}
-use Rattle.nl_store_lists.specs.Threads.{has, IsOnce, without, at_number, put_last, take_out, IsWalk, is_in, IsPlace, IsThreaded, Turns}
+use Rattle.nl_store_lists.specs.Chained.{has, IsOnce, without, at_number, put_last, take_out, IsWalk, is_in, IsPlace, IsThreaded, Turns}
 use Rattle.nl_store_lists.proofs.Members.{has-without, once-without, has-append, once-append}
 use Rattle.nl_store_lists.proofs.Walks.{walk-moves, walk-same, walk-without, walk-append, walk-one}
 use Rattle.nl_store_lists.proofs.Places.{at-here, at-other, at-each, is_in-here, is_in-true, is_in-other, place-stays}

@@ -4,12 +4,12 @@ use Rattle.std.specs.Prelude.{slice_index}
 use Rattle.std.specs.Option.{option_map}
 use Rattle.std.specs.List.Sorted.{IsPermutation, IsNonDecreasing, IsStrictlyIncreasing}
 use Rattle.std.proofs.lemmas.Bool.{cases_eq}
-use Rattle.nl_store_lists.specs.Threads.{has, IsOnce, without}
+use Rattle.nl_store_lists.specs.Chained.{has, IsOnce, without}
 use Rattle.nl_store_lists.specs.Rising.{IsRisingBy, collect}
 use Rattle.nl_store_lists.proofs.Members.{has-first, has-later, has-rest, has-without, once-without}
 use Rattle.nl_store_lists.proofs.Rising.{rising-one, rising-once, rising-sorted}
 use Rattle.nl_store_lists.proofs.Collected.{collected-from, has-collect, length-without, rising-collect}
-use Rattle.nl_store_lists.specs.Rolls.{under, numbered, roll, passes, number_in, IsRoll}
+use Rattle.nl_store_lists.specs.Rolls.{under, numbered, roll, passes, listed_serial, IsRoll}
 use Rattle.nl_store_lists.proofs.Collecting.{kept, collect-map, collect-filter}
 use Rattle.nl_store_lists.proofs.Rolls.{roll-own}
 
@@ -123,14 +123,14 @@ module _ {X : Type 0} (number_of : X → ℕ) (item : ℕ → Option X) (key_of 
   -- a list of these keys
   module _ (ks : List ℕ) (once : IsOnce ks) (members : (k : ℕ) → has ks k ≡ passes p (item k)) where
     abbrev number_at : ℕ → ℕ
-    number_at k = number_in number_of (item k)
+    number_at k = listed_serial number_of (item k)
 
     member-item : (k : ℕ) (o : Option X) → item k ≡ o → has ks k ≡ true → (x : X) × (item k ≡ Some x) × (p x ≡ true)
     member-item k None e h = absurd (let z = sym (ap (passes p) e) ∙ sym (members k) ∙ h in cc)
     member-item k (Some x) e h = (x, e, sym (ap (passes p) e) ∙ sym (members k) ∙ h)
 
     member-key : (k : ℕ) → has ks k ≡ true → key_of (number_at k) ≡ Some k
-    member-key k h = let r = member-item k (item k) refl h in ap key_of (ap (number_in number_of) r.1) ∙ d.found k r.0 r.1
+    member-key k h = let r = member-item k (item k) refl h in ap key_of (ap (listed_serial number_of) r.1) ∙ d.found k r.0 r.1
 
     one-key : (j k : ℕ) → has ks j ≡ true → has ks k ≡ true → number_at j ≡ number_at k → j ≡ k
     one-key j k hj hk e =
@@ -146,7 +146,7 @@ module _ {X : Type 0} (number_of : X → ℕ) (item : ℕ → Option X) (key_of 
     there m h =
         let z = mapped-from number_at ks m h in
         let r = member-item z.0 (item z.0) refl z.1 in
-        let at : number_of r.0 ≡ m = sym (ap (number_in number_of) r.1) ∙ z.2 in
+        let at : number_of r.0 ≡ m = sym (ap (listed_serial number_of) r.1) ∙ z.2 in
         let key : key_of m ≡ Some z.0 = ap key_of (sym at) ∙ d.found z.0 r.0 r.1 in
         ap (λ xs. has xs m) (sym numbers-are) ∙ has-collect told n m m (d.below m z.0 key) (told-passes m r.0 (ap (under item) key ∙ r.1) r.2)
 
@@ -154,7 +154,7 @@ module _ {X : Type 0} (number_of : X → ℕ) (item : ℕ → Option X) (key_of 
     back-under m None e h = absurd (cc)
     back-under m (Some k) e h =
         let r = d.right m k e in
-        let at : number_at k ≡ m = ap (number_in number_of) r.is ∙ r.number_is in
+        let at : number_at k ≡ m = ap (listed_serial number_of) r.is ∙ r.number_is in
         subst (λ i. has (map number_at ks) i ≡ true) at (mapped-to number_at ks k (members k ∙ h))
 
     pub walked-same : (m : ℕ) → has (map number_at ks) m ≡ has (map number_of (filter p (roll item key_of n))) m

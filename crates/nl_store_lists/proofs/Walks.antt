@@ -2,7 +2,7 @@
 use Rattle.std.proofs.Common.{◌≡◌, ◌≢◌, ℕ, true, false, List, [], ◌∷◌, ◌++◌, Option, Some, None, refl, sym, ap, ◌∙◌, inl, inr, arith, subst}
 use Rattle.std.proofs.lemmas.Grind.{common_steps}
 use Rattle.std.proofs.lemmas.Bool.{cases_eq}
-use Rattle.nl_store_lists.specs.Threads.{has, IsOnce, without, IsWalk}
+use Rattle.nl_store_lists.specs.Chained.{has, IsOnce, without, IsWalk}
 use Rattle.nl_store_lists.proofs.Members.{has-first, has-later, has-rest}
 
 -- the first step of a walk leads to a key of it

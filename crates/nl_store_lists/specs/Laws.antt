@@ -1,7 +1,7 @@
 -- What holds of lists that are kept as what stands after and before each key, and of lists in order.
 use Rattle.std.specs.Prelude.{◌≡◌, ◌↔◌, ℕ, ◌<◌, ◌+◌, true, List, [], length, Option, Some, None}
 use Rattle.std.specs.List.Sorted.{IsPermutation, IsNonDecreasing}
-use Rattle.nl_store_lists.specs.Threads.{has, IsOnce, without, at_number, put_last, take_out, IsThreaded, Turns}
+use Rattle.nl_store_lists.specs.Chained.{has, IsOnce, without, at_number, put_last, take_out, IsThreaded, Turns}
 use Rattle.nl_store_lists.specs.Rising.{IsRisingBy, collect}
 
 -- where no key is in a list and each border leads to itself, all lists are empty

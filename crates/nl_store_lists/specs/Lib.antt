@@ -1,4 +1,4 @@
 pub mod Laws
 pub mod Rising
 pub mod Rolls
-pub mod Threads
+pub mod Chained

@@ -1,7 +1,7 @@
 -- Lists of keys in order, and the lists that are collected in order.
 use Rattle.std.specs.Prelude.{◌≡◌, ℕ, zero, suc, ◌<◌, true, List, [], ◌∷◌, ◌++◌, Option}
 use Rattle.std.specs.Option.{option_to_list}
-use Rattle.nl_store_lists.specs.Threads.{has}
+use Rattle.nl_store_lists.specs.Chained.{has}
 
 -- what is measured of a key is less than what is measured of each key behind it
 abbrev pub IsRisingBy : (ℕ → ℕ) → List ℕ → Type 0

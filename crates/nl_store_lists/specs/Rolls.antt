@@ -23,9 +23,9 @@ passes test None = false
 passes test (Some x) = test x
 
 -- the number of an item, and 0 where there is none
-abbrev pub number_in : {X : Type 0} → (X → ℕ) → Option X → ℕ
-number_in number_of None = 0
-number_in number_of (Some x) = number_of x
+abbrev pub listed_serial : {X : Type 0} → (X → ℕ) → Option X → ℕ
+listed_serial number_of None = 0
+listed_serial number_of (Some x) = number_of x
 
 -- there is an item, and it has this number
 pub record HasNumber {X : Type 0} (number_of : X → ℕ) (slot : Option X) (number : ℕ) : Type 0 where

@@ -3,7 +3,7 @@ use Rattle.std.proofs.Common.{◌≡◌, ◌≢◌, ℕ, ◌<◌, List, Option, 
 use mathlib.Core.Path.{fun_ext}
 use Rattle.std.proofs.lemmas.Grind.{common_steps}
 use Rattle.std.proofs.lemmas.Bool.{cases_eq}
-use Rattle.nl_store_lists.specs.Threads.{at_number, put_last, take_out, IsPlace, Turns}
+use Rattle.nl_store_lists.specs.Chained.{at_number, put_last, take_out, IsPlace, Turns}
 use Rattle.nl_store_lists.proofs.Places.{at-other, place-kept}
 use Rattle.nl_store_lists.proofs.Threaded.{taken_out, put_at_end, stays_threaded}
 use Rattle.nl_store_records.specs.Filed.{after, before, next_of, previous_of, apart_from, IsFiled, IsHeld, KeepsOthers, Redirects, Stays}

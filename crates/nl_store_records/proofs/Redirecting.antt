@@ -1,7 +1,7 @@
 -- Lemmas on steps that lead elsewhere from one place.
 use Rattle.std.proofs.Common.{◌≡◌, ◌≢◌, ℕ, Bool, true, false, Option, Some, None, is_some, eqb, cond, ◌&&◌, ◌||◌, refl, sym, ap, ◌∙◌, inl, inr, arith, subst}
 use Rattle.std.proofs.lemmas.Bool.{cases_eq}
-use Rattle.nl_store_lists.specs.Threads.{at_number, IsPlace, Turns}
+use Rattle.nl_store_lists.specs.Chained.{at_number, IsPlace, Turns}
 use Rattle.nl_store_lists.proofs.Places.{place-kept}
 use Rattle.nl_store_records.specs.Filed.{same_place, Redirects, Stays}
 

@@ -3,8 +3,8 @@
 -- Chains of one kind are numbered. The border of each is its first and its last key; where the borders are kept is left open.
 use Rattle.std.specs.Prelude.{◌≡◌, ℕ, ◌==◌, List, Option, Some, None, is_some, IsSome, ◌&&◌, ◌||◌, Bool, true, false, if◌then◌else◌}
 use Rattle.std.specs.Option.{option_map}
-use Rattle.nl_store_lists.specs.Threads.{IsThreaded}
-use Rattle.nl_store_records.specs.Records.{place_of, with_place, no_place}
+use Rattle.nl_store_lists.specs.Chained.{IsThreaded}
+use Rattle.nl_store_records.specs.Records.{record_place, with_place, no_place}
 use Rattle.nl_store_records.specs.declared.record.Record.{Record}
 use Rattle.nl_store_records.specs.declared.places.Border.{Border}
 
@@ -14,11 +14,11 @@ no_keys = record { first = None; last = None }
 
 abbrev pub next_of : ℕ → Option Record → Option ℕ
 next_of chain None = None
-next_of chain (Some r) = (place_of chain r).next
+next_of chain (Some r) = (record_place chain r).next
 
 abbrev pub previous_of : ℕ → Option Record → Option ℕ
 previous_of chain None = None
-previous_of chain (Some r) = (place_of chain r).previous
+previous_of chain (Some r) = (record_place chain r).previous
 
 -- what stands after a place of a numbered chain: after its border the first key
 abbrev pub after : ℕ → (ℕ → Border) → (ℕ → Option Record) → ℕ → Option ℕ → Option ℕ

@@ -41,8 +41,8 @@ abbrev pub no_place : Place
 no_place = record { previous = None; next = None }
 
 -- the place in a chain of that kind: 0 births, 1 patch, 2 breed, 3 first end, and else second end
-abbrev pub place_of : ℕ → Record → Place
-place_of chain r =
+abbrev pub record_place : ℕ → Record → Place
+record_place chain r =
     if chain == 0 then r.births else if chain == 1 then r.patch else if chain == 2 then r.breed else if chain == 3 then r.end1 else r.end2
 
 abbrev pub with_place : ℕ → Place → Record → Record

@@ -1,7 +1,7 @@
 //! An agent with its places in chains.
 ghost use Rattle.std.specs.Prelude.{◌≡◌, ◌<◌, ℕ};
 ghost use Rattle.nl_store_records.specs.Packed.{IsPackable};
-ghost use Rattle.nl_store_records.specs.Records.{no_place, place_of, settled, with_place};
+ghost use Rattle.nl_store_records.specs.Records.{no_place, record_place, settled, with_place};
 
 use crate::fields::{Body, Fields};
 use crate::packed::Packed;
@@ -29,7 +29,7 @@ impl Record {
     /// An agent that is in no chain.
     pub fn new(fields: Fields) -> Record
         ensures fields { result.fields ≡ fields }
-        ensures places { (chain : ℕ) → place_of chain result ≡ no_place }
+        ensures places { (chain : ℕ) → record_place chain result ≡ no_place }
     {
         Record {
             fields,
@@ -51,7 +51,7 @@ impl Record {
     /// The key after this record in its chain of that kind: 0 births, 1 patch, 2 breed, 3 first end, 4 second end.
     pub fn next(&self, chain: u8) -> Option<usize>
         requires { chain < 5 }
-        ensures { result ≡ (place_of chain self.now).next }
+        ensures { result ≡ (record_place chain self.now).next }
     {
         self.place(chain).next
     }
@@ -59,7 +59,7 @@ impl Record {
     /// The key before this record in its chain of that kind, counted as in `next`.
     pub fn previous(&self, chain: u8) -> Option<usize>
         requires { chain < 5 }
-        ensures { result ≡ (place_of chain self.now).previous }
+        ensures { result ≡ (record_place chain self.now).previous }
     {
         self.place(chain).previous
     }
@@ -67,7 +67,7 @@ impl Record {
     /// The place in a chain of that kind.
     pub(crate) fn place(&self, chain: u8) -> Place
         requires { chain < 5 }
-        ensures place { result ≡ place_of chain self.now }
+        ensures place { result ≡ record_place chain self.now }
         ensures small { IsPackable result }
     {
         let packed = match chain {

@@ -36,7 +36,7 @@ fn add_cell(alloc: Global, text: &mut Str, cell: &[u8]) -> Result<(), NoMemory>
     ensures { OnOk result (text.new ≡ text.old ++ line_text (cell.now ∷ [])) }
 {
     let mut record = Record::empty(alloc);
-    record.push(cell)?;
+    record.push(alloc, cell)?;
     let bytes = record.text(alloc)?;
     text.append(alloc, bytes.as_bytes())
 }
@@ -46,10 +46,10 @@ fn add_names_of_bounds(alloc: Global, text: &mut Str) -> Result<(), NoMemory>
     ensures { OnOk result (text.new ≡ text.old ++ line_text names_of_bounds) }
 {
     let mut record = Record::empty(alloc);
-    record.push(b"min-pxcor")?;
-    record.push(b"max-pxcor")?;
-    record.push(b"min-pycor")?;
-    record.push(b"max-pycor")?;
+    record.push(alloc, b"min-pxcor")?;
+    record.push(alloc, b"max-pxcor")?;
+    record.push(alloc, b"min-pycor")?;
+    record.push(alloc, b"max-pycor")?;
     let bytes = record.text(alloc)?;
     text.append(alloc, bytes.as_bytes())
 }
@@ -73,11 +73,11 @@ fn add_columns(
     ensures { OnOk result (text.new ≡ text.old ++ line_text (columns variables.now metrics.now)) }
 {
     let mut record = Record::empty(alloc);
-    record.push(b"[run number]")?;
-    record.extend(variables)?;
-    record.push(b"[step]")?;
-    record.extend(metrics)?;
-    record.push(b"[end]")?;
+    record.push(alloc, b"[run number]")?;
+    record.extend(alloc, variables)?;
+    record.push(alloc, b"[step]")?;
+    record.extend(alloc, metrics)?;
+    record.push(alloc, b"[end]")?;
     let bytes = record.text(alloc)?;
     text.append(alloc, bytes.as_bytes())
 }

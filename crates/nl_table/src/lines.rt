@@ -37,7 +37,7 @@ impl<'a> Record<'a> {
     }
 
     /// Appends a cell.
-    pub fn push(&mut self, cell: &'a [u8]) -> Result<(), NoMemory>
+    pub fn push(&mut self, _alloc: Global, cell: &'a [u8]) -> Result<(), NoMemory>
         ensures { OnOk result (self.new ≡ self.old ++ cell.now ∷ []) }
     {
         self.cells.push(cell)?;
@@ -45,11 +45,11 @@ impl<'a> Record<'a> {
     }
 
     /// Appends these cells.
-    pub fn extend(&mut self, cells: &'a Cells) -> Result<(), NoMemory>
+    pub fn extend(&mut self, alloc: Global, cells: &'a Cells) -> Result<(), NoMemory>
         ensures { OnOk result (self.new ≡ self.old ++ cells.now) }
     {
         for cell in cells.as_slice() {
-            self.push(cell.as_bytes())?;
+            self.push(alloc, cell.as_bytes())?;
         }
         Ok(())
     }
@@ -88,6 +88,6 @@ pub fn line(alloc: Global, cells: &Cells) -> Result<Str, NoMemory>
     ensures { IfOk result (λ line. line ≡ line_text cells.now) }
 {
     let mut record = Record::empty(alloc);
-    record.extend(cells)?;
+    record.extend(alloc, cells)?;
     record.text(alloc)
 }

@@ -10,3 +10,4 @@ pub mod OrderOfAll
 pub mod StableSorts
 pub mod Searching
 pub mod Coloring
+pub mod Placing

@@ -1,5 +1,5 @@
 -- Values without where they lie in memory.
-use Rattle.std.specs.Prelude.{ℕ, ℤ, Bool, List, [], ◌∷◌}
+use Rattle.std.specs.Prelude.{ℕ, ℤ, Bool, List, [], ◌∷◌, Option, Some, None}
 use Rattle.nl_fixed.specs.Nouns.{Bytes}
 use Rattle.nl_value.specs.declared.sets.AgentSet.{AgentSet}
 
@@ -28,3 +28,8 @@ plains (p ∷ ps) = item_then p (plains ps)
 abbrev pub items_of : Plains → List Plain
 items_of no_items = []
 items_of (item_then first rest) = first ∷ items_of rest
+
+-- the text that a value is
+abbrev pub text_in : Plain → Option Bytes
+text_in (PlainWords bytes) = Some bytes
+text_in value = None

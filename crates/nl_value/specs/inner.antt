@@ -5,3 +5,4 @@ pub mod Contents
 pub mod Falls
 pub mod Rows
 pub mod Weights
+pub mod Kept

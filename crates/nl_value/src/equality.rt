@@ -10,7 +10,7 @@ ghost use Rattle.nl_value.specs.Views.{plain};
 use crate::life::Life;
 use crate::sets::AgentSet;
 use crate::values::{Items, Value};
-use nl_fixed::{NoMemory, Num, Str};
+use nl_fixed::{NoMemory, Num};
 use std::alloc::Global;
 
 impl Value {
@@ -32,12 +32,12 @@ impl Value {
         }
     }
 
-    fn is_words(&self, words: &Str) -> bool
+    fn is_words(&self, words: &[u8]) -> bool
         ensures { result ≡ equals_words words.now (plain self.now) }
     {
-        match self {
-            Value::Words(other) => words.as_bytes() == other.as_bytes(),
-            _ => false,
+        match self.text() {
+            Some(other) => words == other,
+            None => false,
         }
     }
 
@@ -180,7 +180,8 @@ pub fn same<L: Life>(alloc: Global, a: &Value, b: &Value, life: &L) -> Result<bo
     match a {
         Value::Number(number) => Ok(b.is_number(*number)),
         Value::Truth(truth) => Ok(b.is_truth(*truth)),
-        Value::Words(words) => Ok(b.is_words(words)),
+        Value::Words(words) => Ok(b.is_words(words.as_bytes())),
+        Value::Blank => Ok(b.is_words(&[])),
         Value::Items(items) => same_as_items(alloc, items, b, life),
         Value::Turtle(turtle) => Ok(same_as_turtle(*turtle, b, life)),
         Value::Patch(patch) => Ok(b.is_patch(*patch)),

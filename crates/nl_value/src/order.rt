@@ -4,6 +4,7 @@ ghost use Rattle.std.specs.Ordering.{nat_cmp};
 ghost use Rattle.std.specs.Cmp.Lexicographic.{slice_cmp};
 ghost use Rattle.nl_value.specs.Plain.{PlainTurtle, PlainLink};
 ghost use Rattle.nl_value.specs.Living.{fits, link_key};
+ghost use Rattle.nl_value.specs.inner.Contents.{compared_texts};
 ghost use Rattle.nl_value.specs.Order.{compared, comes_before, order_kind, rank, value_order};
 ghost use Rattle.nl_value.specs.Views.{plain};
 
@@ -30,7 +31,7 @@ impl Value {
     {
         match self {
             Value::Number(_) => OrderKind::Numbers,
-            Value::Words(_) => OrderKind::Texts,
+            Value::Words(_) | Value::Blank => OrderKind::Texts,
             Value::Turtle(turtle) if life.turtle_lives(*turtle) => OrderKind::Turtles,
             Value::Patch(_) => OrderKind::Patches,
             Value::Link(link) if life.link_lives(*link) => OrderKind::Links,
@@ -83,17 +84,26 @@ fn compare_links<L: Life>(a: u64, b: u64, life: &L) -> Option<Ordering>
     }
 }
 
+/// How two texts compare, by their bytes, or None where one is no text.
+fn compare_texts(a: &Value, b: &Value) -> Option<Ordering>
+    ensures { result ≡ compared_texts (plain a.now) (plain b.now) }
+{
+    match (a.text(), b.text()) {
+        (Some(x), Some(y)) => Some(x.cmp(y)),
+        _ => None,
+    }
+}
+
 /// How two values compare, or None where they have no order.
 fn compared<L: Life>(a: &Value, b: &Value, life: &L) -> Option<Ordering>
     ensures { result ≡ compared (L.living life.now) (plain a.now) (plain b.now) }
 {
     match (a, b) {
         (Value::Number(x), Value::Number(y)) => Some(x.millionths().cmp(&y.millionths())),
-        (Value::Words(x), Value::Words(y)) => Some(x.as_bytes().cmp(y.as_bytes())),
         (Value::Turtle(x), Value::Turtle(y)) => compare_turtles(*x, *y, life),
         (Value::Patch(x), Value::Patch(y)) => Some(x.cmp(y)),
         (Value::Link(x), Value::Link(y)) => compare_links(*x, *y, life),
-        _ => None,
+        _ => compare_texts(a, b),
     }
 }
 

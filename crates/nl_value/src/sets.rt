@@ -129,8 +129,6 @@ pub enum AgentSet {
 }
 
 impl AgentSet {
-    ghost use Rattle.std.specs.Prelude.{false, IsOk};
-    ghost use Rattle.nl_value.specs.Memory.{is_listed_set};
     ghost use Rattle.nl_value.specs.Sets.{set_kind};
 
     /// The kind of the agents that the set may hold.
@@ -141,23 +139,6 @@ impl AgentSet {
             AgentSet::Turtles | AgentSet::Breed(_) | AgentSet::SomeTurtles(_) => AgentKind::Turtle,
             AgentSet::Patches | AgentSet::SomePatches(_) => AgentKind::Patch,
             AgentSet::Links | AgentSet::LinkBreed(_) | AgentSet::SomeLinks(_) => AgentKind::Link,
-        }
-    }
-
-    /// The same set again. Only a set that is a list of numbers takes memory.
-    pub fn copy(&self, alloc: Global) -> Result<AgentSet, NoMemory>
-        ensures again { IfOk result (λ again. again ≡ self.now) }
-        ensures without { is_listed_set self.now ≡ false → IsOk result }
-    {
-        match self {
-            AgentSet::Turtles => Ok(AgentSet::Turtles),
-            AgentSet::Breed(breed) => Ok(AgentSet::Breed(*breed)),
-            AgentSet::Patches => Ok(AgentSet::Patches),
-            AgentSet::Links => Ok(AgentSet::Links),
-            AgentSet::LinkBreed(breed) => Ok(AgentSet::LinkBreed(*breed)),
-            AgentSet::SomeTurtles(numbers) => Ok(AgentSet::SomeTurtles(numbers.copy(alloc)?)),
-            AgentSet::SomePatches(numbers) => Ok(AgentSet::SomePatches(numbers.copy(alloc)?)),
-            AgentSet::SomeLinks(numbers) => Ok(AgentSet::SomeLinks(numbers.copy(alloc)?)),
         }
     }
 }

@@ -4,6 +4,7 @@ ghost use Rattle.nl_value.specs.Order.{comes_first};
 ghost use Rattle.nl_value.specs.Sorting.{sorted_by};
 
 use crate::life::Life;
+use crate::measures::{depths, sizes};
 use crate::order::compare;
 use crate::values::Items;
 use nl_fixed::NoMemory;
@@ -18,6 +19,8 @@ impl Items {
         ensures few { length self.old ≤ 20 → IsOk result }
     {
         self.list.sort_by(|a, b| compare(a, b, life))?;
+        self.size = sizes(&self.list);
+        self.depth = depths(&self.list);
         Ok(())
     }
 }

@@ -77,13 +77,13 @@ fn put_quoted(alloc: Global, out: &mut Str, bytes: &[u8]) -> Result<(), TextFail
 }
 
 /// Appends a text as it is, or between quotes.
-fn put_words(alloc: Global, out: &mut Str, words: &Str, quoted: bool) -> Result<(), TextFail>
+fn put_words(alloc: Global, out: &mut Str, words: &[u8], quoted: bool) -> Result<(), TextFail>
     ensures { Appends result out.old (if quoted then quoted_text words.now else words.now) out.new }
 {
     if quoted {
-        put_quoted(alloc, out, words.as_bytes())
+        put_quoted(alloc, out, words)
     } else {
-        put(alloc, out, words.as_bytes())
+        put(alloc, out, words)
     }
 }
 
@@ -167,7 +167,8 @@ fn put_value<L: Life>(
             put(alloc, out, digits.as_bytes())
         }
         Value::Truth(truth) => put_truth(alloc, out, *truth),
-        Value::Words(words) => put_words(alloc, out, words, quoted),
+        Value::Words(words) => put_words(alloc, out, words.as_bytes(), quoted),
+        Value::Blank => put_words(alloc, out, &[], quoted),
         Value::Items(items) => put_items(alloc, out, items, life),
         Value::Nobody => put(alloc, out, b"nobody"),
         Value::Turtle(_) | Value::Patch(_) | Value::Link(_) | Value::Set(_) => {

@@ -1,34 +1,46 @@
-//! Values that own their memory.
+//! Values that share texts, lists and sets.
 //!
 //! A value nests through its lists. What walks a value here recurses as deep as the value nests and no deeper: for values
 //! that the language makes that is at most 200. A value that is built by hand may nest deeper; each call then still gives
 //! the answer of its contract, and takes stack in proportion to the nesting.
 
+use crate::measures::{depths, depths_without, sizes, sizes_without};
 use crate::sets::AgentSet;
 use nl_fixed::{NoMemory, Num, Str};
 use std::alloc::Global;
 use std::marker::Model;
+use std::rc::Rc;
 
-/// A value. A turtle or a link is named by its serial, a patch by its number, and a value may name an agent that has died.
+/// A value, of 16 bytes: a tag, and a number or a shared pointer to what owns its memory, so that a copy takes no time. A
+/// turtle or a link is named by its serial, a patch by its number, and a value may name an agent that has died.
 #[cycle(value)]
 #[derive(Drop)]
 pub enum Value {
     Number(Num),
     Truth(bool),
-    Words(Str),
-    Items(Items),
+    Words(Rc<Str>),
+    /// The empty text, as labels are at first: it takes no memory.
+    Blank,
+    Items(Rc<Items>),
     Turtle(u64),
     Patch(u32),
     Link(u64),
     Nobody,
-    Set(AgentSet),
+    Set(Rc<AgentSet>),
 }
 
-/// Values in order, seen by contracts as a list of plain values.
+const _: () = prove!(size_of::<Value>() == 16);
+
+/// Values in order, seen by contracts as a list of plain values. Their sizes and depths are kept beside them, so that no
+/// list is walked to tell whether it is within the limits on values: lists that are shared may be far larger than what they
+/// take of memory.
 #[cycle(value)]
 #[derive(Drop)]
 pub struct Items {
     pub(crate) list: Vec<Value>,
+    // The sum of the items' sizes, and the greatest of their depths, as `measures` tells them.
+    pub(crate) size: u64,
+    pub(crate) depth: u32,
 }
 
 impl Model for Items {
@@ -46,6 +58,10 @@ impl Model for Items {
     ghost use Rattle.nl_value.specs.Views.{plain};
 
     ghost view = { λ a. map plain a.list.items };
+
+    ghost use Rattle.nl_value.specs.inner.Kept.{AreMeasures};
+
+    ghost invariant = { λ a. AreMeasures (map plain a.list.items) a.size a.depth };
 
     ghost size = { list_weight };
 
@@ -67,6 +83,8 @@ impl Items {
     {
         Items {
             list: Vec::new(alloc),
+            size: 0,
+            depth: 0,
         }
     }
 
@@ -74,7 +92,8 @@ impl Items {
     pub fn of_vec(list: Vec<Value>) -> Items
         ensures { result ≡ map plain list.items }
     {
-        Items { list }
+        let (size, depth) = (sizes(&list), depths(&list));
+        Items { list, size, depth }
     }
 
     /// One number, so many times.
@@ -122,7 +141,11 @@ impl Items {
         ensures ok { OnOk result (self.new ≡ self.old ++ plain value ∷ []) }
         ensures err { OnErr result (self.new ≡ self.old) }
     {
+        let size = self.size.saturating_add(value.size());
+        let depth = self.depth.max(value.depth());
         self.list.push(value)?;
+        self.size = size;
+        self.depth = depth;
         Ok(())
     }
 
@@ -131,7 +154,12 @@ impl Items {
         ensures rest { self.new ≡ take (length self.old - 1) self.old }
         ensures last { option_map plain result ≡ slice_get self.old (length self.old - 1) }
     {
-        self.list.pop()
+        let last = self.list.pop();
+        if let Some(gone) = &last {
+            self.size = sizes_without(&self.list, self.size, gone);
+            self.depth = depths_without(&self.list, self.depth, gone);
+        }
+        last
     }
 
     /// Takes the values away that stand behind the first so many.
@@ -139,6 +167,8 @@ impl Items {
         ensures { self.new ≡ take most self.old }
     {
         self.list.truncate(most);
+        self.size = sizes(&self.list);
+        self.depth = depths(&self.list);
     }
 
     /// Puts the value at a place, counted from 0, and hands back the one that stood there.
@@ -147,12 +177,15 @@ impl Items {
         ensures new { self.new ≡ slice_set self.old at (plain value) }
         ensures old { slice_get self.old at ≡ Some (plain result) }
     {
-        let place = &mut self.list[at];
-        std::mem::replace(place, value)
+        let size = self.size.saturating_add(value.size());
+        let depth = self.depth.max(value.depth());
+        let old = std::mem::replace(&mut self.list[at], value);
+        self.size = sizes_without(&self.list, size, &old);
+        self.depth = depths_without(&self.list, depth, &old);
+        old
     }
 
-    /// The same values again.
-    #[cycle(copy)]
+    /// The same values again: a new list of values that are shared.
     pub fn copy(&self, alloc: Global) -> Result<Items, NoMemory>
         ensures { IfOk result (λ items. items ≡ self.now) }
     {
@@ -163,29 +196,77 @@ impl Items {
         }
         Ok(copied)
     }
+
+    /// The list that a value held: without a copy where no other value holds it.
+    pub fn taken(alloc: Global, shared: Rc<Items>) -> Result<Items, NoMemory>
+        ensures { IfOk result (λ items. items ≡ shared.value) }
+    {
+        match Rc::try_unwrap(shared) {
+            Ok(items) => Ok(items),
+            Err(shared) => shared.copy(alloc),
+        }
+    }
 }
 
 impl Value {
-    ghost use Rattle.std.specs.Prelude.{◌≡◌, false, IfOk, IsOk};
-    ghost use Rattle.nl_value.specs.Memory.{holds_memory};
+    ghost use Rattle.std.specs.Prelude.{◌≡◌, false, option_map, IfOk, IsOk};
+    ghost use Rattle.nl_value.specs.Memory.{is_shared};
+    ghost use Rattle.nl_value.specs.Plain.{PlainWords, PlainItems, PlainSet, plains, text_in};
     ghost use Rattle.nl_value.specs.Views.{plain};
 
-    /// The same value again. Only a text, a list and a listed set take memory.
-    #[cycle(copy)]
-    pub fn copy(&self, alloc: Global) -> Result<Value, NoMemory>
-        ensures value { IfOk result (λ value. value ≡ self.now) }
-        ensures without { holds_memory (plain self.now) ≡ false → IsOk result }
+    /// The bytes of the text that the value is.
+    pub fn text(&self) -> Option<&[u8]>
+        ensures { option_map (λ bytes. bytes.now) result ≡ text_in (plain self.now) }
+    {
+        match self {
+            Value::Words(words) => Some(words.as_bytes()),
+            Value::Blank => Some(&[]),
+            _ => None,
+        }
+    }
+
+    /// The value that is a text.
+    pub fn words(alloc: Global, text: Str) -> Result<Value, NoMemory>
+        ensures { IfOk result (λ value. plain value ≡ PlainWords text) }
+    {
+        let shared = Rc::new(alloc, text)?;
+        Ok(Value::Words(shared))
+    }
+
+    /// The value that is a list.
+    pub fn items(alloc: Global, items: Items) -> Result<Value, NoMemory>
+        ensures { IfOk result (λ value. plain value ≡ PlainItems (plains items)) }
+    {
+        let shared = Rc::new(alloc, items)?;
+        Ok(Value::Items(shared))
+    }
+
+    /// The value that is a set.
+    pub fn set(alloc: Global, set: AgentSet) -> Result<Value, NoMemory>
+        ensures { IfOk result (λ value. plain value ≡ PlainSet set) }
+    {
+        let shared = Rc::new(alloc, set)?;
+        Ok(Value::Set(shared))
+    }
+
+    /// The same value again, in no time and without memory: texts, lists and sets are shared. An Err says that 2^64 values
+    /// share one.
+    #[inline(always)]
+    pub fn copy(&self, _alloc: Global) -> Result<Value, NoMemory>
+        ensures value { IfOk result (λ value. plain value ≡ plain self.now) }
+        ensures without { is_shared (plain self.now) ≡ false → IsOk result }
     {
         match self {
             Value::Number(number) => Ok(Value::Number(*number)),
             Value::Truth(truth) => Ok(Value::Truth(*truth)),
-            Value::Words(words) => Ok(Value::Words(words.copy(alloc)?)),
-            Value::Items(items) => Ok(Value::Items(items.copy(alloc)?)),
+            Value::Words(words) => Ok(Value::Words(words.clone()?)),
+            Value::Blank => Ok(Value::Blank),
+            Value::Items(items) => Ok(Value::Items(items.clone()?)),
             Value::Turtle(turtle) => Ok(Value::Turtle(*turtle)),
             Value::Patch(patch) => Ok(Value::Patch(*patch)),
             Value::Link(link) => Ok(Value::Link(*link)),
             Value::Nobody => Ok(Value::Nobody),
-            Value::Set(set) => Ok(Value::Set(set.copy(alloc)?)),
+            Value::Set(set) => Ok(Value::Set(set.clone()?)),
         }
     }
 }

@@ -114,12 +114,12 @@ fn name_of(alloc: Global, length: usize) -> Option<Str> {
 }
 
 // Whether the experiment has the name now.
-fn names<S: Store>(stage: &mut Stage<S>, name: Str) -> bool {
+fn names<S: Store>(alloc: Global, stage: &mut Stage<S>, name: Str) -> bool {
     let slot = stage.experiment;
-    stage
-        .store
-        .set_var(Owner::Observer, slot, Value::Words(name))
-        .is_ok()
+    match Value::words(alloc, name) {
+        Ok(name) => stage.store.set_var(Owner::Observer, slot, name).is_ok(),
+        Err(_) => false,
+    }
 }
 
 fn stage_of<S: Store>(alloc: Global) -> Option<Stage<S>> {
@@ -142,7 +142,7 @@ fn tells_a_name<S: Store>(alloc: Global, length: usize) -> bool {
         Told::Bytes(length),
         &[],
     );
-    names(&mut stage, name) && is_done(alloc, &row, &[], &mut stage)
+    names(alloc, &mut stage, name) && is_done(alloc, &row, &[], &mut stage)
 }
 
 #[test]

@@ -39,10 +39,10 @@ fn value_of<S: Store>(alloc: Global, tried: &Tried<S>, given: Given) -> Option<V
     match given {
         Given::Number(count) => Some(Value::Number(Num::new(count)?)),
         Given::Truth(truth) => Some(Value::Truth(truth)),
-        Given::Words(text) => Some(Value::Words(Str::of(alloc, text.as_bytes()).ok()?)),
+        Given::Words(text) => Value::words(alloc, Str::of(alloc, text.as_bytes()).ok()?).ok(),
         Given::Pair(first, second) => {
             let pair = pair_of(alloc, Num::new(first)?, Num::new(second)?)?;
-            Some(Value::Items(pair))
+            Value::items(alloc, pair).ok()
         }
         Given::Agent(named) => tried.value_of(alloc, named),
     }

@@ -109,6 +109,7 @@ fn is_told(value: &Value, told: Told) -> bool {
         (Value::Truth(truth), Told::Truth(wanted)) => *truth == wanted,
         (Value::Patch(patch), Told::Patch(wanted)) => *patch == wanted,
         (Value::Words(text), Told::Bytes(count)) => text.as_bytes().len() == count,
+        (Value::Blank, Told::Bytes(count)) => count == 0,
         (Value::Items(items), told) => is_list(items, told),
         (value, Told::Number(count)) => is_number(value, count),
         (value, Told::Turtle(serial)) => is_turtle(value, serial),

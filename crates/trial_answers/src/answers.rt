@@ -30,10 +30,13 @@ fn number(count: u32) -> Value {
 fn digits(alloc: Global, count: u32) -> Result<Answers, NoMemory> {
     let mut made = Answers::empty(alloc);
     for member in 0..count {
-        made.push(Answered {
-            member: u64::from(member),
-            value: number(member % 10 * 7 % 10),
-        })?;
+        made.push(
+            alloc,
+            Answered {
+                member: u64::from(member),
+                value: number(member % 10 * 7 % 10),
+            },
+        )?;
     }
     Ok(made)
 }
@@ -48,10 +51,13 @@ fn mixed(alloc: Global, count: u32) -> Result<Answers, NoMemory> {
         } else {
             number(member % 10 * 7 % 10)
         };
-        made.push(Answered {
-            member: u64::from(member),
-            value,
-        })?;
+        made.push(
+            alloc,
+            Answered {
+                member: u64::from(member),
+                value,
+            },
+        )?;
     }
     Ok(made)
 }

@@ -19,10 +19,13 @@ fn holds(answer: Result<bool, NoMemory>) -> bool {
 fn many(alloc: Global, count: u32) -> Result<Locals, NoMemory> {
     let mut locals = Locals::empty(alloc);
     for at in 0..count {
-        locals.push(Local {
-            id: at % 10,
-            value: Value::Turtle(u64::from(at)),
-        })?;
+        locals.push(
+            alloc,
+            Local {
+                id: at % 10,
+                value: Value::Turtle(u64::from(at)),
+            },
+        )?;
     }
     Ok(locals)
 }

@@ -64,7 +64,7 @@ fn opens_both<'a>(alloc: Global, program: &'a Program, text: &'a Tree) -> bool {
     let Ok(mut code) = Code::new(alloc, program) else {
         return false;
     };
-    match code.open(text) {
+    match code.open(alloc, text) {
         Ok(root) => has_both(alloc, &code, root),
         Err(_) => false,
     }

@@ -30,8 +30,7 @@ pub(crate) enum Look {
     Count(u32, u32),
     /// The node of the body of a procedure.
     Body(u32, Option<u32>),
-    /// How many inputs a procedure has, and the number of one by its place.
-    InputCount(u32, usize),
+    /// The number of a procedure's input by its place.
     Input(u32, usize, Option<u32>),
     /// The text that a node is.
     Text(u32, &'static [u8]),
@@ -100,7 +99,6 @@ fn answers(code: &Code, first: u32, look: Look) -> bool {
         Look::Is(root, way, kind) => is_at(code, first.saturating_add(root), way, kind),
         Look::Count(node, count) => has_parts(code, first.saturating_add(node), count),
         Look::Body(procedure, node) => code.body(procedure) == node,
-        Look::InputCount(procedure, count) => code.input_count(procedure) == count,
         Look::Input(procedure, at, id) => code.input(procedure, at) == id,
         Look::Text(node, wanted) => is_text(code, first.saturating_add(node), wanted),
         Look::Behind(node, other) => code.span(node).start > code.span(other).start,

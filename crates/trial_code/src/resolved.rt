@@ -52,13 +52,12 @@ const BODIES: &[Look] = &[
 ];
 
 const INPUTS: &[Look] = &[
-    Look::InputCount(0, 1),
     Look::Input(0, 0, Some(0)),
-    Look::InputCount(1, 2),
+    Look::Input(0, 1, None),
     Look::Input(1, 0, Some(1)),
     Look::Input(1, 1, Some(0)),
     Look::Input(1, 2, None),
-    Look::InputCount(2, 0),
+    Look::Input(2, 0, None),
 ];
 
 #[test]
@@ -98,18 +97,28 @@ const SECOND: &[Look] = &[
 ];
 
 // The roots of two texts, one opened after the other. None where one has another answer than it is told, and at want of memory.
-fn opened<'a>(code: &mut Code<'a>, first: &'a Tree, second: &'a Tree) -> Option<(u32, u32)> {
-    let one = code.open(first).ok()?;
+fn opened<'a>(
+    alloc: Global,
+    code: &mut Code<'a>,
+    first: &'a Tree,
+    second: &'a Tree,
+) -> Option<(u32, u32)> {
+    let one = code.open(alloc, first).ok()?;
     if wrong_in(code, one, FIRST).is_some() {
         return None;
     }
-    let other = code.open(second).ok()?;
+    let other = code.open(alloc, second).ok()?;
     Some((one, other))
 }
 
 // Whether both texts stand at one place, the second in that of the first, and the bodies stay.
-fn takes_its_place<'a>(code: &mut Code<'a>, first: &'a Tree, second: &'a Tree) -> bool {
-    match opened(code, first, second) {
+fn takes_its_place<'a>(
+    alloc: Global,
+    code: &mut Code<'a>,
+    first: &'a Tree,
+    second: &'a Tree,
+) -> bool {
+    match opened(alloc, code, first, second) {
         Some((one, other)) => {
             one == other
                 && wrong_in(code, other, SECOND).is_none()
@@ -134,10 +143,10 @@ fn holds_both<'a>(alloc: Global, program: &'a Program, first: &'a Tree, second: 
     let Ok(mut code) = Code::new(alloc, program) else {
         return false;
     };
-    if !takes_its_place(&mut code, first, second) {
+    if !takes_its_place(alloc, &mut code, first, second) {
         return false;
     }
-    match code.open(second) {
+    match code.open(alloc, second) {
         Ok(root) => copies(alloc, &code, root),
         Err(_) => false,
     }

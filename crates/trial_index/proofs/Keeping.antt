@@ -5,7 +5,7 @@ use Rattle.std.specs.Option.{option_map, IsSomeAnd}
 use Rattle.std.proofs.lemmas.Bool.{cases_eq}
 use Rattle.nl_grid.specs.Geometry.{Plane}
 use Rattle.nl_grid.specs.declared.point.Point.{Point}
-use Rattle.nl_store_lists.specs.Threads.{at_number}
+use Rattle.nl_store_lists.specs.Chained.{at_number}
 use Rattle.nl_store_lists.proofs.Places.{at-here, at-other}
 use Rattle.nl_store_records.specs.Records.{fields_at, settled, SameRecords, Sets}
 use Rattle.nl_store_records.specs.declared.fields.Body.{Body}

@@ -12,7 +12,7 @@ const MANY: usize = 500_000;
 fn put_in_order(alloc: Global) -> Result<Hints, NoMemory> {
     let mut hints = Hints::new(alloc);
     for index in 0..MANY {
-        hints.room(index + 1)?;
+        hints.room(alloc, index + 1)?;
         hints.put((1_000 + index) as u64, index);
     }
     Ok(hints)
@@ -47,11 +47,11 @@ fn serials_that_share_a_place_have_one_hint_until_more_are_kept(
     rt: HostRuntime,
 ) -> Result<(), Fail> {
     let mut hints = Hints::new(rt.alloc());
-    hints.room(1)?;
+    hints.room(rt.alloc(), 1)?;
     hints.put(1, 5);
     hints.put(65, 9);
     assert_eq!(rt; (hints.of(1), hints.of(65), hints.of(2)), (9, 9, 0));
-    hints.room(65)?;
+    hints.room(rt.alloc(), 65)?;
     assert_eq!(rt; (hints.of(1), hints.of(65), hints.of(2)), (9, 9, 0));
     hints.put(65, 7);
     assert_eq!(rt; (hints.of(1), hints.of(65), hints.of(2)), (9, 7, 0));
@@ -61,7 +61,7 @@ fn serials_that_share_a_place_have_one_hint_until_more_are_kept(
 #[test]
 fn an_index_past_32_bits_is_no_hint(rt: HostRuntime) -> Result<(), Fail> {
     let mut hints = Hints::new(rt.alloc());
-    hints.room(1)?;
+    hints.room(rt.alloc(), 1)?;
     hints.put(3, 4_294_967_295);
     hints.put(3, 4_294_967_296);
     assert_eq!(rt; hints.of(3), 4_294_967_295);

@@ -83,7 +83,10 @@ fn agents(alloc: Global) -> Result<Items, Fail> {
 fn texts(alloc: Global) -> Result<Items, Fail> {
     let mut items = Items::empty(alloc);
     for text in ["b", "é", "a", "b"] {
-        items.push(alloc, Value::Words(Str::of(alloc, text.as_bytes())?))?;
+        items.push(
+            alloc,
+            Value::words(alloc, Str::of(alloc, text.as_bytes())?)?,
+        )?;
     }
     Ok(items)
 }
@@ -92,19 +95,19 @@ fn mixed(alloc: Global) -> Result<Items, Fail> {
     let mut items = Items::empty(alloc);
     items.push(alloc, Value::Truth(true))?;
     items.push(alloc, Value::Number(Num::whole(2).ok_or("out of range")?))?;
-    items.push(alloc, Value::Words(Str::of(alloc, b"b")?))?;
+    items.push(alloc, Value::words(alloc, Str::of(alloc, b"b")?)?)?;
     items.push(alloc, Value::Number(Num::whole(1).ok_or("out of range")?))?;
-    items.push(alloc, Value::Words(Str::of(alloc, b"a")?))?;
+    items.push(alloc, Value::words(alloc, Str::of(alloc, b"a")?)?)?;
     items.push(alloc, Value::Nobody)?;
     Ok(items)
 }
 
 fn deep(alloc: Global, depth: u64) -> Result<Value, Fail> {
-    let mut list = Value::Items(Items::empty(alloc));
+    let mut list = Value::items(alloc, Items::empty(alloc))?;
     for _ in 1..depth {
         let mut around = Items::empty(alloc);
         around.push(alloc, list)?;
-        list = Value::Items(around);
+        list = Value::items(alloc, around)?;
     }
     Ok(list)
 }
@@ -132,19 +135,19 @@ fn value_of(alloc: Global, given: Given) -> Result<Value, Fail> {
         Given::Whole(n) => Value::Number(Num::whole(n).ok_or("out of range")?),
         Given::True => Value::Truth(true),
         Given::False => Value::Truth(false),
-        Given::Text(text) => Value::Words(Str::of(alloc, text.as_bytes())?),
-        Given::Wholes(numbers) => Value::Items(wholes(alloc, numbers)?),
-        Given::Texts => Value::Items(texts(alloc)?),
-        Given::Mixed => Value::Items(mixed(alloc)?),
+        Given::Text(text) => Value::words(alloc, Str::of(alloc, text.as_bytes())?)?,
+        Given::Wholes(numbers) => Value::items(alloc, wholes(alloc, numbers)?)?,
+        Given::Texts => Value::items(alloc, texts(alloc)?)?,
+        Given::Mixed => Value::items(alloc, mixed(alloc)?)?,
         Given::DeadTurtle => Value::Turtle(7),
         Given::DeadLink => Value::Link(3),
         Given::Patch => Value::Patch(2),
         Given::Nobody => Value::Nobody,
-        Given::Set => Value::Set(AgentSet::Turtles),
-        Given::Agents => Value::Items(agents(alloc)?),
+        Given::Set => Value::set(alloc, AgentSet::Turtles)?,
+        Given::Agents => Value::items(alloc, agents(alloc)?)?,
         Given::Deep(depth) => deep(alloc, depth)?,
-        Given::Below(count) => Value::Items(below(alloc, count)?),
-        Given::Accents(count) => Value::Words(accents(alloc, count)?),
+        Given::Below(count) => Value::items(alloc, below(alloc, count)?)?,
+        Given::Accents(count) => Value::words(alloc, accents(alloc, count)?)?,
     })
 }
 

@@ -122,8 +122,11 @@ fn keep<S: Store>(store: &mut S, patch: u32, slot: u32, value: Value) -> bool
 fn keep_text<S: Store>(store: &mut S, alloc: Global, patch: u32, slot: u32) -> bool
     requires { patch < patches_of (S.world store.old).rest.shape }
 {
-    match Str::of(alloc, b"8") {
-        Ok(text) => keep(store, patch, slot, Value::Words(text)),
+    let Ok(text) = Str::of(alloc, b"8") else {
+        return false;
+    };
+    match Value::words(alloc, text) {
+        Ok(text) => keep(store, patch, slot, text),
         Err(_) => false,
     }
 }
@@ -153,7 +156,10 @@ pub(crate) fn fill_with<S: Store>(store: &mut S, alloc: Global, slot: u32, other
         let kept = match other {
             Other::Truth => keep(store, patch, slot, Value::Truth(true)),
             Other::Text => keep_text(store, alloc, patch, slot),
-            Other::List => keep(store, patch, slot, Value::Items(Items::empty(alloc))),
+            Other::List => match Value::items(alloc, Items::empty(alloc)) {
+                Ok(list) => keep(store, patch, slot, list),
+                Err(_) => false,
+            },
         };
         if !kept {
             return false;

@@ -1,5 +1,6 @@
 //! Inputs of queries as plain data. Numbers are in millionths.
-ghost use Rattle.std.specs.Prelude.{map, IfSome, IsTrue, ◌∷◌, []};
+ghost use Rattle.std.specs.Prelude.{◌≡◌, map, IfSome, IsTrue, ◌∷◌, []};
+ghost use Rattle.nl_value.specs.Plain.{PlainItems, plains};
 ghost use Rattle.nl_value.specs.Views.{plain};
 ghost use Rattle.nl_agents.specs.Standing.{fits_rest};
 ghost use Rattle.nl_agentset_query.specs.Inputs.{inputs_fit};
@@ -45,10 +46,20 @@ fn filled(alloc: Global, count: i64, many: usize) -> Option<Items>
     }
 }
 
+// The value that is the list of the items.
+fn listed(alloc: Global, items: Items) -> Option<Value>
+    ensures { IfSome result (λ value. plain value ≡ PlainItems (plains items)) }
+{
+    match Value::items(alloc, items) {
+        Ok(value) => Some(value),
+        Err(_) => None,
+    }
+}
+
 fn offset(alloc: Global, x: i64, y: i64) -> Option<Value>
     ensures { IfSome result (λ value. FitAlways (plain value ∷ [])) }
 {
-    Some(Value::Items(numbers(alloc, &[x, y])?))
+    Some(listed(alloc, numbers(alloc, &[x, y])?)?)
 }
 
 fn offsets(alloc: Global, pairs: &[(i64, i64)]) -> Option<Items>
@@ -79,10 +90,10 @@ fn value_of<S: Store>(alloc: Global, tried: &Tried<S>, given: Given) -> Option<V
         Given::Number(count) => Some(Value::Number(Num::new(count)?)),
         Given::Truth(truth) => Some(Value::Truth(truth)),
         Given::Agent(agent) => tried.value_of(alloc, agent),
-        Given::Numbers(counts) => Some(Value::Items(numbers(alloc, counts)?)),
-        Given::Filled(count, many) => Some(Value::Items(filled(alloc, count, many)?)),
-        Given::Agents(list) => Some(Value::Items(agents(alloc, tried, list)?)),
-        Given::Offsets(pairs) => Some(Value::Items(offsets(alloc, pairs)?)),
+        Given::Numbers(counts) => Some(listed(alloc, numbers(alloc, counts)?)?),
+        Given::Filled(count, many) => Some(listed(alloc, filled(alloc, count, many)?)?),
+        Given::Agents(list) => Some(listed(alloc, agents(alloc, tried, list)?)?),
+        Given::Offsets(pairs) => Some(listed(alloc, offsets(alloc, pairs)?)?),
     }
 }
 

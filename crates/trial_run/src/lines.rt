@@ -34,15 +34,16 @@ fn setting_cells(alloc: Global, settings: &[Setting]) -> Result<Cells, NoMemory>
 
 // Appends the texts of the metrics, of which there are so many; each is empty where nothing was measured.
 fn add_metrics<'a>(
+    alloc: Global,
     line: &mut Record<'a>,
     metrics: usize,
     texts: &'a Option<Cells>,
 ) -> Result<(), NoMemory> {
     if let Some(texts) = texts {
-        return line.extend(texts);
+        return line.extend(alloc, texts);
     }
     for _ in 0..metrics {
-        line.push(b"")?;
+        line.push(alloc, b"")?;
     }
     Ok(())
 }
@@ -53,11 +54,11 @@ pub(crate) fn row_line(alloc: Global, row: &Row, metrics: usize) -> Result<Str, 
     let settings = setting_cells(alloc, row.settings.as_slice())?;
     let step = decimal(alloc, row.step)?;
     let mut line = Record::empty(alloc);
-    line.push(number.as_bytes())?;
-    line.extend(&settings)?;
-    line.push(step.as_bytes())?;
-    add_metrics(&mut line, metrics, &row.cells)?;
-    line.push(row.end.as_bytes())?;
+    line.push(alloc, number.as_bytes())?;
+    line.extend(alloc, &settings)?;
+    line.push(alloc, step.as_bytes())?;
+    add_metrics(alloc, &mut line, metrics, &row.cells)?;
+    line.push(alloc, row.end.as_bytes())?;
     line.text(alloc)
 }
 

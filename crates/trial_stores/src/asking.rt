@@ -172,6 +172,7 @@ pub fn is_wanted(value: Option<&Value>, wanted: Wanted) -> bool {
         (Some(Value::Number(number)), Wanted::Number(count)) => Some(*number) == tenths(count),
         (Some(Value::Truth(truth)), Wanted::Truth(other)) => *truth == other,
         (Some(Value::Words(text)), Wanted::Words(other)) => text.as_bytes() == other.as_bytes(),
+        (Some(Value::Blank), Wanted::Words(other)) => other.is_empty(),
         (None, Wanted::Nothing) => true,
         _ => false,
     }

@@ -91,7 +91,7 @@ impl<S: Store> Tried<S> {
                     None
                 }
             }
-            set => Some(Value::Set(self.set_of(alloc, set)?)),
+            set => Value::set(alloc, self.set_of(alloc, set)?).ok(),
         }
     }
 }

@@ -4,6 +4,8 @@
 #[cfg(test)]
 mod layouts;
 #[cfg(test)]
+mod sharing;
+#[cfg(test)]
 mod small_world;
 #[cfg(test)]
 mod values;

@@ -96,8 +96,10 @@ impl Life for SmallWorld {
             Value::Turtle(2) => Str::of(alloc, b"(fox 2)"),
             Value::Turtle(_) => Str::of(alloc, b"(turtle 1)"),
             Value::Link(_) => Str::of(alloc, b"(link 0 1)"),
-            Value::Set(AgentSet::Breed(_)) => Str::of(alloc, b"(agentset, 1 foxes)"),
-            Value::Set(_) => Str::of(alloc, b"(agentset, 2 turtles)"),
+            Value::Set(set) => match &**set {
+                AgentSet::Breed(_) => Str::of(alloc, b"(agentset, 1 foxes)"),
+                _ => Str::of(alloc, b"(agentset, 2 turtles)"),
+            },
             _ => Str::of(alloc, b"(patch 1 -2)"),
         }
     }

@@ -80,7 +80,7 @@ fn number(millionths: i64) -> Value {
 }
 
 fn words(alloc: Global, bytes: &[u8]) -> Result<Value, NoMemory> {
-    Ok(Value::Words(Str::of(alloc, bytes)?))
+    Value::words(alloc, Str::of(alloc, bytes)?)
 }
 
 fn leaf_of(alloc: Global, leaf: Leaf) -> Result<Value, NoMemory> {
@@ -106,7 +106,7 @@ fn list(alloc: Global, leaves: &[Leaf]) -> Result<Value, NoMemory> {
     for leaf in leaves {
         push_leaf(alloc, &mut items, *leaf)?;
     }
-    Ok(Value::Items(items))
+    Value::items(alloc, items)
 }
 
 /// The list of the one value and a leaf.
@@ -114,7 +114,7 @@ fn list_and(alloc: Global, first: Value, second: Leaf) -> Result<Value, NoMemory
     let mut items = Items::empty(alloc);
     items.push(alloc, first)?;
     push_leaf(alloc, &mut items, second)?;
-    Ok(Value::Items(items))
+    Value::items(alloc, items)
 }
 
 /// The numbers of a slice that ascend from the first on.
@@ -145,10 +145,10 @@ fn made(alloc: Global, sample: Sample) -> Result<Value, NoMemory> {
         Sample::One(leaf) => leaf_of(alloc, leaf),
         Sample::List(leaves) => list(alloc, leaves),
         Sample::Nested(leaves, leaf) => list_and(alloc, list(alloc, leaves)?, leaf),
-        Sample::Set(members) => Ok(Value::Set(set_of(alloc, members)?)),
+        Sample::Set(members) => Value::set(alloc, set_of(alloc, members)?),
         Sample::Letters(count) => letters(alloc, count),
         Sample::Deep(times) => nested(alloc, times),
-        Sample::Falling => Ok(Value::Items(falling(alloc)?)),
+        Sample::Falling => Value::items(alloc, falling(alloc)?),
     }
 }
 
@@ -464,7 +464,7 @@ fn mixed(alloc: Global) -> Result<Items, NoMemory> {
 /// The values in the order of sorts.
 fn sorted(alloc: Global, mut items: Items) -> Result<Value, NoMemory> {
     items.sort(alloc, &SmallWorld)?;
-    Ok(Value::Items(items))
+    Value::items(alloc, items)
 }
 
 /// Whether a sort of values of several kinds has this text.
@@ -679,7 +679,7 @@ fn all_are_colors() -> bool {
 
 /// Whether the list of the primary colors has this text.
 fn primary_read(alloc: Global, wanted: &str) -> Result<bool, TextFail> {
-    let primary = Value::Items(primary_colors(alloc)?);
+    let primary = Value::items(alloc, primary_colors(alloc)?)?;
     let answer = reads(alloc, &primary, false, wanted);
     let_go(primary);
     answer
@@ -767,7 +767,7 @@ fn nested(alloc: Global, times: u32) -> Result<Value, NoMemory> {
     for _ in 0..times {
         let mut items = Items::empty(alloc);
         items.push(alloc, value)?;
-        value = Value::Items(items);
+        value = Value::items(alloc, items)?;
     }
     Ok(value)
 }

@@ -3,11 +3,11 @@ use Rattle.std.specs.Prelude.{◌≡◌, ◌≢◌, ◌+◌, ◌<◌, ◌≤◌,
 use Rattle.nl_fixed.specs.Nouns.{Bytes}
 use Rattle.nl_value.specs.Limits.{most_bytes}
 use Rattle.nl_listops_series.specs.declared.fail.ListFail.TheVariants.{TooLarge, NoMemory}
-use Rattle.nl_listops_series.specs.Outcomes.{Outcome}
+use Rattle.nl_listops_series.specs.Outcomes.{ListOutcome}
 
 -- at Ok the text `old` has become `new` by `more`, within the limit; an error but want of memory is TooLarge, and the whole would
 -- pass the limit
-abbrev pub PutsText : Outcome (Unit {0}) → Bytes → Bytes → Bytes → Type 0
+abbrev pub PutsText : ListOutcome (Unit {0}) → Bytes → Bytes → Bytes → Type 0
 PutsText result old more new =
     OnOk result (new ≡ old ++ more)
     × OnOk result (length new ≤ most_bytes)

@@ -1,6 +1,8 @@
 -- What the private tests of equality tell of a value: that it is of a kind, with this content.
-use Rattle.std.specs.Prelude.{ℕ, ℤ, Bool, false, ◌==◌}
-use Rattle.std.specs.Ordering.{int_eq}
+use Rattle.std.specs.Prelude.{ℕ, ℤ, Bool, false, ◌==◌, Option, Some, None}
+use Rattle.std.specs.Cmp.Lexicographic.{slice_cmp}
+use Rattle.std.specs.declared.cmp.Ordering.{Ordering}
+use Rattle.std.specs.Ordering.{int_eq, nat_cmp}
 use Rattle.std.specs.Str.{bytes_eq}
 use Rattle.std.specs.Bool.{beq}
 use Rattle.nl_fixed.specs.Nouns.{Bytes}
@@ -29,3 +31,8 @@ equals_patch m b = false
 abbrev pub equals_link : ℕ → Plain → Bool
 equals_link m (PlainLink n) = m == n
 equals_link m b = false
+
+-- texts compare by their bytes
+abbrev pub compared_texts : Plain → Plain → Option Ordering
+compared_texts (PlainWords a) (PlainWords b) = Some (slice_cmp nat_cmp a b)
+compared_texts a b = None

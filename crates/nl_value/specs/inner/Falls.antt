@@ -3,7 +3,7 @@ use Rattle.std.specs.Prelude.{◌≤◌, List, [], ◌∷◌, map}
 use Rattle.std.proofs.Common.{arith}
 use denote.Param.Weighed.{most, w_this}
 use Rattle.nl_value.specs.declared.values.Value.{Value}
-use Rattle.nl_value.specs.declared.values.Value.TheVariants.{Number, Truth, Words, Items, Turtle, Patch, Link, Nobody, Set}
+use Rattle.nl_value.specs.declared.values.Value.TheVariants.{Number, Truth, Words, Blank, Items, Turtle, Patch, Link, Nobody, Set}
 use Rattle.nl_value.specs.declared.values.Items.TheDeep.{deep-Value}
 use Rattle.nl_value.specs.Plain.{plains}
 use Rattle.nl_value.specs.inner.Weights.{weights}
@@ -14,6 +14,7 @@ falls [] = omega arith
 falls (Number count ∷ vs) = omega (arith, falls vs)
 falls (Truth truth ∷ vs) = omega (arith, falls vs)
 falls (Words bytes ∷ vs) = omega (arith, falls vs)
+falls (Blank ∷ vs) = omega (arith, falls vs)
 falls (Items items ∷ vs) = omega (arith, falls vs)
 falls (Turtle turtle ∷ vs) = omega (arith, falls vs)
 falls (Patch patch ∷ vs) = omega (arith, falls vs)

@@ -3,7 +3,7 @@ use Rattle.nl_value.specs.Views.{plain}
 use Rattle.nl_agentset.proofs.Neighboring.{link_is}
 use Rattle.nl_agentset.proofs.links.link_found.Goals as goal
 
-pub returns-in_ok-links-in-Turtle-2 : goal.returns-in_ok-links-in-Turtle-2
-returns-in_ok-links-in-Turtle-2 g c =
+pub returns-in_ok-links-in-Turtle-2-clause-answer : goal.returns-in_ok-links-in-Turtle-2-clause-answer
+returns-in_ok-links-in-Turtle-2-clause-answer g c =
     link_is (g.S.Store.world c.args.view.now.store.now).rest c.args.which c.args.breed c.args.caller c.in_ok-other.field-0 c.in-Turtle.turtle c.in-Turtle-2.other (map plain c.args.inputs.now) _ c.least_of.result _
     c.in-Turtle.is c.in_ok-other.ensures.agent c.in-Turtle-2.is c.in_ok-links-in-Turtle-2.ensures.links c.least_of.ensures c.agent_or_nobody.ensures

@@ -11,8 +11,8 @@ first_between-requires g c =
     let w = g.S.Store.world c.args.store.now in
     subst (λ (zs : List ℕ). All (λ z. LinkLives z w) zs) (sym c.in_ok-links_of.ensures.list) (links_live w (has_end c.in-Some-Some.first) c.shape-stands.ensures.stands)
 
-pub returns : goal.returns
-returns g c =
+pub returns-clause-link : goal.returns-clause-link
+returns-clause-link g c =
     let w = g.S.Store.world c.args.store.now in
     let first = c.in-Some-Some.first in
     let second = c.in-Some-Some.second in

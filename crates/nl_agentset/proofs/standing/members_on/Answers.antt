@@ -24,8 +24,8 @@ of_vec-requires g c =
     let all = take_all c.loop-number.number-index c.as_slice-numbers.result.now (omega arith) ∙ c.as_slice-numbers.ensures.value in
     subst Ascends (sym (c.loop-number.invariant ∙ ap (filter kept) all)) (IsStrictlyIncreasing-filter kept _ c.as_slice-numbers.ensures.ascending)
 
-pub returns : goal.returns
-returns g c =
+pub returns-clause-list : goal.returns-clause-list
+returns-clause-list g c =
     let r = (g.S.Store.world c.args.store.now).rest in
     let kept : ℕ → Bool = stands_where (is_on_one r.shape c.args.patches.now) r (set_kind c.args.set.now) in
     let all = take_all c.loop-number.number-index c.as_slice-numbers.result.now (omega arith) ∙ c.as_slice-numbers.ensures.value ∙ c.in_ok-members.ensures.list in

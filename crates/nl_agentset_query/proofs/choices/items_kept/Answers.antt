@@ -16,7 +16,7 @@ loop-at-preserved c =
       | then-contains+in_ok-again+in_ok-push w ↦
           w.kept-is
           ∙ kept_yes c.args.places.now (map plain values) at (plain value) c.loop-at.kept w.push.new.self inside (mapped_at values at value c.index-values-at.is) (sym c.contains.ensures ∙ w.if-contains.true) c.loop-at.invariant
-          (w.in_ok-push.ensures.ok ∙ ap (λ y. c.loop-at.kept ++ plain y ∷ []) w.in_ok-again.ensures.value)
+          (w.in_ok-push.ensures.ok ∙ ap (λ p. c.loop-at.kept ++ p ∷ []) w.in_ok-again.ensures.value)
       | else-contains w ↦
           w.kept-is
           ∙ kept_no c.args.places.now (map plain values) at (plain value) c.loop-at.kept inside (mapped_at values at value c.index-values-at.is) (sym c.contains.ensures ∙ w.if-contains.false) c.loop-at.invariant

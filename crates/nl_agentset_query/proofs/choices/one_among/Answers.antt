@@ -1,4 +1,4 @@
-use Rattle.std.proofs.Common.{List, subst, sym}
+use Rattle.std.proofs.Common.{List, subst, sym, ◌∙◌}
 use Rattle.nl_draw.specs.Stream.{chosen}
 use Rattle.nl_value.specs.Plain.{Plain}
 use Rattle.nl_value.specs.Views.{plain}
@@ -12,4 +12,4 @@ pub returns-in-Items-clause-answer : goal.returns-in-Items-clause-answer
 returns-in-Items-clause-answer g c =
     let r = (g.S.Store.world c.args.store.now).rest in
     subst (λ (v : Value). Answers c.one_item.result c.one_item.new.stream (one_among r (plain v) c.args.stream.now)) (sym c.in-Items.is)
-    (subst (λ (l : List Plain). Answers c.one_item.result c.one_item.new.stream (item_or_few (chosen l c.args.stream.now))) (sym (items_of_plains _)) c.one_item.ensures.answer)
+    (subst (λ (l : List Plain). Answers c.one_item.result c.one_item.new.stream (item_or_few (chosen l c.args.stream.now))) (c.deref.ensures ∙ sym (items_of_plains c.in-Items.items.value)) c.one_item.ensures.answer)

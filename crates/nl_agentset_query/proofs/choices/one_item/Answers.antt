@@ -14,4 +14,4 @@ returns-in_default-clause-stays c =
 pub returns-in-Ok-clause-answer : goal.returns-in-Ok-clause-answer
 returns-in-Ok-clause-answer c =
     one_item c.args.items.now c.as_slice-values.result.now c.args.stream.now c.in-Some.index c.choose_index.new.self c.choose_index.result c.index-values-index.result c.in-Ok.value
-    c.as_slice-values.ensures c.in-Some.is c.choose_index.ensures.index c.choose_index.ensures.state c.in-Some.ensures.below c.index-values-index.is (ap plain c.in-Ok.ensures.value)
+    c.as_slice-values.ensures c.in-Some.is c.choose_index.ensures.index c.choose_index.ensures.state c.in-Some.ensures.below c.index-values-index.is c.in-Ok.ensures.value

@@ -1,4 +1,4 @@
-use Rattle.std.proofs.Common.{List, subst, sym}
+use Rattle.std.proofs.Common.{List, subst, sym, ◌∙◌}
 use Rattle.nl_value.specs.Plain.{Plain}
 use Rattle.nl_value.specs.Views.{plain}
 use Rattle.nl_value.specs.declared.values.Value.{Value}
@@ -11,4 +11,4 @@ pub returns-in-Items-clause-answer : goal.returns-in-Items-clause-answer
 returns-in-Items-clause-answer g c =
     let r = (g.S.Store.world c.args.store.now).rest in
     subst (λ (v : Value). Answers c.several_items.result c.several_items.new.stream (several_among r c.args.which c.args.number (plain v) c.args.stream.now)) (sym c.in-Items.is)
-    (subst (λ (l : List Plain). Answers c.several_items.result c.several_items.new.stream (several_items c.args.which c.args.number l c.args.stream.now)) (sym (items_of_plains _)) c.several_items.ensures.answer)
+    (subst (λ (l : List Plain). Answers c.several_items.result c.several_items.new.stream (several_items c.args.which c.args.number l c.args.stream.now)) (c.deref.ensures ∙ sym (items_of_plains c.in-Items.items.value)) c.several_items.ensures.answer)

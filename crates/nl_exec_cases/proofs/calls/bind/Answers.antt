@@ -42,7 +42,7 @@ loop-value-preserved c =
     let before = map plain (take i items) in
     let k : Kept = record { id = c.in-Some.id; value = plain c.in_ok-value.value } in
     let item = c.value-item.result in
-    let copied : k.value ≡ plain item = ap plain c.in_ok-value.ensures.value in
+    let copied : k.value ≡ plain item = c.in_ok-value.ensures.value in
     let more : map plain (take (i + 1) items) ≡ before ++ plain item ∷ [] =
     ap (map plain) (take_more items i item c.loop-value-test.true) ∙ map-append plain (take i items) (get_or items i item ∷ [])
     ∙ ap (λ (v : Value). before ++ plain v ∷ []) (sym c.value-item.is) in

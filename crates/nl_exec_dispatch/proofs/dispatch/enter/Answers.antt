@@ -136,17 +136,17 @@ returns-in_ok-read_owned-in-Owned-clause-meaning g c = λ prev units thrifty.
 pub returns-in_ok-read_owned-in-Owned-clause-falls : goal.returns-in_ok-read_owned-in-Owned-clause-falls
 returns-in_ok-read_owned-in-Owned-clause-falls g c = none_falls (node_at c.args.code.now c.args.node) 0 refl
 
-pub returns-in-Aside-clause-meaning : goal.returns-in-Aside-clause-meaning
-returns-in-Aside-clause-meaning g c = λ prev units thrifty.
+pub returns-in_ok-read_apart-in-Aside-clause-meaning : goal.returns-in_ok-read_apart-in-Aside-clause-meaning
+returns-in_ok-read_apart-in-Aside-clause-meaning g c = λ prev units thrifty.
     let code = c.args.code.now in
     let t = node_at code c.args.node in
     let s = state_of code.names c.args.hands.now units in
-    c.read_apart.ensures.meaning units
+    c.in_ok-read_apart-in-Aside.ensures.meaning units
     ∙ ap (λ x. read_apart c.in-Aside.runs c.in-Aside.which x s) c.span-place.ensures
     ∙ cases_out code.program prev t s (case.Aside c.in-Aside.runs c.in-Aside.which) c.in-Aside.ensures.op
 
-pub returns-in-Aside-clause-falls : goal.returns-in-Aside-clause-falls
-returns-in-Aside-clause-falls g c = none_falls (node_at c.args.code.now c.args.node) 0 refl
+pub returns-in_ok-read_apart-in-Aside-clause-falls : goal.returns-in_ok-read_apart-in-Aside-clause-falls
+returns-in_ok-read_apart-in-Aside-clause-falls g c = none_falls (node_at c.args.code.now c.args.node) 0 refl
 
 pub returns-in-Word-clause-meaning : goal.returns-in-Word-clause-meaning
 returns-in-Word-clause-meaning g c =

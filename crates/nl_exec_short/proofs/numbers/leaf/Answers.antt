@@ -5,7 +5,7 @@ use Rattle.nl_tree.specs.Tree.{span}
 use Rattle.nl_value.specs.Plain.{PlainNumber}
 use Rattle.nl_exec_meaning.specs.Code.{node_at, name_of}
 use Rattle.nl_exec_meaning.specs.Cases as case
-use Rattle.nl_exec_meaning.specs.Variables.{local_value, read_apart}
+use Rattle.nl_exec_meaning.specs.Variables.{local_value}
 use Rattle.nl_exec_meaning.specs.Meaning.{limited}
 use Rattle.nl_exec_meaning.specs.Seen.{state_of}
 use Rattle.nl_exec_short.proofs.Words.{given, number_found}
@@ -48,6 +48,5 @@ returns-in-Aside g c = IfSome_then c.number_apart.result c.number_apart.ensures 
     let code = c.args.code.now in
     let s = state_of code.names c.args.hands.now n in
     let t = node_at code c.args.node in
-    let read = ap (λ place. read_apart c.in-Aside.runs c.in-Aside.which place s) (sym c.span.ensures) ∙ is n in
     given code.program t s (case.Aside c.in-Aside.runs c.in-Aside.which) (PlainNumber number) c.in-Aside.ensures.op
-    (λ prev. ap (limited (span t)) read) room (omega (arith, some)))
+    (λ prev. ap (limited (span t)) (is code n (span t))) room (omega (arith, some)))

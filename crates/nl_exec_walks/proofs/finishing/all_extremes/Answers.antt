@@ -17,11 +17,11 @@ listed_value-requires c =
 pub returns-clause-meaning : goal.returns-clause-meaning
 returns-clause-meaning c = λ s.
     ap (λ (p : Plain). gives p s)
-    (c.listed_value.ensures ∙ ap (listed_value c.args.which) (c.in_ok-members.ensures ∙ ap (extremes c.args.up) c.as_slice.ensures))
+    (c.in_ok-listed_value.ensures ∙ ap (listed_value c.args.which) (c.in_ok-members.ensures ∙ ap (extremes c.args.up) c.as_slice.ensures))
 
 pub returns-clause-fits : goal.returns-clause-fits
 returns-clause-fits c = λ now fit.
     let made = c.args.made.now in
     subst (λ (p : Plain). IsTrue (fits now p))
-    (sym (c.listed_value.ensures ∙ ap (listed_value c.args.which) (c.in_ok-members.ensures ∙ ap (extremes c.args.up) c.as_slice.ensures)))
+    (sym (c.in_ok-listed_value.ensures ∙ ap (listed_value c.args.which) (c.in_ok-members.ensures ∙ ap (extremes c.args.up) c.as_slice.ensures)))
     (listed_fits now c.args.which (extremes c.args.up made) (kept_fit now c.args.which (is_extreme c.args.up made) made fit))

@@ -3,7 +3,7 @@ use Rattle.std.proofs.Common.{ℕ, List, min, ap, ◌∙◌, sym}
 use Rattle.nl_value.specs.Plain.{Plain}
 use Rattle.nl_agents.specs.Changes.{turtle_of}
 use Rattle.nl_agents.specs.declared.agents.Owner.{Owner}
-use Rattle.nl_birth.specs.Births.{count_of, hatched, hatchings, place_of, turtle_room}
+use Rattle.nl_birth.specs.Births.{count_of, hatched, hatchings, birthplace, turtle_room}
 use Rattle.nl_exec_acts.specs.Acts.{turtle_in}
 use Rattle.nl_exec_acts.specs.Stage.{bare}
 use Rattle.nl_exec_meaning.specs.declared.words.Making.TheVariants as the_making
@@ -30,6 +30,6 @@ returns-clause-told g c =
     (ap (λ (agent : Owner). come_to (turtle_in agent) place s by_parent) c.in-Turtle.is)
     (comes bare_world after_world (hatched parent b c.args.number w) (hatched parent (bred_as (turtle_of parent w.rest) c.args.breed) c.args.number (bare_world w))
     (hatched_bare parent b c.args.number w ∙ ap (λ x. hatched parent x c.args.number (bare_world w)) c.breed_of_hatched-breed.ensures.breed)
-    c.hatch.result (hatchings b parent (place_of parent w) w) (min many (turtle_room w)) v c.hatch.ensures.outcome s _
+    c.hatch.result (hatchings b parent (birthplace parent w) w) (min many (turtle_room w)) v c.hatch.ensures.outcome s _
     (ap (λ (gs : List Plain). record s1 { globals = gs }) (sym (keeps_globals w v c.hatch.ensures.keeps)))
-    (λ is. absurd (birth_refused (hatchings b parent (place_of parent w) w) w many v is)) place next))
+    (λ is. absurd (birth_refused (hatchings b parent (birthplace parent w) w) w many v is)) place next))

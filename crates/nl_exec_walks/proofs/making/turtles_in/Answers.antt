@@ -8,4 +8,4 @@ pub returns-in_ok-turtles-in-Turtle-clause-live : goal.returns-in_ok-turtles-in-
 returns-in_ok-turtles-in-Turtle-clause-live g c =
     let w = g.S.Store.world c.args.store.now in
     subst (λ (zs : List ℕ). All (λ z. TurtleLives z w) zs) (sym c.in_ok-turtles-in-Turtle.ensures)
-    (turtle_members w c.in-Set.set c.shape-stands.ensures.stands (sym c.kind.ensures ∙ c.in-Turtle.is))
+    (turtle_members w c.deref-set.result.now c.shape-stands.ensures.stands (sym c.kind.ensures ∙ c.in-Turtle.is))

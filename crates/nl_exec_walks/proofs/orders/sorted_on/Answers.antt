@@ -7,7 +7,7 @@ use Rattle.nl_fixed.specs.declared.span.Span.{Span}
 use Rattle.nl_tree.specs.Tree.{span}
 use Rattle.nl_exec_acts.specs.declared.fail.ErrorKind.TheVariants.{WrongType}
 use Rattle.nl_exec_meaning.specs.Code.{node_at}
-use Rattle.nl_exec_meaning.specs.State.{fails}
+use Rattle.nl_exec_meaning.specs.State.{fails, gives}
 use Rattle.nl_exec_meaning.specs.Walks.{are_comparable, in_order_of_values}
 use Rattle.nl_exec_meaning.specs.Ground.{fits}
 use Rattle.nl_exec_meaning.specs.Seen.{ended, ground, state_of}
@@ -33,7 +33,8 @@ returns-then-not-are_comparable-clause-meaning g c = λ units.
 pub returns-clause-meaning : goal.returns-clause-meaning
 returns-clause-meaning g c = λ units.
     let s = state_of c.args.code.now.names c.args.hands.now units in
-    ordered c.args.which c.args.answers (span (node_at c.args.code.now c.args.node)) s c.are_comparable.result
+    ap (λ (p : Plain). gives p s) c.in_ok-items.ensures
+    ∙ ordered c.args.which c.args.answers (span (node_at c.args.code.now c.args.node)) s c.are_comparable.result
     (c.are_comparable.ensures
     ∙ ap (are_comparable (living_of (g.S.Store.world c.new-view.result.store.now).rest)) c.as_slice.ensures
     ∙ ap (λ x. are_comparable (living_of (g.S.Store.world x).rest) c.args.answers) c.new-view.ensures.store) c.if-not-are_comparable.false c.in_ok-agents.agents
@@ -43,5 +44,6 @@ pub returns-clause-fits : goal.returns-clause-fits
 returns-clause-fits g c =
     let now = ground c.args.hands.now in
     let w = living_of (g.S.Store.world c.new-view.result.store.now).rest in
-    subst (λ (ps : List Plain). IsTrue (fits now (PlainItems (plains ps)))) (sym c.in_ok-agents.ensures)
-    (in_order_fit now w c.args.which c.args.answers c.requires.members)
+    subst (λ (p : Plain). IsTrue (fits now p)) (sym c.in_ok-items.ensures)
+    (subst (λ (ps : List Plain). IsTrue (fits now (PlainItems (plains ps)))) (sym c.in_ok-agents.ensures)
+    (in_order_fit now w c.args.which c.args.answers c.requires.members))

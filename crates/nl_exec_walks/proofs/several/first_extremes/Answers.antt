@@ -26,17 +26,17 @@ returns-clause-meaning g c = λ code units.
     let names = code.names in
     let s = state_of names c.args.hands.now units in
     let list = c.into_vec.result.items in
-    ap (λ (x : State). gives (plain c.listed_value.result) x) (c.mixed-list.ensures.state names units)
+    ap (λ (x : State). gives (plain c.in_ok-listed_value.field-0) x) (c.mixed-list.ensures.state names units)
     ∙ first_given c.args.up c.args.which c.args.count list c.deref.result.now c.args.answers s (shuffled list s.stage.stream).1
-    c.deref-2.result.now c.in_ok-first.first c.in_ok-kept.kept.items (plain c.listed_value.result)
-    c.into_vec.ensures (c.deref.ensures.value ∙ c.mixed-list.ensures.order) refl c.in_ok-first.ensures (c.deref-2.ensures.value ∙ c.in_ok-members.ensures ∙ ap members_kept c.as_slice.ensures) c.in_ok-kept.ensures c.listed_value.ensures
+    c.deref-2.result.now c.in_ok-first.first c.in_ok-kept.kept.items (plain c.in_ok-listed_value.field-0)
+    c.into_vec.ensures (c.deref.ensures.value ∙ c.mixed-list.ensures.order) refl c.in_ok-first.ensures (c.deref-2.ensures.value ∙ c.in_ok-members.ensures ∙ ap members_kept c.as_slice.ensures) c.in_ok-kept.ensures c.in_ok-listed_value.ensures
 
 pub returns-clause-fits : goal.returns-clause-fits
 returns-clause-fits g c =
     let now = ground c.args.hands.now in
     let which = c.args.which in
-    subst (λ (r : Ground). IsTrue (fits r (plain c.listed_value.result))) (sym c.mixed-list.ensures.stands.same)
-    (subst (λ (p : Plain). IsTrue (fits now p)) (sym c.listed_value.ensures)
+    subst (λ (r : Ground). IsTrue (fits r (plain c.in_ok-listed_value.field-0))) (sym c.mixed-list.ensures.stands.same)
+    (subst (λ (p : Plain). IsTrue (fits now p)) (sym c.in_ok-listed_value.ensures)
     (listed_fits now which c.in_ok-kept.kept.items
     (subst (λ (ms : List ℕ). MembersFit now which ms) (sym c.in_ok-kept.ensures)
     (filtered_fit now which (is_listed c.in_ok-first.first) c.deref-2.result.now

@@ -1,5 +1,5 @@
 use Rattle.std.proofs.Common.{None, Some, sym, subst}
-use Rattle.nl_store_lists.specs.Threads.{IsPlace}
+use Rattle.nl_store_lists.specs.Chained.{IsPlace}
 use Rattle.nl_index.specs.Rows.{borders_in}
 use Rattle.nl_store_records.proofs.Filing.{filed-last, held-kept, keeps-trans, place-held, IsHeld-kept}
 use Rattle.nl_index.proofs.Borders.{last-redirects, last-stays}

@@ -1,5 +1,5 @@
 use Rattle.std.proofs.Common.{None, Some}
-use Rattle.nl_store_lists.specs.Threads.{at_number}
+use Rattle.nl_store_lists.specs.Chained.{at_number}
 use Rattle.nl_store_lists.proofs.Places.{at-here}
 use Rattle.nl_index.specs.Rows.{take_from}
 use Rattle.nl_store_records.proofs.Filing.{filed-home, held-kept}

@@ -1,5 +1,5 @@
 use Rattle.std.proofs.Common.{Some, sym, subst}
-use Rattle.nl_store_lists.specs.Threads.{IsPlace}
+use Rattle.nl_store_lists.specs.Chained.{IsPlace}
 use Rattle.nl_store_records.proofs.Filing.{filed-without, held-kept, keeps-trans, place-held, IsHeld-kept}
 use Rattle.nl_index.proofs.row.unlink.Goals as goal
 

@@ -13,11 +13,11 @@ returns-clause-items c =
     c.of_vec.ensures
     ∙ (ap (map plain) (written_back values.len new (drop (length new) values.items) long)
     ∙ (ap (map plain) c.shuffle.ensures.order
-    ∙ (ap (λ vs. map plain (shuffled vs stream).0) (c.deref_mut.ensures.value ∙ c.in_ok-values.ensures)
-    ∙ (sym (shuffled-map plain c.as_slice.result.now stream).0 ∙ ap (λ ps. (shuffled ps stream).0) c.as_slice.ensures))))
+    ∙ (ap (λ vs. map plain (shuffled vs stream).0) c.deref_mut.ensures.value
+    ∙ (sym (shuffled-map plain values.items stream).0 ∙ ap (λ ps. (shuffled ps stream).0) (c.in_ok-values.ensures ∙ c.as_slice.ensures)))))
 
 pub returns-clause-state : goal.returns-clause-state
 returns-clause-state c =
     let stream = c.args.stream.now in
     c.shuffle.ensures.state
-    ∙ (ap (λ vs. (shuffled vs stream).1) (c.deref_mut.ensures.value ∙ c.in_ok-values.ensures) ∙ (sym (shuffled-map plain c.as_slice.result.now stream).1 ∙ ap (λ ps. (shuffled ps stream).1) c.as_slice.ensures))
+    ∙ (ap (λ vs. (shuffled vs stream).1) c.deref_mut.ensures.value ∙ (sym (shuffled-map plain c.in_ok-values.values.items stream).1 ∙ ap (λ ps. (shuffled ps stream).1) (c.in_ok-values.ensures ∙ c.as_slice.ensures)))

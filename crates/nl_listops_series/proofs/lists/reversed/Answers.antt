@@ -4,4 +4,4 @@ use Rattle.nl_listops_series.proofs.Cuts.{reverse-map}
 use Rattle.nl_listops_series.proofs.lists.reversed.Goals as goal
 
 pub returns : goal.returns
-returns c = let turned = reverse-map plain c.as_slice.result.now in grind (arith, turned)
+returns c = let turned = reverse-map plain c.in_ok-list.list.items in grind (arith, turned)

@@ -25,7 +25,7 @@ loop-place-preserved g c =
           (let first : (first_place w items (item_of items i) == i) ≡ true = eq-eqb (first_place w items (item_of items i)) i (sym placed ∙ b.if-index-place.true) in
           b.once-is
           ∙ (b.in_ok-push.ensures.ok
-          ∙ (ap (λ s. c.loop-place.once ++ plain s ∷ []) b.in_ok-again.ensures.value
+          ∙ (ap (λ p. c.loop-place.once ++ p ∷ []) b.in_ok-again.ensures.value
           ∙ (ap (λ s. s ++ plain v ∷ []) c.loop-place.invariant
           ∙ (ap (λ p. once ++ p ∷ []) (sym here) ∙ sym (step ∙ ap (λ t. cond t (once ++ item_of items i ∷ []) once) first))))))
       | else-index-place b ↦

@@ -43,7 +43,7 @@ loop-place-preserved g c =
           let passes : ((first == i) && keep (item_of items i)) ≡ true = ap (λ t. t && keep (item_of items i)) is_first ∙ kept in
           b.modes-is
           ∙ (b.in_ok-push.ensures.ok
-          ∙ (ap (λ s. c.loop-place.modes ++ plain s ∷ []) b.in_ok-again.ensures.value
+          ∙ (ap (λ p. c.loop-place.modes ++ p ∷ []) b.in_ok-again.ensures.value
           ∙ (ap (λ s. s ++ plain v ∷ []) c.loop-place.invariant
           ∙ (ap (λ p. so_far ++ p ∷ []) (sym here) ∙ sym (step ∙ ap (λ t. cond t (so_far ++ item_of items i ∷ []) so_far) passes))))))
       | else-index-place b ↦

@@ -12,11 +12,11 @@ loop-value-preserved c =
     let values = c.as_slice-values.result.now in
     let before = numbers_among (map plain (take c.loop-value.value-index values)) in
     let more = among_more values c.loop-value.value-index c.value-item.result c.loop-value-test.true c.value-item.is in
-    elim c.match-number_in.branch [
+    elim c.match-number_of_item.branch [
       | in-Some+in_ok-push v ↦
           ap (λ ns. ns.items) v.numbers-is
           ∙ (v.in_ok-push.ensures.items ∙ (ap (λ ns. ns ++ v.in-Some.number ∷ []) c.loop-value.invariant ∙ (ap (λ o. before ++ cons_option o []) v.in-Some.ensures ∙ sym more)))
       | in_default v ↦
           ap (λ ns. ns.items) v.numbers-is
-          ∙ (c.loop-value.invariant ∙ (sym (append-nil before) ∙ (ap (λ o. before ++ cons_option o []) (sym v.in_default.is ∙ c.number_in.ensures) ∙ sym more)))
+          ∙ (c.loop-value.invariant ∙ (sym (append-nil before) ∙ (ap (λ o. before ++ cons_option o []) (sym v.in_default.is ∙ c.number_of_item.ensures) ∙ sym more)))
     ]

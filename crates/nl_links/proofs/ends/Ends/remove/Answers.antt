@@ -1,6 +1,6 @@
 use Rattle.std.proofs.Common.{◌≡◌, ◌∙◌, ℕ, true, false, Some, sym, subst, inl, inr, arith, IsSomeAnd}
 use Rattle.std.proofs.lemmas.Bool.{cases_eq}
-use Rattle.nl_store_lists.specs.Threads.{at_number}
+use Rattle.nl_store_lists.specs.Chained.{at_number}
 use Rattle.nl_store_lists.proofs.Places.{at-here, at-other}
 use Rattle.nl_store_records.specs.Records.{record_at, fields_at}
 use Rattle.nl_store_records.proofs.Filing.{filed-other}

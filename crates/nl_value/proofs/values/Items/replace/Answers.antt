@@ -1,24 +1,20 @@
-use Rattle.std.proofs.Common.{◌≡◌, ◌<◌, ℕ, List, length, map, get_or, set, slice_get, Some, ap, ◌∙◌, sym, refl, arith}
-use Rattle.std.specs.Option.{option_map}
-use Rattle.std.proofs.lemmas.List.{map-set, length-map}
-use Rattle.std.proofs.lemmas.Option.{slice_get-map, slice_get_read}
-use Rattle.nl_value.specs.declared.values.Value.{Value}
-use Rattle.nl_value.specs.Plain.{Plain}
-use Rattle.nl_value.specs.Views.{plain}
+use Rattle.std.proofs.Common.{arith}
+use Rattle.nl_value.proofs.MeasureLemmas.{replaced_sizes, replaced_deepest}
+use Rattle.nl_value.proofs.Placing.{put, stood}
 use Rattle.nl_value.proofs.values.Items.replace.Goals as goal
 
--- a value put at a place of a list, seen as plain data
-put : (vs : List Value) (ps : List Plain) (k : ℕ) (v w : Value) → map plain vs ≡ ps → w ≡ v → map plain (set vs k w) ≡ set ps k (plain v)
-put vs ps k v w e f = map-set plain vs k w ∙ ap (λ (u : Value). set (map plain vs) k (plain u)) f ∙ ap (λ (us : List Plain). set us k (plain v)) e
+pub sizes_without-self-inside-requires : goal.sizes_without-self-inside-requires
+sizes_without-self-inside-requires c =
+    let size = replaced_sizes c.self.inside.list.items c.deref.result.now c.args.self.now c.args.at c.args.value c.replace-old.new.dest c.replace-old.result c.index_mut.result.now c.self.view_is c.requires c.deref.ensures.value c.replace-old.ensures.after c.replace-old.ensures.value c.index_mut.ensures.value in
+    omega (arith, size, c.self.invariant.0, c.size.ensures, c.saturating_add-size.ensures)
 
--- the value at a place of a list, seen as plain data
-stood : (vs : List Value) (ps : List Plain) (k : ℕ) (v w : Value) → map plain vs ≡ ps → k < length ps → w ≡ v → v ≡ get_or vs k v → slice_get ps k ≡ Some (plain w)
-stood vs ps k v w e h s f =
-    let l : k < length vs = omega (arith, simp length-map at (ap length e)) in
-    ap (λ (us : List Plain). slice_get us k) (sym e) ∙ slice_get-map plain vs k ∙ ap (option_map plain) (slice_get_read vs (length vs) k v refl l f) ∙ ap (λ (u : Value). Some (plain u)) (sym s)
+pub depths_without-self-inside-requires : goal.depths_without-self-inside-requires
+depths_without-self-inside-requires c =
+    let depth = replaced_deepest c.self.inside.list.items c.deref-2.result.now c.args.self.now c.args.at c.args.value c.replace-old.new.dest c.replace-old.result c.index_mut.result.now c.self.view_is c.requires c.deref-2.ensures.value c.replace-old.ensures.after c.replace-old.ensures.value c.index_mut.ensures.value in
+    omega (arith, depth, c.self.invariant.1, c.depth.ensures, c.max-depth.ensures)
 
 pub returns-clause-new : goal.returns-clause-new
-returns-clause-new c = put c.self.inside.list.items c.args.self.now c.args.at c.args.value c.replace.new.dest c.self.view_is c.replace.ensures.after
+returns-clause-new c = put c.self.inside.list.items c.args.self.now c.args.at c.args.value c.replace-old.new.dest c.self.view_is c.replace-old.ensures.after
 
 pub returns-clause-old : goal.returns-clause-old
-returns-clause-old c = stood c.self.inside.list.items c.args.self.now c.args.at c.index_mut-place.result.now c.replace.result c.self.view_is c.requires c.replace.ensures.value c.index_mut-place.ensures.value
+returns-clause-old c = stood c.self.inside.list.items c.args.self.now c.args.at c.index_mut.result.now c.replace-old.result c.self.view_is c.requires c.replace-old.ensures.value c.index_mut.ensures.value
