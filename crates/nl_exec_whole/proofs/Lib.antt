@@ -1,0 +1,9 @@
+pub mod AllThere
+pub mod Finding
+pub mod Marked
+pub mod Reading
+pub mod Rows
+pub mod Scoping
+pub mod Settling
+pub mod Terms
+pub mod TextParts
