@@ -1,16 +1,15 @@
 -- Steps that turn on the top of the machine's stack.
 use Rattle.std.proofs.Common.{◌≡◌, ℕ, suc, true, false, List, [], ◌∷◌, refl}
 use Rattle.nl_fixed.specs.declared.span.Span.{Span}
-use Rattle.nl_tree.specs.Tree.{Node, Nodes, node, none, more}
+use Rattle.nl_tree.specs.Tree.{Nodes, node, none, more}
 use Rattle.nl_tree.specs.declared.tree.Label.TheVariants as label
 use Rattle.nl_parse_reading.specs.inner.Limit.{is_one}
 use Rattle.nl_tree.specs.Tokens.{Tok, Constant, number, text, word, open_bracket, close_bracket, open_paren}
 use Rattle.nl_tree.specs.declared.needs.Need.{Need}
-use Rattle.nl_parse_grammar.specs.declared.pending.Shape.{Shape}
-use Rattle.nl_parse_grammar.specs.declared.pending.Shape.TheVariants.{Literal}
 use Rattle.nl_parse_grammar.specs.declared.pending.Last.TheVariants as lasts
-use Rattle.nl_parse_grammar.specs.Machine.{Have, closed, end_list, Frame, InNear, InCall, InItems, InLet, InMany, InOf, InList, InBracket, Begin, Listing, st, go, stop, next, begin_call, begin_many, begin_bracket, feed_of, InStatements, InStatementParen, begins_statement, feed_statement, feed_stating, feed_optional, feed_items, Stating, accept, Shut, got, settle}
-use Rattle.nl_parse.specs.inner.Asked.{more_sides, is_at_side, is_in_list, is_in_call, is_waiting, may_follow_item, feed_missing, is_stating, ends_newest}
+use Rattle.nl_parse_grammar.specs.Machine.{Frame, InNear, InCall, InMany, InOf, InList, InBracket, Begin, Listing, st, go, stop, next, begin_call, begin_many, begin_bracket, feed_of, InStatements, InStatementParen, begins_statement, feed_statement, feed_stating, feed_optional, feed_items, Stating}
+use Rattle.nl_parse_stack.specs.inner.Asked.{more_sides, is_at_side, is_in_call, is_stating}
+use Rattle.nl_parse.specs.inner.Apart.{may_follow_item, feed_missing}
 use Rattle.nl_tree.specs.declared.needs.Ending.TheVariants.{AtBracket}
 use Rattle.nl_parse_reading.specs.inner.View.{mark_of}
 use Rattle.nl_parse_reading.specs.declared.marks.Mark.{Mark}
@@ -39,14 +38,6 @@ a_list s e K h = cc h
 pub a_bracket : (s : Span) (e : List (List ℕ)) (K : List Frame) → is_at_side K ≡ false → begin_bracket s e K ≡ go (st Begin e (InBracket s ∷ K))
 a_bracket s e (InNear v r ts n ∷ K) h = cc h
 a_bracket s e K h = refl
-
-pub at_hand : (x : Shape) (t : Node) (e : List (List ℕ)) (K : List Frame) → is_at_side K ≡ false → closed x t e K ≡ st (Have x t) e K
-at_hand x t e (InNear v r ts n ∷ K) h = cc h
-at_hand x t e K h = refl
-
-pub outer_list : (t : Node) (e : List (List ℕ)) (K : List Frame) → is_in_list K ≡ false → end_list t e K ≡ closed Literal t e K
-outer_list t e (InList s ts ∷ K) h = cc h
-outer_list t e K h = refl
 
 -- a list of one literal is also a block
 pub a_block : (w : List ℕ) (s r : Span) (ts : Nodes) (e : List (List ℕ)) (K : List Frame) → is_one ts ≡ true → feed_of w s (node label.List r ts) e K ≡ go (st Begin e (InOf w s (node label.Reporter r ts) ∷ K))
@@ -92,20 +83,6 @@ pub no_statement : (e : List (List ℕ)) (K : List Frame) (tok : Tok) → begins
 no_statement e K (word w c r) h = cc h
 no_statement e K (open_paren r) h = cc h
 no_statement e K tok h = refl
-
--- an operator ends nothing more
-pub nothing_ends : (l : ℕ) (x : Shape) (t : Node) (K : List Frame) → ends_newest l K ≡ false → settle l x t K ≡ got x t K
-nothing_ends l x t [] h = refl
-nothing_ends l x t (f ∷ K) h = rw (h, settle) refl
-
--- What waits for an expression.
-
-pub not_waiting : (x : Shape) (t : Node) (e : List (List ℕ)) (K : List Frame) → is_waiting K ≡ false → accept x t e K ≡ st (Shut x t) e K
-not_waiting x t e (InCall w s ts i is last ∷ K) h = cc h
-not_waiting x t e (InMany w s ts (suc n) ∷ K) h = cc h
-not_waiting x t e (InItems p l s ts ∷ K) h = cc h
-not_waiting x t e (InLet w s n r ∷ K) h = cc h
-not_waiting x t e K h = refl
 
 -- Items of literal lists.
 

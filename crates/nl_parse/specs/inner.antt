@@ -1,5 +1,2 @@
-pub mod Around
-pub mod Asked
-pub mod State
-pub mod Steps
+pub mod Apart
 pub mod Stops

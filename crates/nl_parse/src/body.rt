@@ -1,5 +1,5 @@
 //! The reader of one text.
-ghost use Rattle.std.specs.Prelude.{◌≡◌, ℕ, true, List, [], ◌∷◌, ◌+◌, ◌++◌, ◌≤◌, OnOk, IfOk, IfErr, IfSome, IfNone, All, length};
+ghost use Rattle.std.specs.Prelude.{◌≡◌, true, List, [], ◌∷◌, ◌++◌, ◌≤◌, OnOk, IfOk, IfErr, IfSome, IfNone, All};
 ghost use Rattle.nl_fixed.specs.Nouns.{Names};
 ghost use Rattle.nl_scan.specs.Tokens.{IsTokenOf};
 ghost use Rattle.nl_parse_grammar.specs.Texts.{plain_token, plain_tokens};
@@ -18,20 +18,22 @@ ghost use Rattle.nl_parse_reading.specs.inner.View.{mark_of};
 ghost use Rattle.nl_parse.specs.Outcome.{Refuses};
 ghost use Rattle.nl_parse.specs.inner.Stops.{StopsAt, StopsIn, first_span};
 ghost use Rattle.nl_parse_reading.specs.inner.Reading.{mode_of};
-ghost use Rattle.nl_parse.specs.inner.State.{state_of};
-ghost use Rattle.nl_parse.specs.inner.Steps.{sees_first};
+ghost use Rattle.nl_parse_stack.specs.inner.State.{state_of};
+ghost use Rattle.nl_parse_stack.specs.inner.Steps.{sees_first};
 ghost use Rattle.std.specs.Result.{IsErrOf};
 ghost use Rattle.nl_parse.specs.declared.body.BodyRefusal.TheVariants as BodyRefusal;
 
-use crate::reader::{Reader, Refusal, let_go};
+use crate::kinds::kind_before;
+use crate::steps::feed;
 use nl_fixed::{Names, NoMemory, Span};
 use nl_parse_reading::classes::class_of_word;
-use nl_parse_reading::frames::{Frame, Mode};
+use nl_parse_reading::frames::Mode;
 use nl_parse_reading::known_names::KnownNames;
 use nl_parse_reading::marks::{Head, Mark};
-use nl_parse_reading::parts::{Grouped, Grown, TOO_DEEP};
+use nl_parse_reading::parts::{Grown, TOO_DEEP};
+use nl_parse_stack::reader::{Reader, Refusal, begin, let_go};
 use nl_scan::{Lexeme, Token, text_of, word_of};
-use nl_tree::{BodyKind, Declared, Ending, Form, Tree, word};
+use nl_tree::{BodyKind, Declared, Form, Tree, word};
 use std::alloc::Global;
 
 /// Why a text isn't read: its first fault with the place of the token with which it can no longer be good, or want of memory.
@@ -78,7 +80,7 @@ pub fn read_body(
 {
     let inputs = KnownNames::of(alloc, inputs.as_slice())?;
     let mut reader = begin(alloc, form, &inputs, first_place(tokens, end))?;
-    let read = reader.read_whole(text, tokens, end, declared);
+    let read = read_whole(&mut reader, text, tokens, end, declared);
     let_go(reader);
     read
 }
@@ -93,141 +95,112 @@ fn first_place(tokens: &[Token], end: Span) -> Span
     }
 }
 
-// The reader before the first token, which stands there.
-fn begin<'a>(
-    alloc: Global,
-    form: Form,
-    inputs: &'a KnownNames,
-    first: Span,
-) -> Result<Reader<'a>, NoMemory>
-    ensures { IfOk result (λ reader. state_of reader ≡ start form inputs.now first) }
+// Goes over these tokens of the text and what ends them, from the start.
+fn read_whole(
+    reader: &mut Reader,
+    text: &[u8],
+    tokens: &[Token],
+    end: Span,
+    declared: &Declared,
+) -> Result<Tree, BodyRefusal>
+    requires declared { IsDeclared declared.now }
+    requires tokens { All (IsTokenOf text.now) tokens.now }
+    requires allowed { least_depth (state_of reader.old) ≤ deepest }
+    ensures ok { (form : Form) (names : Names) →
+        state_of reader.old ≡ start form names (first_span tokens.now end) →
+        IfOk result (λ tree.
+        IsGood form names (terms declared.now)
+        (plain_tokens text.now tokens.now ++ ends_at end ∷ []) (plain tree)) }
+    ensures fault { (form : Form) (names : Names) →
+        state_of reader.old ≡ start form names (first_span tokens.now end) →
+        IfErr result
+        (Refuses form names (terms declared.now)
+        (plain_tokens text.now tokens.now ++ ends_at end ∷ [])) }
 {
-    let mut stack = Vec::new(alloc);
-    let mode = match form {
-        Form::Commands => {
-            let names = KnownNames::empty(alloc);
-            let statements = Grouped::new(alloc);
-            stack.push(Frame::Statements(first, Ending::AtEnd, names, statements))?;
-            Mode::Stating
-        }
-        Form::Reporter => Mode::Begin,
-    };
-    Ok(Reader {
-        alloc,
-        inputs,
-        mode,
-        stack,
-    })
+    if let Err(refusal) = read_tokens(reader, text, tokens, declared) {
+        return Err(refusal);
+    }
+    finish(reader, end, tokens.len())
 }
 
-impl<'a> Reader<'a> {
-    // Goes over these tokens of the text and what ends them, from the start.
-    fn read_whole(
-        &mut self,
-        text: &[u8],
-        tokens: &[Token],
-        end: Span,
-        declared: &Declared,
-    ) -> Result<Tree, BodyRefusal>
-        requires declared { IsDeclared declared.now }
-        requires tokens { All (IsTokenOf text.now) tokens.now }
-        requires allowed { least_depth (state_of self.old) ≤ deepest }
-        ensures ok { (form : Form) (names : Names) →
-            state_of self.old ≡ start form names (first_span tokens.now end) →
-            IfOk result (λ tree.
-            IsGood form names (terms declared.now)
-            (plain_tokens text.now tokens.now ++ ends_at end ∷ []) (plain tree)) }
-        ensures fault { (form : Form) (names : Names) →
-            state_of self.old ≡ start form names (first_span tokens.now end) →
-            IfErr result
-            (Refuses form names (terms declared.now)
-            (plain_tokens text.now tokens.now ++ ends_at end ∷ [])) }
-    {
-        if let Err(refusal) = self.read_tokens(text, tokens, declared) {
+// Goes over these tokens of the text.
+fn read_tokens(
+    reader: &mut Reader,
+    text: &[u8],
+    tokens: &[Token],
+    declared: &Declared,
+) -> Result<(), BodyRefusal>
+    requires declared { IsDeclared declared.now }
+    requires tokens { All (IsTokenOf text.now) tokens.now }
+    requires allowed { least_depth (state_of reader.old) ≤ deepest }
+    ensures ok { OnOk result
+        (run_from (go (state_of reader.old))
+        (marked (terms declared.now) (plain_tokens text.now tokens.now))
+        ≡ go (state_of reader.new)) }
+    ensures allowed { OnOk result (least_depth (state_of reader.new) ≤ deepest) }
+    ensures fault { IfErr result (StopsIn (terms declared.now) text.now (state_of reader.old) tokens.now) }
+{
+    for (place, token) in tokens.iter().enumerate() {
+        let mark = mark_at(reader.alloc, text, token, declared)?;
+        if let Err(refusal) = step(reader, place, mark) {
             return Err(refusal);
         }
-        self.finish(end, tokens.len())
     }
+    Ok(())
+}
 
-    // Goes over these tokens of the text.
-    fn read_tokens(
-        &mut self,
-        text: &[u8],
-        tokens: &[Token],
-        declared: &Declared,
-    ) -> Result<(), BodyRefusal>
-        requires declared { IsDeclared declared.now }
-        requires tokens { All (IsTokenOf text.now) tokens.now }
-        requires allowed { least_depth (state_of self.old) ≤ deepest }
-        ensures ok { OnOk result
-            (run_from (go (state_of self.old))
-            (marked (terms declared.now) (plain_tokens text.now tokens.now))
-            ≡ go (state_of self.new)) }
-        ensures allowed { OnOk result (least_depth (state_of self.new) ≤ deepest) }
-        ensures fault { IfErr result (StopsIn (terms declared.now) text.now (state_of self.old) tokens.now) }
-    {
-        for (place, token) in tokens.iter().enumerate() {
-            let mark = mark_at(self.alloc, text, token, declared)?;
-            if let Err(refusal) = self.step(place, mark) {
-                return Err(refusal);
-            }
-        }
-        Ok(())
+// Goes over one token, which stands at this place among all.
+fn step(reader: &mut Reader, place: usize, mark: Mark) -> Result<(), BodyRefusal>
+    ensures ok { OnOk result (feed (state_of reader.old) (mark_of mark) ≡ go (state_of reader.new)) }
+    ensures allowed { OnOk result (least_depth (state_of reader.new) ≤ deepest) }
+    ensures fault { IfErr result (StopsAt (state_of reader.old) (mark_of mark) place) }
+    ensures told { sees_first (mode_of reader.old.mode) ≡ true →
+        feed (state_of reader.old) (mark_of mark) ≡ stop →
+        IsErrOf result BodyRefusal.NoMemory → ⊥ }
+{
+    let kind = kind_before(reader, &mark);
+    match feed(reader, mark) {
+        Ok(()) => {}
+        Err(Refusal::Unexpected) => return Err(BodyRefusal::Fault { kind, place }),
+        Err(Refusal::NoMemory) => return Err(BodyRefusal::NoMemory),
     }
-
-    // Goes over one token, which stands at this place among all.
-    fn step(&mut self, place: usize, mark: Mark) -> Result<(), BodyRefusal>
-        ensures ok { OnOk result (feed (state_of self.old) (mark_of mark) ≡ go (state_of self.new)) }
-        ensures allowed { OnOk result (least_depth (state_of self.new) ≤ deepest) }
-        ensures fault { IfErr result (StopsAt (state_of self.old) (mark_of mark) place) }
-        ensures told { sees_first (mode_of self.old.mode) ≡ true →
-            feed (state_of self.old) (mark_of mark) ≡ stop →
-            IsErrOf result BodyRefusal.NoMemory → ⊥ }
-    {
-        let kind = self.kind_before(&mark);
-        match self.feed(mark) {
-            Ok(()) => {}
-            Err(Refusal::Unexpected) => return Err(BodyRefusal::Fault { kind, place }),
-            Err(Refusal::NoMemory) => return Err(BodyRefusal::NoMemory),
-        }
-        if self.least_depth() >= TOO_DEEP {
-            let kind = BodyKind::TooDeep;
-            return Err(BodyRefusal::Fault { kind, place });
-        }
-        Ok(())
+    if reader.least_depth() >= TOO_DEEP {
+        let kind = BodyKind::TooDeep;
+        return Err(BodyRefusal::Fault { kind, place });
     }
+    Ok(())
+}
 
-    // Goes over what ends the text, and gives the tree.
-    fn finish(&mut self, end: Span, place: usize) -> Result<Tree, BodyRefusal>
-        ensures ok { IfOk result (λ tree.
-            (e : Names) × (K : List M.Frame)
-            × ((feed (state_of self.old) (T.end end) ≡ go (st (Over (plain tree)) e K))
-            × (depth (plain tree) ≤ deepest))) }
-        ensures fault { IfErr result (StopsAt (state_of self.old) (T.end end) place) }
-        ensures told { sees_first (mode_of self.old.mode) ≡ true →
-            feed (state_of self.old) (T.end end) ≡ stop →
-            IsErrOf result BodyRefusal.NoMemory → ⊥ }
-    {
-        if let Err(refusal) = self.step(place, Mark::End(end)) {
-            return Err(refusal);
-        }
-        match self.take_whole() {
-            Some(tree) => Ok(tree.into_tree()),
-            None => unreachable!(),
-        }
+// Goes over what ends the text, and gives the tree.
+fn finish(reader: &mut Reader, end: Span, place: usize) -> Result<Tree, BodyRefusal>
+    ensures ok { IfOk result (λ tree.
+        (e : Names) × (K : List M.Frame)
+        × ((feed (state_of reader.old) (T.end end) ≡ go (st (Over (plain tree)) e K))
+        × (depth (plain tree) ≤ deepest))) }
+    ensures fault { IfErr result (StopsAt (state_of reader.old) (T.end end) place) }
+    ensures told { sees_first (mode_of reader.old.mode) ≡ true →
+        feed (state_of reader.old) (T.end end) ≡ stop →
+        IsErrOf result BodyRefusal.NoMemory → ⊥ }
+{
+    if let Err(refusal) = step(reader, place, Mark::End(end)) {
+        return Err(refusal);
     }
+    match take_whole(reader) {
+        Some(tree) => Ok(tree.into_tree()),
+        None => unreachable!(),
+    }
+}
 
-    // The tree of the whole text, if it is there.
-    fn take_whole(&mut self) -> Option<Grown>
-        ensures some { IfSome result (λ tree. mode_of self.old.mode ≡ Over tree) }
-        ensures none { IfNone result ((t : Node) → mode_of self.old.mode ≡ Over t → ⊥) }
-    {
-        match self.take_mode() {
-            Mode::Over(tree) => Some(tree),
-            other => {
-                let_go(other);
-                None
-            }
+// The tree of the whole text, if it is there.
+fn take_whole(reader: &mut Reader) -> Option<Grown>
+    ensures some { IfSome result (λ tree. mode_of reader.old.mode ≡ Over tree) }
+    ensures none { IfNone result ((t : Node) → mode_of reader.old.mode ≡ Over t → ⊥) }
+{
+    match reader.take_mode() {
+        Mode::Over(tree) => Some(tree),
+        other => {
+            let_go(other);
+            None
         }
     }
 }

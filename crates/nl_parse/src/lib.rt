@@ -4,9 +4,7 @@
 mod beginning;
 pub mod body;
 mod closing;
-mod handing;
 mod kinds;
-mod reader;
 mod stating;
 mod steps;
 

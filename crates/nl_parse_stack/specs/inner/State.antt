@@ -4,7 +4,7 @@ use Rattle.std.specs.Vec.{vec_len, vec_capacity}
 use Rattle.nl_fixed.specs.Nouns.{Names}
 use Rattle.nl_parse_grammar.specs.Machine as M
 use Rattle.nl_parse_reading.specs.inner.Reading.{mode_of, mode_names, frames_onto, names_onto}
-use Rattle.nl_parse.specs.declared.reader.Reader.{Reader}
+use Rattle.nl_parse_stack.specs.declared.reader.Reader.{Reader}
 
 abbrev pub stack_of : Reader → List M.Frame
 stack_of r = frames_onto r.stack.items r.inputs.now []

@@ -1,7 +1,7 @@
 use Rattle.std.proofs.Common.{◌≡◌, length}
 use Rattle.nl_parse_grammar.specs.Machine.{settle}
-use Rattle.nl_parse.specs.inner.State.{stack_of, names_of}
-use Rattle.nl_parse.proofs.reader.Reader.settle.Given as goal
+use Rattle.nl_parse_stack.specs.inner.State.{stack_of, names_of}
+use Rattle.nl_parse_stack.proofs.reader.Reader.settle.Given as goal
 
 abbrev pub invariant-frames : goal.invariant-frames
 invariant-frames l =

@@ -5,7 +5,7 @@ use Rattle.nl_tree.specs.Tree.{Node}
 use Rattle.nl_tree.specs.Tokens.{Tok}
 use Rattle.nl_parse_grammar.specs.declared.pending.Shape.{Shape}
 use Rattle.nl_parse_grammar.specs.Machine.{Frame, Step, stop, feed_paren, feed_minus, feed_reporter, feed_bracket, feed_whole}
-use Rattle.nl_parse.specs.declared.closing.Around.{Around}
+use Rattle.nl_parse_stack.specs.declared.around.Around.{Around}
 
 -- a token behind it, on what is open outside
 abbrev pub shut_in : Around → Shape → Node → Names → List Frame → Tok → Step

@@ -2,7 +2,7 @@ use Rattle.std.proofs.Common.{◌≡◌, arith, ◌-◌, List, [], ◌∷◌, le
 use Rattle.nl_parse_reading.specs.declared.frames.Frame.{Frame}
 use Rattle.nl_parse_reading.specs.inner.Reading.{frame_of, frames_onto, names_onto}
 use Rattle.nl_parse_reading.proofs.Capped.{newest_of}
-use Rattle.nl_parse.proofs.reader.Reader.newest.Goals as goal
+use Rattle.nl_parse_stack.proofs.reader.Reader.newest.Goals as goal
 
 pub returns-in-len1-up-clause-stack : goal.returns-in-len1-up-clause-stack
 returns-in-len1-up-clause-stack c =

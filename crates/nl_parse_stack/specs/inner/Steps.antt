@@ -3,10 +3,10 @@ use Rattle.std.specs.Prelude.{◌≡◌, Bool, true, false, List, Result, OnOk}
 use Rattle.std.specs.Result.{IsErrOf}
 use Rattle.nl_fixed.specs.Nouns.{Names}
 use Rattle.nl_parse_grammar.specs.Machine.{Frame, Mode, Have, Optional, State, Step, go, stop}
-use Rattle.nl_parse.specs.inner.State.{names_of, stack_of, state_of}
-use Rattle.nl_parse.specs.declared.reader.Reader.{Reader}
-use Rattle.nl_parse.specs.declared.reader.Refusal.{Refusal}
-use Rattle.nl_parse.specs.declared.reader.Refusal.TheVariants.{Unexpected}
+use Rattle.nl_parse_stack.specs.inner.State.{names_of, stack_of, state_of}
+use Rattle.nl_parse_stack.specs.declared.reader.Reader.{Reader}
+use Rattle.nl_parse_stack.specs.declared.reader.Refusal.{Refusal}
+use Rattle.nl_parse_stack.specs.declared.reader.Refusal.TheVariants.{Unexpected}
 
 -- the reader comes to where this step of the machine goes from there, and takes a token for unexpected only where the machine stops
 abbrev pub FollowsLate : Result (Unit {0}) Refusal → Reader → Reader → (Names → List Frame → Step) → Type 0

@@ -1,20 +1,17 @@
 //! The reader between two tokens, and the ways to its stack.
-ghost use Rattle.std.specs.Prelude.{◌≡◌, ◌∷◌, [], ◌+◌, length, IfSome, IfNone, OnOk, Err};
+ghost use Rattle.std.specs.Prelude.{◌≡◌, ◌∷◌, [], ◌+◌, length, IfSome, IfNone, IfOk, OnOk, Err};
 ghost use Rattle.std.specs.Result.{IsErrOf};
-ghost use Rattle.nl_parse.specs.declared.reader.Refusal.TheVariants as Refusal;
-ghost use Rattle.nl_tree.specs.Vocabulary.{among};
-ghost use Rattle.nl_parse_grammar.specs.Machine.{st};
-ghost use Rattle.nl_parse_grammar.specs.Depth.{least_depth};
-ghost use Rattle.nl_parse_reading.specs.inner.Limit.{capped};
+ghost use Rattle.nl_parse_stack.specs.declared.reader.Refusal.TheVariants as Refusal;
+ghost use Rattle.nl_parse_grammar.specs.Machine.{start, st};
 ghost use Rattle.nl_parse_reading.specs.inner.Reading.{frame_of, mode_of, mode_names, names_with};
-ghost use Rattle.nl_parse.specs.inner.State.{stack_of, names_of, state_of, outer_stack_of, outer_names_of, HasRoom};
-ghost use Rattle.nl_parse.specs.inner.Steps.{Reaches};
-ghost use Rattle.nl_parse.specs.inner.Asked.{is_at_side, is_in_list};
+ghost use Rattle.nl_parse_stack.specs.inner.State.{stack_of, names_of, state_of, outer_stack_of, outer_names_of, HasRoom};
+ghost use Rattle.nl_parse_stack.specs.inner.Steps.{Reaches};
 
-use nl_fixed::NoMemory;
-use nl_parse_reading::depths::least_depth;
-use nl_parse_reading::frames::{Frame, Mode, make_name};
+use nl_fixed::{NoMemory, Span};
+use nl_parse_reading::frames::{Frame, Mode};
 use nl_parse_reading::known_names::KnownNames;
+use nl_parse_reading::parts::Grouped;
+use nl_tree::{Ending, Form};
 use std::alloc::Global;
 use std::mem;
 
@@ -28,7 +25,7 @@ pub enum Refusal {
 
 impl From<NoMemory> for Refusal {
     ghost use Rattle.std.specs.Prelude.{◌≡◌};
-    ghost use Rattle.nl_parse.specs.declared.reader.Refusal.TheVariants as Refusal;
+    ghost use Rattle.nl_parse_stack.specs.declared.reader.Refusal.TheVariants as Refusal;
 
     ghost from_gives = { λ _ refusal. refusal ≡ Refusal.NoMemory };
 
@@ -59,6 +56,33 @@ pub struct Reader<'a> {
     pub inputs: &'a KnownNames,
     pub mode: Mode,
     pub stack: Vec<Frame>,
+}
+
+/// The reader before the first token, which stands there.
+pub fn begin<'a>(
+    alloc: Global,
+    form: Form,
+    inputs: &'a KnownNames,
+    first: Span,
+) -> Result<Reader<'a>, NoMemory>
+    ensures { IfOk result (λ reader. state_of reader ≡ start form inputs.now first) }
+{
+    let mut stack = Vec::new(alloc);
+    let mode = match form {
+        Form::Commands => {
+            let names = KnownNames::empty(alloc);
+            let statements = Grouped::new(alloc);
+            stack.push(Frame::Statements(first, Ending::AtEnd, names, statements))?;
+            Mode::Stating
+        }
+        Form::Reporter => Mode::Begin,
+    };
+    Ok(Reader {
+        alloc,
+        inputs,
+        mode,
+        stack,
+    })
 }
 
 impl<'a> Reader<'a> {
@@ -98,6 +122,17 @@ impl<'a> Reader<'a> {
         let_go(mem::replace(&mut self.mode, mode));
     }
 
+    /// Takes out what may come next.
+    pub fn take_mode(&mut self) -> Mode
+        ensures state { state_of self.old
+            ≡ st (mode_of result) (mode_names result (names_of self.new)) (stack_of self.new) }
+        ensures mode { result ≡ self.old.mode }
+        ensures names { names_of self.new ≡ names_of self.old }
+        ensures stack { stack_of self.new ≡ stack_of self.old }
+    {
+        mem::replace(&mut self.mode, Mode::Dead(None, None))
+    }
+
     /// Takes the newest frame.
     #[tactic(auto, using(nl_parse_reading::proofs::Framed::frames_push, nl_parse_reading::proofs::Framed::names_push))]
     pub fn take(&mut self) -> Option<Frame>
@@ -134,39 +169,5 @@ impl<'a> Reader<'a> {
             [_below @ .., newest] => Some(newest),
             [] => None,
         }
-    }
-
-    /// Whether a right side of an operator of level 1 is read, with no other frame between.
-    pub fn is_at_side(&self) -> bool
-        ensures { result ≡ is_at_side (stack_of self.now) }
-    {
-        match self.newest() {
-            Some(Frame::Near(_, _, _)) => true,
-            _ => false,
-        }
-    }
-
-    /// Whether a literal list is read, with no other frame between.
-    pub fn is_in_list(&self) -> bool
-        ensures { result ≡ is_in_list (stack_of self.now) }
-    {
-        match self.newest() {
-            Some(Frame::List(_, _)) => true,
-            _ => false,
-        }
-    }
-
-    /// Whether the name is that of a local or an input that is known.
-    pub fn knows(&self, name: &[u8]) -> bool
-        ensures { result ≡ among name.now (names_of self.now) }
-    {
-        make_name(self.stack.as_slice(), name) || self.inputs.has(name)
-    }
-
-    /// The least depth that the whole tree can still have, up to `TOO_DEEP`.
-    pub fn least_depth(&self) -> u32
-        ensures { result ≡ capped (least_depth (state_of self.now)) }
-    {
-        least_depth(&self.mode, self.stack.as_slice())
     }
 }

@@ -8,12 +8,12 @@ ghost use Rattle.nl_parse_grammar.specs.Machine as M;
 ghost use Rattle.nl_parse_grammar.specs.declared.pending.Shape.{Shape};
 ghost use Rattle.nl_parse_grammar.specs.Machine.{end_statement, next, closed, supply, accept, end_list, settle, got, InMany, InNear};
 ghost use Rattle.std.specs.Result.{IsErrOf};
-ghost use Rattle.nl_parse.specs.declared.reader.Refusal.TheVariants.{Unexpected};
+ghost use Rattle.nl_parse_stack.specs.declared.reader.Refusal.TheVariants.{Unexpected};
 ghost use Rattle.nl_parse_reading.specs.inner.View.{needs_of};
 ghost use Rattle.nl_parse_reading.specs.inner.Reading.{frame_of, maybe_over};
-ghost use Rattle.nl_parse.specs.inner.State.{stack_of, names_of, state_of};
-ghost use Rattle.nl_parse.specs.inner.Asked.{ends_newest, is_waiting};
-ghost use Rattle.nl_parse.specs.inner.Steps.{Reaches};
+ghost use Rattle.nl_parse_stack.specs.inner.State.{stack_of, names_of, state_of};
+ghost use Rattle.nl_parse_stack.specs.inner.Asked.{ends_newest, is_waiting};
+ghost use Rattle.nl_parse_stack.specs.inner.Steps.{Reaches};
 
 use crate::reader::{Reader, Refusal};
 use nl_fixed::Str;
@@ -88,7 +88,7 @@ impl<'a> Reader<'a> {
     }
 
     /// Hands what is closed to what waits for it.
-    #[tactic(auto, using(crate::proofs::Stacked::at_hand))]
+    #[tactic(auto, using(crate::proofs::Waiting::at_hand))]
     pub fn closed(&mut self, shape: Shape, tree: Grown) -> Result<(), Refusal>
         ensures { Reaches result self.old self.new (closed shape tree) }
     {
@@ -179,7 +179,7 @@ impl<'a> Reader<'a> {
     }
 
     /// Hands an expression, or an item, that no operator follows to what waits for it.
-    #[tactic(auto, using(crate::proofs::Stacked::not_waiting))]
+    #[tactic(auto, using(crate::proofs::Waiting::not_waiting))]
     pub fn accept(&mut self, shape: Shape, tree: Grown) -> Result<(), Refusal>
         ensures { Reaches result self.old self.new (accept shape tree) }
     {
@@ -246,7 +246,7 @@ impl<'a> Reader<'a> {
     }
 
     /// Ends all that an operator of this level ends.
-    #[tactic(auto, using(nl_parse_reading::proofs::Framed::closed_makes_none, crate::proofs::Stacked::nothing_ends))]
+    #[tactic(auto, using(nl_parse_reading::proofs::Framed::closed_makes_none, crate::proofs::Waiting::nothing_ends))]
     pub fn settle(
         &mut self,
         level: u8,
@@ -279,7 +279,7 @@ impl<'a> Reader<'a> {
     }
 
     /// Hands a literal list to what waits for it.
-    #[tactic(auto, using(crate::proofs::Stacked::outer_list))]
+    #[tactic(auto, using(crate::proofs::Waiting::outer_list))]
     pub fn end_list(&mut self, tree: Grown) -> Result<(), Refusal>
         ensures { Reaches result self.old self.new (end_list tree) }
     {

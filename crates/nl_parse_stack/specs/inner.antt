@@ -1,0 +1,4 @@
+pub mod Around
+pub mod Asked
+pub mod State
+pub mod Steps
