@@ -1,6 +1,5 @@
 -- What waits for a tree on the machine's stack.
-use Rattle.std.proofs.Common.{◌≡◌, ℕ, suc, true, false, List, [], ◌∷◌, refl}
-use Rattle.nl_fixed.specs.declared.span.Span.{Span}
+use Rattle.std.proofs.Common.{◌≡◌, ℕ, suc, false, List, [], ◌∷◌, refl}
 use Rattle.nl_tree.specs.Tree.{Node}
 use Rattle.nl_parse_grammar.specs.declared.pending.Shape.{Shape}
 use Rattle.nl_parse_grammar.specs.declared.pending.Shape.TheVariants.{Literal}

@@ -49,7 +49,8 @@ pub fn let_go<T: Drop>(_thing: T) {}
 /// A reader between two tokens.
 ///
 /// The stack has what is open, the newest last. A name is kept in the frame of the statements that know it, so closing a block forgets its
-/// names.
+/// names. The inputs are known all the while, and the mode says what may come next. The fields are public, since nothing ties them: whatever
+/// they hold is a state of the machine.
 #[derive(Drop)]
 pub struct Reader<'a> {
     pub alloc: Global,
