@@ -53,6 +53,9 @@ value_step found k ks (input.MaybeCommands ∷ is) zero = refl
 value_step found k ks (input.Reporter ∷ is) zero = refl
 value_step found k ks (input.Variable ∷ is) zero = refl
 value_step found k ks (input.Fresh ∷ is) zero = refl
+value_step found k ks (input.ArrowCommands ∷ is) zero = refl
+value_step found k ks (input.ArrowReporter ∷ is) zero = refl
+value_step found k ks (input.Cases ∷ is) zero = refl
 value_step found k ks (i ∷ is) (suc at) = rw (drop_one i is at) (value_step found k ks is at)
 
 chosen_gives : (table : List Term) (b : Bool) (found chosen : Option Node) (part : Node) → chosen ≡ cond b (Some part) found → given_by table chosen ≡ cond b (given table part) (given_by table found)

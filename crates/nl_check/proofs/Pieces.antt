@@ -144,6 +144,7 @@ plain_node table label.Negate s parts other = ap (λ ts. flat (subs table (nodes
 plain_node table label.Paren s parts other = ap (λ ts. flat (subs table (nodes ts))) (listed_nodes parts)
 plain_node table label.Commands s parts other = ap (λ ts. flat (subs table (nodes ts))) (listed_nodes parts)
 plain_node table label.Reporter s parts other = ap (λ ts. flat (subs table (nodes ts))) (listed_nodes parts)
+plain_node table (label.Arrow names) s parts other = ap (λ ts. flat (subs table (nodes ts))) (listed_nodes parts)
 
 -- what is told of the pieces is told of the same ones
 pub told_again : (table : List Term) (inner : Bool) (r : Result (Unit {0}) NoMemory) (old new : List Step) (ps qs : List Piece) → ps ≡ qs → OnOk r (new ≡ old ++ steps_of table inner ps) → OnOk r (new ≡ old ++ steps_of table inner qs)

@@ -203,7 +203,7 @@ impl<'a> Site<'a> {
 fn is_block(label: &Label) -> bool
     ensures { result ≡ is_block label.now }
 {
-    matches!(label, Label::Commands | Label::Reporter)
+    matches!(label, Label::Commands | Label::Reporter | Label::Arrow(_))
 }
 
 fn text_of(label: &Label) -> &[u8]

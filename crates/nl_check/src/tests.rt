@@ -17,7 +17,7 @@ use nl_tree::{
     Breeds, CheckKind, Declared, Form, Label, NamedWord, NamedWords, Procedure, Procedures,
     Program, Tree, Trees, What, Word,
 };
-use nl_words::{Kinds, Role};
+use nl_words::{Kinds, Role, Turns};
 use std::alloc::Global;
 
 // Lets go of a thing by one call: a tree that ends inside of a function is walked there, variant by variant.
@@ -57,6 +57,7 @@ fn procedure_row(
         inputs: &[],
         values: 0,
         many: false,
+        turns: Turns::NoTurn,
         runs,
         gives,
         what: What::Procedure(place),

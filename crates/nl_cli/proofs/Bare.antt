@@ -41,6 +41,7 @@ case_at d labels.Negate = refl
 case_at d labels.Paren = refl
 case_at d labels.Commands = refl
 case_at d labels.Reporter = refl
+case_at d (labels.Arrow names) = refl
 
 module _ (p : Checked) where
   same_case : case_of (bare p).declared ≡ case_of p.declared

@@ -18,7 +18,7 @@ use crate::made::{MadeWord, made_name, made_words};
 use crate::variables::{Owned, global_names, owned_names};
 use nl_fixed::{NoMemory, Str};
 use nl_tree::{Breed, Declared, NamedWord, NamedWords, Procedure, What, Word};
-use nl_words::{Entry, Kinds, Role, base_words};
+use nl_words::{Entry, Kinds, Role, Turns, base_words};
 use std::alloc::Global;
 
 const EVERYONE: Kinds = Kinds {
@@ -52,6 +52,7 @@ fn variable(runs: Kinds, what: What) -> Word
         inputs: &[],
         values: 0,
         many: false,
+        turns: Turns::NoTurn,
         runs,
         gives: UNKNOWN,
         what,
@@ -68,6 +69,7 @@ fn made_word(number: u32, entry: &Entry) -> Word
         inputs: entry.inputs,
         values: 0,
         many: entry.many,
+        turns: entry.turns,
         runs: entry.runs,
         gives: entry.gives,
         what: What::Made(number, entry.code),
@@ -89,6 +91,7 @@ fn procedure_word(place: u32, procedure: &Procedure) -> Word
         inputs: &[],
         values: procedure.inputs.as_slice().len() as u32,
         many: false,
+        turns: Turns::NoTurn,
         runs: EVERYONE,
         gives: UNKNOWN,
         what: What::Procedure(place),

@@ -217,7 +217,7 @@ module _ (d : Declared) where
   fit_made_as : (n : ℕ) (b : Breed) (name : Name) (found : Option Row) → IsOf n b → found_passes (not b.link) b.link found ≡ true → Fit (made_as n name found)
   fit_made_as n b name None is pass = tt
   fit_made_as n b name (Some r) is pass =
-      let row : Term = record { name = name; role = r.role; inputs = r.inputs; values = 0; many = r.many; runs = r.runs; gives = r.gives; what = what.Made n r.code } in
+      let row : Term = record { name = name; role = r.role; inputs = r.inputs; values = 0; many = r.many; turns = r.turns; runs = r.runs; gives = r.gives; what = what.Made n r.code } in
       (code_stands (layout_of d) (Some n) (not b.link) b.link is.0 is.1 row r.code pass, tt)
 
   fit_made : (n : ℕ) (b : Breed) (ps : List Pattern) → IsOf n b → list_all (pattern_passes (not b.link) b.link) ps ≡ true → Fit (made_terms n b ps)

@@ -75,3 +75,4 @@ case_of d label.Negate = Negation
 case_of d label.Paren = Inside
 case_of d label.Commands = Statements
 case_of d label.Reporter = Inside
+case_of d (label.Arrow names) = Inside

@@ -128,6 +128,7 @@ pub fn label_op<'a>(
         Label::Paren => Ok(Op::Inside),
         Label::Commands => Ok(Op::Statements),
         Label::Reporter => Ok(Op::Inside),
+        Label::Arrow(_) => Ok(Op::Inside),
     }
 }
 

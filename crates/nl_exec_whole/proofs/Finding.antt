@@ -1,5 +1,5 @@
 -- Each node of a text is a construct that finds what it looks for.
-use Rattle.std.proofs.Common.{◌≡◌, ℕ, zero, suc, ◌<◌, ℤ, Bool, true, false, not, ◌||◌, ◌&&◌, IsTrue, IsSome, List, [], ◌∷◌, length, Option, Some, None, slice_get, refl, sym, subst, ◌∙◌, arith}
+use Rattle.std.proofs.Common.{◌≡◌, ℕ, zero, suc, ◌<◌, ℤ, Bool, true, false, not, ◌||◌, ◌&&◌, IsTrue, IsSome, List, [], ◌∷◌, length, Option, Some, None, slice_get, refl, sym, ap, subst, ◌∙◌, arith}
 use Rattle.std.specs.Prelude.{if◌then◌else◌, nat_lt}
 use Rattle.std.specs.List.{list_all}
 use Rattle.std.specs.Cmp.{first_so, second_so}
@@ -8,6 +8,7 @@ use Rattle.std.proofs.lemmas.Option.{slice_get_within}
 use Rattle.nl_fixed.specs.Nouns.{Name}
 use Rattle.nl_words.specs.Row.{Row}
 use Rattle.nl_words.specs.Rows.{rows}
+use Rattle.nl_words.specs.Table.{has_turns}
 use Rattle.nl_words.specs.declared.entry.Kinds.{Kinds}
 use Rattle.nl_words.specs.declared.entry.Role.TheVariants as role
 use Rattle.nl_words.specs.declared.entry.Input.{Input}
@@ -31,7 +32,7 @@ use Rattle.nl_exec_meaning.specs.Cases.{Case, built_case, slot_case, apart_case,
 use Rattle.nl_exec_meaning.specs.Cases as case
 use Rattle.nl_exec_meaning.specs.Meaning.{name_in}
 use Rattle.nl_exec_meaning.specs.Words.{apart_word, built_word}
-use Rattle.nl_exec_whole.specs.Parts.{Each, EachIn, is_local, is_settable, is_reserved, IsInput, AreInputs, AreTaken, AreOfWord, IsOne, AreOf}
+use Rattle.nl_exec_whole.specs.Parts.{Each, EachIn, is_local, is_settable, is_reserved, stands_nowhere, IsInput, AreInputs, AreTaken, AreOfWord, IsOne, AreOf}
 use Rattle.nl_exec_whole.specs.Looks.{Look, Part, NewName, Variable, looks_of_built, looks_of, is_variable_case, IsFound, AreFound, has_apart, IsThere, is_nothing, IsWhole, NodesAreWhole}
 use Rattle.nl_exec_whole.proofs.Terms.{each_row, made_term, of_each_breed, pattern_by}
 use Rattle.nl_exec_whole.proofs.TextParts.{nodes_have_their_parts}
@@ -74,7 +75,7 @@ is_there other = true
 abbrev row_passes : Row → Bool
 row_passes r =
     let it = built_case (base_term r) None r.code in
-    or_not (not (is_reserved r.role)) (not (is_nothing it)) && covers (looks_of it) r.many (inputs_of (base_term r))
+    or_not (not (stands_nowhere (base_term r))) (not (is_nothing it)) && covers (looks_of it) r.many (inputs_of (base_term r))
     && or_not (is_variable r.role) (is_variable_case it) && is_there it
 
 rows_pass : list_all row_passes rows ≡ true
@@ -116,7 +117,7 @@ IsThereFor d (case.Aside runs which) r = (kind : Kind) → IsTrue (allows runs k
 IsThereFor d other r = Unit {0}
 
 pub record IsMet (d : Declared) (it : Case) (r : Term) : Type 0 where
-  pub something : is_reserved r.role ≡ false → is_nothing it ≡ false
+  pub something : stands_nowhere r ≡ false → is_nothing it ≡ false
   pub looks : covers (looks_of it) r.many (inputs_of r) ≡ true
   pub variable : is_variable r.role ≡ true → is_variable_case it ≡ true
   pub program : IsThereFor d it r
@@ -169,14 +170,14 @@ module _ (d : Declared) where
   met_base : (r : Row) → row_passes r ≡ true → Met (base_term r)
   met_base r h =
       let it = built_case (base_term r) None r.code in
-      let a = or_not (not (is_reserved r.role)) (not (is_nothing it)) in
+      let a = or_not (not (stands_nowhere (base_term r))) (not (is_nothing it)) in
       let b = covers (looks_of it) r.many (inputs_of (base_term r)) in
       let c = or_not (is_variable r.role) (is_variable_case it) in
       let e = is_there it in
       let three = first_so (a && b && c) e h in
       let two = first_so (a && b) c three in
       record {
-        something = λ here. not_false (is_nothing it) (follows (not (is_reserved r.role)) (not (is_nothing it)) (first_so a b two) (not_to (is_reserved r.role) here));
+        something = λ here. not_false (is_nothing it) (follows (not (stands_nowhere (base_term r))) (not (is_nothing it)) (first_so a b two) (not_to (stands_nowhere (base_term r)) here));
         looks = second_so a b two;
         variable = follows (is_variable r.role) (is_variable_case it) (second_so (a && b) c three);
         program = there_by d it (base_term r) (second_so (a && b && c) e h);
@@ -185,7 +186,7 @@ module _ (d : Declared) where
   met_word : (n : ℕ) (name : Name) (r : Row) (word : Option Built) → is_variable r.role ≡ false → word_covers word r ≡ true
       → IsMet d (word_case r.runs (Some n) word) (made_term n name r)
   met_word n name r None plain h =
-      record { something = λ here. let bad : true ≡ false = sym h ∙ here in cc; looks = refl; variable = λ is. let bad : true ≡ false = sym is ∙ plain in cc; program = tt }
+      record { something = λ here. let bad : true ≡ false = sym (ap (λ b. b || has_turns r.turns) h) ∙ here in cc; looks = refl; variable = λ is. let bad : true ≡ false = sym is ∙ plain in cc; program = tt }
   met_word n name r (Some word) plain h =
       record { something = λ here. refl; looks = h; variable = λ is. let bad : true ≡ false = sym is ∙ plain in cc; program = tt }
 
@@ -299,6 +300,7 @@ module _ (d : Declared) where
   whole_by label.Paren ts h = (refl, one_found ts h, tt)
   whole_by label.Commands ts h = (refl, tt, tt)
   whole_by label.Reporter ts h = (refl, one_found ts h, tt)
+  whole_by (label.Arrow names) ts h = (refl, one_found ts h, tt)
 
   whole : (t : Node) → AreOf (terms d) (tree.label t) (tree.parts t) → IsWhole d t
   whole t h = let x = whole_by (tree.label t) (tree.parts t) h in record { something = x.0; parts = x.1; program = x.2 }

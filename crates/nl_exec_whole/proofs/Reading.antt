@@ -21,7 +21,7 @@ use Rattle.nl_tree.specs.Grammar as grammar
 use Rattle.nl_tree.specs.Grammar.{one, leaf, join, and_last, Part, Closed, Chain, Sides, Call, LastCall, Items, AnyItems, Level, Literals, Arg, Args, Statement, Statements, Reads, IsText}
 use Rattle.nl_exec_whole.specs.Parts.{Each, EachIn, IsValue, is_local, is_settable, IsName, AreInputs, AreTaken, AreOfWord, AreOf}
 use Rattle.nl_exec_whole.proofs.Marked.{AreMarked, all_marked}
-use Rattle.nl_exec_whole.proofs.Rows.{term_fits, Says, is_unknown, is_nowhere, no_row, row_says}
+use Rattle.nl_exec_whole.proofs.Rows.{is_apart, term_fits, Says, is_unknown, is_nowhere, no_row, row_says}
 
 listed_join : (ts us : Nodes) → listed (join ts us) ≡ listed ts ++ listed us
 listed_join none us = refl
@@ -85,20 +85,23 @@ module _ (table : List Term) where
   block_last b (i ∷ is) (u ∷ us) t h k = (h.0, block_last b is us t h.1 k)
 
   -- what the needs of a row read are its inputs
-  inputs_from : (command : Bool) (is : List Input) (ts : List Node) → list_any is_new is ≡ false → NeedsAre (map (need_by command) is) ts → AreInputs table is ts
-  inputs_from command [] [] e h = tt
-  inputs_from command [] (t ∷ ts) e h = absurd h
-  inputs_from command (input.Fresh ∷ is) ts e h = cc
-  inputs_from true (input.MaybeCommands ∷ is) [] e h = inputs_from true is [] e h
-  inputs_from false (input.MaybeCommands ∷ is) [] e h = inputs_from false is [] e h
-  inputs_from true (input.MaybeCommands ∷ is) (t ∷ ts) e (inl h) = inl (inputs_from true is (t ∷ ts) e h)
-  inputs_from true (input.MaybeCommands ∷ is) (t ∷ ts) e (inr h) = inr (h.0, inputs_from true is ts e h.1)
-  inputs_from false (input.MaybeCommands ∷ is) (t ∷ ts) e (inl h) = inl (inputs_from false is (t ∷ ts) e h)
-  inputs_from false (input.MaybeCommands ∷ is) (t ∷ ts) e (inr h) = inr (h.0, inputs_from false is ts e h.1)
-  inputs_from true (i ∷ is) [] e h = absurd h
-  inputs_from false (i ∷ is) [] e h = absurd h
-  inputs_from true (i ∷ is) (t ∷ ts) e h = (h.0, inputs_from true is ts e h.1)
-  inputs_from false (i ∷ is) (t ∷ ts) e h = (h.0, inputs_from false is ts e h.1)
+  inputs_from : (command : Bool) (is : List Input) (ts : List Node) → list_any is_new is ≡ false → list_any is_apart is ≡ false → NeedsAre (map (need_by command) is) ts → AreInputs table is ts
+  inputs_from command [] [] e apart h = tt
+  inputs_from command [] (t ∷ ts) e apart h = absurd h
+  inputs_from command (input.Fresh ∷ is) ts e apart h = cc
+  inputs_from command (input.ArrowCommands ∷ is) ts e apart h = cc
+  inputs_from command (input.ArrowReporter ∷ is) ts e apart h = cc
+  inputs_from command (input.Cases ∷ is) ts e apart h = cc
+  inputs_from true (input.MaybeCommands ∷ is) [] e apart h = inputs_from true is [] e apart h
+  inputs_from false (input.MaybeCommands ∷ is) [] e apart h = inputs_from false is [] e apart h
+  inputs_from true (input.MaybeCommands ∷ is) (t ∷ ts) e apart (inl h) = inl (inputs_from true is (t ∷ ts) e apart h)
+  inputs_from true (input.MaybeCommands ∷ is) (t ∷ ts) e apart (inr h) = inr (h.0, inputs_from true is ts e apart h.1)
+  inputs_from false (input.MaybeCommands ∷ is) (t ∷ ts) e apart (inl h) = inl (inputs_from false is (t ∷ ts) e apart h)
+  inputs_from false (input.MaybeCommands ∷ is) (t ∷ ts) e apart (inr h) = inr (h.0, inputs_from false is ts e apart h.1)
+  inputs_from true (i ∷ is) [] e apart h = absurd h
+  inputs_from false (i ∷ is) [] e apart h = absurd h
+  inputs_from true (i ∷ is) (t ∷ ts) e apart h = (h.0, inputs_from true is ts e apart h.1)
+  inputs_from false (i ∷ is) (t ∷ ts) e apart h = (h.0, inputs_from false is ts e apart h.1)
 
   -- ---- a word by its row
 
@@ -119,10 +122,10 @@ module _ (table : List Term) (fit : (w : Name) (t : Term) → term_named table w
   Holds u = AreOf table (tree.label u) (tree.parts u)
 
   by_row : (w : Name) (c : Class) (ts : List Node) → c ≡ class_of (term_named table w) → is_unknown c ≡ false → is_nowhere c ≡ false
-      → ((r : Term) → Says c r.role r.many (inputs_of r) → OfRow table r ts) → AreOfWord table (term_named table w) ts
+      → ((r : Term) → list_any is_apart (inputs_of r) ≡ false → Says c r.role r.many (inputs_of r) → OfRow table r ts) → AreOfWord table (term_named table w) ts
   by_row w c ts same known somewhere of =
-      let (r, (row, here, said)) = row_says (term_named table w) c (fit w) same known somewhere in
-      subst (λ o. AreOfWord table o ts) (sym row) (here, of r said)
+      let (r, (row, here, apart, said)) = row_says (term_named table w) c (fit w) same known somewhere in
+      subst (λ o. AreOfWord table o ts) (sym row) (here, of r apart said)
 
   local : (w : Name) → Unknown ≡ class_of (term_named table w) → AreOfWord table (term_named table w) []
   local w same = subst (λ o. AreOfWord table o []) (sym (no_row (term_named table w) same)) refl
@@ -135,35 +138,35 @@ module _ (table : List Term) (fit : (w : Name) (t : Term) → term_named table w
 
   settable : (w : Name) → Named ≡ class_of (term_named table w) → IsTrue (is_settable (term_named table w))
   settable w same =
-      let (r, (row, here, said)) = row_says (term_named table w) Named (fit w) same refl refl in
+      let (r, (row, here, apart, said)) = row_says (term_named table w) Named (fit w) same refl refl in
       subst (λ o. IsTrue (is_settable o)) (sym row) said.2
 
   -- words without parts
   constant : (w : Name) → Constant ≡ class_of (term_named table w) → AreOfWord table (term_named table w) []
-  constant w same = by_row w Constant [] same refl refl (λ r said. of_these table [] r [] said.0 said.1 tt)
+  constant w same = by_row w Constant [] same refl refl (λ r apart said. of_these table [] r [] said.0 said.1 tt)
 
   plain : (w : Name) → Plain ≡ class_of (term_named table w) → AreOfWord table (term_named table w) []
-  plain w same = by_row w Plain [] same refl refl (λ r said. of_these table [] r [] said.0 said.1 tt)
+  plain w same = by_row w Plain [] same refl refl (λ r apart said. of_these table [] r [] said.0 said.1 tt)
 
   variable : (w : Name) → Named ≡ class_of (term_named table w) → AreOfWord table (term_named table w) []
-  variable w same = by_row w Named [] same refl refl (λ r said. of_these table [] r [] said.0 said.1 tt)
+  variable w same = by_row w Named [] same refl refl (λ r apart said. of_these table [] r [] said.0 said.1 tt)
 
   -- words with parts
   many : (w : Name) (n : ℕ) (ts : List Node) → Many n ≡ class_of (term_named table w) → All IsValue ts → AreOfWord table (term_named table w) ts
-  many w n ts same h = by_row w (Many n) ts same refl refl (λ r said. of_any table r ts said h)
+  many w n ts same h = by_row w (Many n) ts same refl refl (λ r apart said. of_any table r ts said h)
 
   command : (w : Name) (ns : List Need) (ts : List Node) → Command ns ≡ class_of (term_named table w) → NeedsAre table ns ts → AreOfWord table (term_named table w) ts
   command w ns ts same h =
       by_row w (Command ns) ts same refl refl
-      (λ r said. of_inputs table r ts said.0 (inputs_from table true (inputs_of r) ts said.2 (subst (λ x. NeedsAre table x ts) (sym said.1) h)))
+      (λ r apart said. of_inputs table r ts said.0 (inputs_from table true (inputs_of r) ts said.2 apart (subst (λ x. NeedsAre table x ts) (sym said.1) h)))
 
   prefix : (w : Name) (ns : List Need) (ts : Nodes) (t : Node) → Prefix ns ≡ class_of (term_named table w) → NeedsAre table ns (listed ts) → IsValue t
       → AreOfWord table (term_named table w) (listed (and_last ts t))
   prefix w ns ts t same h k =
       subst (AreOfWord table (term_named table w)) (sym (listed_join ts (one t)))
       (by_row w (Prefix ns) (listed ts ++ t ∷ []) same refl refl
-      (λ r said. of_inputs table r (listed ts ++ t ∷ []) said.0
-      (inputs_from table false (inputs_of r) (listed ts ++ t ∷ []) said.2
+      (λ r apart said. of_inputs table r (listed ts ++ t ∷ []) said.0
+      (inputs_from table false (inputs_of r) (listed ts ++ t ∷ []) said.2 apart
       (subst (λ x. NeedsAre table x (listed ts ++ t ∷ [])) (sym said.1) (item_last table ns (listed ts) t h k)))))
 
   closing : (w : Name) (ns : List Need) (b : Block) (ts : Nodes) (t : Node) → Closing ns b ≡ class_of (term_named table w) → NeedsAre table ns (listed ts) → NeedIs table (Within b) t
@@ -171,27 +174,27 @@ module _ (table : List Term) (fit : (w : Name) (t : Term) → term_named table w
   closing w ns b ts t same h k =
       subst (AreOfWord table (term_named table w)) (sym (listed_join ts (one t)))
       (by_row w (Closing ns b) (listed ts ++ t ∷ []) same refl refl
-      (λ r said. of_inputs table r (listed ts ++ t ∷ []) said.0
-      (inputs_from table false (inputs_of r) (listed ts ++ t ∷ []) said.2
+      (λ r apart said. of_inputs table r (listed ts ++ t ∷ []) said.0
+      (inputs_from table false (inputs_of r) (listed ts ++ t ∷ []) said.2 apart
       (subst (λ x. NeedsAre table x (listed ts ++ t ∷ [])) (sym said.1) (block_last table b ns (listed ts) t h k)))))
 
   made : (w n : Name) (s : _) (t : Node) → Let ≡ class_of (term_named table w) → Unknown ≡ class_of (term_named table n) → IsValue t
       → AreOfWord table (term_named table w) (leaf (label.Named n) s ∷ t ∷ [])
   made w n s t same new h =
       let ts = leaf (label.Named n) s ∷ t ∷ [] in
-      by_row w Let ts same refl refl (λ r said. of_these table (input.Fresh ∷ input.Value ∷ []) r ts said.0 said.1 ((n, s, (refl, new_local n new)), (h, tt)))
+      by_row w Let ts same refl refl (λ r apart said. of_these table (input.Fresh ∷ input.Value ∷ []) r ts said.0 said.1 ((n, s, (refl, new_local n new)), (h, tt)))
 
   with_block : (w : Name) (t u : Node) → With ≡ class_of (term_named table w) → IsValue t → NeedIs table (Within blocks.Reporter) u → AreOfWord table (term_named table w) (t ∷ u ∷ [])
-  with_block w t u same h k = by_row w With (t ∷ u ∷ []) same refl refl (λ r said. of_these table (input.Value ∷ input.Reporter ∷ []) r (t ∷ u ∷ []) said.0 said.1 (h, (k, tt)))
+  with_block w t u same h k = by_row w With (t ∷ u ∷ []) same refl refl (λ r apart said. of_these table (input.Value ∷ input.Reporter ∷ []) r (t ∷ u ∷ []) said.0 said.1 (h, (k, tt)))
 
   near : (w : Name) (n : ℕ) (t : Node) (us : List Node) → Near n ≡ class_of (term_named table w) → IsValue t → AreInputs table (repeated (suc n)) us → AreOfWord table (term_named table w) (t ∷ us)
-  near w n t us same h k = by_row w (Near n) (t ∷ us) same refl refl (λ r said. of_these table (input.Value ∷ repeated (suc n)) r (t ∷ us) said.0 said.1 (h, k))
+  near w n t us same h k = by_row w (Near n) (t ∷ us) same refl refl (λ r apart said. of_these table (input.Value ∷ repeated (suc n)) r (t ∷ us) said.0 said.1 (h, k))
 
   of_agents : (w : Name) (t u : Node) → Of ≡ class_of (term_named table w) → NeedIs table (Within blocks.Reporter) t → IsValue u → AreOfWord table (term_named table w) (t ∷ u ∷ [])
-  of_agents w t u same h k = by_row w Of (t ∷ u ∷ []) same refl refl (λ r said. of_these table (input.Reporter ∷ input.Value ∷ []) r (t ∷ u ∷ []) said.0 said.1 (h, (k, tt)))
+  of_agents w t u same h k = by_row w Of (t ∷ u ∷ []) same refl refl (λ r apart said. of_these table (input.Reporter ∷ input.Value ∷ []) r (t ∷ u ∷ []) said.0 said.1 (h, (k, tt)))
 
   binary : (w : Name) (l : ℕ) (m : Bool) (t u : Node) → Binary l m ≡ class_of (term_named table w) → IsValue t → IsValue u → AreOfWord table (term_named table w) (t ∷ u ∷ [])
-  binary w l m t u same h k = by_row w (Binary l m) (t ∷ u ∷ []) same refl refl (λ r said. of_these table (input.Value ∷ input.Value ∷ []) r (t ∷ u ∷ []) said.0 said.1 (h, (k, tt)))
+  binary w l m t u same h k = by_row w (Binary l m) (t ∷ u ∷ []) same refl refl (λ r apart said. of_these table (input.Value ∷ input.Value ∷ []) r (t ∷ u ∷ []) said.0 said.1 (h, (k, tt)))
 
   -- ---- the reading
 

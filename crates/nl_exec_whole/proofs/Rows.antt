@@ -2,6 +2,7 @@
 use Rattle.std.proofs.Common.{◌≡◌, ℕ, suc, Bool, true, false, not, ◌||◌, ◌&&◌, List, [], ◌∷◌, ◌++◌, map, Option, Some, None, refl, sym, ap, subst, ◌∙◌, bytes_eq}
 use Rattle.std.specs.Prelude.{if◌then◌else◌, ◌==◌, nat_le, ◌-◌, codes}
 use Rattle.std.specs.List.{list_any}
+use Rattle.std.specs.Cmp.{first_so, second_so}
 use Rattle.nl_words.specs.declared.entry.Role.{Role}
 use Rattle.nl_words.specs.declared.entry.Role.TheVariants as role
 use Rattle.nl_words.specs.declared.entry.Input.{Input}
@@ -10,7 +11,8 @@ use Rattle.nl_tree.specs.declared.needs.Need.{Need}
 use Rattle.nl_tree.specs.declared.needs.Need.TheVariants.{Item, Within}
 use Rattle.nl_tree.specs.Term.{Term}
 use Rattle.nl_tree.specs.Context.{is_variable}
-use Rattle.nl_exec_whole.specs.Parts.{is_reserved}
+use Rattle.nl_words.specs.Table.{has_turns}
+use Rattle.nl_exec_whole.specs.Parts.{is_reserved, stands_nowhere}
 use Rattle.nl_tree.specs.Tokens.{Class, Unknown, Constant, Plain, Named, Prefix, Many, Closing, Command, Let, With, Near, Of, Binary, Nowhere, is_new, need_of_command, need_of_reporter, repeated, inputs_of, before, last_need, reporter_of, one_more, many_class, command_class, near_class, class_by, class_of}
 
 -- ---- rows whose inputs are those of their role
@@ -40,8 +42,15 @@ role_fits role.Constant many is = not many && is_empty is
 role_fits role.Variable many is = not many && is_empty is
 role_fits role.Reserved many is = true
 
+-- an input that no text has yet
+abbrev pub is_apart : Input → Bool
+is_apart input.ArrowCommands = true
+is_apart input.ArrowReporter = true
+is_apart input.Cases = true
+is_apart i = false
+
 abbrev pub term_fits : Term → Bool
-term_fits t = role_fits t.role t.many (inputs_of t)
+term_fits t = has_turns t.turns || (not (list_any is_apart (inputs_of t)) && role_fits t.role t.many (inputs_of t))
 
 none_of : (is : List Input) → is_empty is ≡ true → is ≡ []
 none_of [] h = refl
@@ -137,6 +146,11 @@ says role.Variable true minus is h = cc
 says role.Variable false minus is h = (refl, none_of is h, refl)
 says role.Reserved many minus is h = tt
 
+says_by : (turns : Bool) (r : Role) (many minus : Bool) (is : List Input) → (turns || (not (list_any is_apart is) && role_fits r many is)) ≡ true
+    → Says (if turns then Nowhere else class_by r many minus is) r many is
+says_by true r many minus is h = tt
+says_by false r many minus is h = says r many minus is (second_so (not (list_any is_apart is)) (role_fits r many is) h)
+
 -- ---- only a word without a row is unknown
 
 abbrev pub is_unknown : Class → Bool
@@ -200,22 +214,34 @@ known_class role.Reserved many minus is = refl
 pub no_row : (o : Option Term) → Unknown ≡ class_of o → o ≡ None
 no_row None same = refl
 no_row (Some t) same =
-    let bad : true ≡ false = ap is_unknown same ∙ known_class t.role t.many (bytes_eq t.name (codes "-")) (inputs_of t) in cc
+    let bad : true ≡ false = ap is_unknown same ∙ known_if (has_turns t.turns) (class_by t.role t.many (bytes_eq t.name (codes "-")) (inputs_of t)) (known_class t.role t.many (bytes_eq t.name (codes "-")) (inputs_of t)) in cc
 
--- ---- what declarations alone have stands nowhere
+-- ---- what has a place in a text
 
 abbrev pub is_nowhere : Class → Bool
 is_nowhere Nowhere = true
 is_nowhere c = false
 
-stands : (r : Role) (many minus : Bool) (is : List Input) → is_nowhere (class_by r many minus is) ≡ false → is_reserved r ≡ false
-stands role.Reserved many minus is h = cc
-stands r many minus is h = refl
+stands : (turns : Bool) (r : Role) (many minus : Bool) (is : List Input) → is_nowhere (if turns then Nowhere else class_by r many minus is) ≡ false → (is_reserved r || turns) ≡ false
+stands true r many minus is h = cc
+stands false role.Reserved many minus is h = cc
+stands false r many minus is h = refl
+
+not_true : (b : Bool) → not b ≡ true → b ≡ false
+not_true true h = cc
+not_true false h = refl
+
+-- and its inputs are those that texts have
+none_apart : (turns : Bool) (r : Role) (many minus : Bool) (is : List Input) → is_nowhere (if turns then Nowhere else class_by r many minus is) ≡ false
+    → (turns || (not (list_any is_apart is) && role_fits r many is)) ≡ true → list_any is_apart is ≡ false
+none_apart true r many minus is h k = cc
+none_apart false r many minus is h k = not_true (list_any is_apart is) (first_so (not (list_any is_apart is)) (role_fits r many is) k)
 
 -- the row behind a class that isn't that of a word without one
 pub row_says : (o : Option Term) (c : Class) → ((t : Term) → o ≡ Some t → term_fits t ≡ true) → c ≡ class_of o → is_unknown c ≡ false → is_nowhere c ≡ false
-    → (t : Term) × ((o ≡ Some t) × (is_reserved t.role ≡ false) × Says c t.role t.many (inputs_of t))
+    → (t : Term) × ((o ≡ Some t) × (stands_nowhere t ≡ false) × (list_any is_apart (inputs_of t) ≡ false) × Says c t.role t.many (inputs_of t))
 row_says None c fit same known somewhere = let bad : true ≡ false = sym (ap is_unknown same) ∙ known in cc
 row_says (Some t) c fit same known somewhere =
-    let here : is_reserved t.role ≡ false = stands t.role t.many (bytes_eq t.name (codes "-")) (inputs_of t) (sym (ap is_nowhere same) ∙ somewhere) in
-    (t, (refl, here, subst (λ k. Says k t.role t.many (inputs_of t)) (sym same) (says t.role t.many (bytes_eq t.name (codes "-")) (inputs_of t) (fit t refl))))
+    let here : stands_nowhere t ≡ false = stands (has_turns t.turns) t.role t.many (bytes_eq t.name (codes "-")) (inputs_of t) (sym (ap is_nowhere same) ∙ somewhere) in
+    let apart = none_apart (has_turns t.turns) t.role t.many (bytes_eq t.name (codes "-")) (inputs_of t) (sym (ap is_nowhere same) ∙ somewhere) (fit t refl) in
+    (t, (refl, here, apart, subst (λ k. Says k t.role t.many (inputs_of t)) (sym same) (says_by (has_turns t.turns) t.role t.many (bytes_eq t.name (codes "-")) (inputs_of t) (fit t refl))))

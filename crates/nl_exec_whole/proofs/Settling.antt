@@ -218,6 +218,7 @@ module _ (table : List Term) (Q : Name → Manner → Type 0) (tame : (w : Name)
     used (node label.Paren s ts) h k = (tt, flat_used ts h.1 k)
     used (node label.Commands s ts) h k = (tt, flat_used ts h.1 k)
     used (node label.Reporter s ts) h k = (tt, flat_used ts h.1 k)
+    used (node (label.Arrow names) s ts) h k = (tt, flat_used ts h.1 k)
 
     flat_used : (ts : Nodes) → EachIn HasParts ts → OfAll (flat (subs table ts)) → EachIn NamesUsed ts
     flat_used none h k = tt
@@ -475,6 +476,7 @@ module _ (d : Declared) where
   by_label label.Paren ts n = tt
   by_label label.Commands ts n = tt
   by_label label.Reporter ts n = tt
+  by_label (label.Arrow names) ts n = tt
 
   may_be : (bodies : List Node) (reporter : Bool) (u : Use) → IsRight (terms d) bodies reporter u → MayBe u.name u.manner
   may_be bodies reporter u right = by (is_not_settable (terms d) u.manner u.name) (λ is. right NotSettable (right WrongContext, is))

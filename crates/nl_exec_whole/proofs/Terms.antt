@@ -15,7 +15,7 @@ use Rattle.nl_tree.specs.Vocabulary.{Pattern, base_term, counted, global_names, 
 
 -- the row of a breed's word
 abbrev pub made_term : ℕ → Name → Row → Term
-made_term n name r = record { name = name; role = r.role; inputs = r.inputs; values = 0; many = r.many; runs = r.runs; gives = r.gives; what = what.Made n r.code }
+made_term n name r = record { name = name; role = r.role; inputs = r.inputs; values = 0; many = r.many; turns = r.turns; runs = r.runs; gives = r.gives; what = what.Made n r.code }
 
 -- the row that a breed's word is made from passes
 abbrev pub found_by : (Row → Bool) → Option Row → Bool

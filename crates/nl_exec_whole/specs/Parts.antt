@@ -1,7 +1,8 @@
 -- Which parts the nodes of a text have, by the rows of its words.
-use Rattle.std.specs.Prelude.{◌≡◌, ◌⊎◌, Bool, true, false, not, IsTrue, List, [], ◌∷◌, Option, Some, None, All}
+use Rattle.std.specs.Prelude.{◌≡◌, ◌⊎◌, Bool, true, false, not, ◌||◌, IsTrue, List, [], ◌∷◌, Option, Some, None, All}
 use Rattle.nl_fixed.specs.Nouns.{Name, Names}
 use Rattle.nl_fixed.specs.declared.span.Span.{Span}
+use Rattle.nl_words.specs.Table.{has_turns}
 use Rattle.nl_words.specs.declared.entry.Role.{Role}
 use Rattle.nl_words.specs.declared.entry.Role.TheVariants as role
 use Rattle.nl_words.specs.declared.entry.Input.{Input}
@@ -47,7 +48,11 @@ is_settable (Some r) = is_variable r.role
 abbrev pub IsName : List Term → (Option Term → Bool) → Node → Type 0
 IsName table passes t = (name : Name) × (span : Span) × ((t ≡ leaf (label.Named name) span) × IsTrue (passes (term_named table name)))
 
--- what stands for an input: a value, a block, a variable or a local, or the name of a new local
+-- an arrow block, whatever its head
+abbrev pub IsArrow : Node → Type 0
+IsArrow t = (names : Names) × (tree.label t ≡ label.Arrow names)
+
+-- what stands for an input: a value, a block, a variable or a local, or the name of a new local; cases stand for the other inputs, or nowhere
 abbrev pub IsInput : List Term → Input → Node → Type 0
 IsInput table input.Value t = IsValue t
 IsInput table input.Expression t = IsValue t
@@ -56,6 +61,9 @@ IsInput table input.MaybeCommands t = tree.label t ≡ label.Commands
 IsInput table input.Reporter t = tree.label t ≡ label.Reporter
 IsInput table input.Variable t = IsName table is_settable t
 IsInput table input.Fresh t = IsName table is_local t
+IsInput table input.ArrowCommands t = IsArrow t
+IsInput table input.ArrowReporter t = IsArrow t
+IsInput table input.Cases t = ⊥
 
 -- ---- the parts of a node
 
@@ -79,15 +87,19 @@ abbrev pub is_reserved : Role → Bool
 is_reserved role.Reserved = true
 is_reserved other = false
 
--- those of a word are those of its row, which is none of declarations; a local has none
+-- what stands in no text: what declarations have, and for now the words with an arrow block
+abbrev pub stands_nowhere : Term → Bool
+stands_nowhere r = is_reserved r.role || has_turns r.turns
+
+-- those of a word are those of its row, which stands somewhere; a local has none
 abbrev pub AreOfWord : List Term → Option Term → List Node → Type 0
 AreOfWord table None ts = ts ≡ []
-AreOfWord table (Some r) ts = (is_reserved r.role ≡ false) × AreTaken table r.many (inputs_of r) ts
+AreOfWord table (Some r) ts = (stands_nowhere r ≡ false) × AreTaken table r.many (inputs_of r) ts
 
 abbrev pub IsOne : List Node → Type 0
 IsOne ts = (t : Node) × (ts ≡ t ∷ [])
 
--- Pairs of parentheses, negations and blocks of one expression have one part. A number and a text have none; a list and a block of commands may
+-- Pairs of parentheses, negations, blocks of one expression and arrow blocks have one part. A number and a text have none; a list and a block of commands may
 -- have any number.
 abbrev pub AreOf : List Term → Label → List Node → Type 0
 AreOf table (label.Named name) ts = AreOfWord table (term_named table name) ts
@@ -98,6 +110,7 @@ AreOf table label.Negate ts = IsOne ts
 AreOf table label.Paren ts = IsOne ts
 AreOf table label.Commands ts = Unit {0}
 AreOf table label.Reporter ts = IsOne ts
+AreOf table (label.Arrow names) ts = IsOne ts
 
 -- each node of a text has its parts
 abbrev pub NodesHaveTheirParts : Type 0

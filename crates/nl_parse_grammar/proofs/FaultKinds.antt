@@ -2,6 +2,7 @@
 use Rattle.std.proofs.Common.{◌≡◌, ℕ, zero, suc, ◌+◌, ◌-◌, ◌==◌, ◌&&◌, if◌then◌else◌, nat_le, bytes_eq, codes, Bool, true, false, List, [], ◌∷◌, ◌++◌, map, length, take, All, Option, Some, None, refl, sym, ◌∙◌, ap, subst, IsTrue, arith, slice_get}
 use Rattle.std.specs.List.{list_any}
 use Rattle.nl_fixed.specs.declared.span.Span.{Span}
+use Rattle.nl_words.specs.Table.{has_turns}
 use Rattle.nl_words.specs.declared.entry.Role.{Role}
 use Rattle.nl_words.specs.declared.entry.Role.TheVariants as role
 use Rattle.nl_words.specs.declared.entry.Input.{Input}
@@ -154,6 +155,9 @@ class_known role.Constant many minus is = refl
 class_known role.Variable many minus is = refl
 class_known role.Reserved many minus is = refl
 
+term_known : (t : Term) → is_unknown (class_of_term t) ≡ false
+term_known t = either (has_turns t.turns) Nowhere _ refl (class_known t.role t.many (bytes_eq t.name (codes "-")) (inputs_of t))
+
 kind_known : (s : State) (w : List ℕ) (c : Class) (r : Span) → is_unknown c ≡ false → kind_at s (word w c r) ≡ Unexpected
 kind_known s w Unknown r h = cc h
 kind_known s w c r h = refl
@@ -193,7 +197,7 @@ module _ (form : Form) (names : List (List ℕ)) (table : List Term) (t : Token)
 
       at : (o : Option Term) → term_named table w ≡ o → IsOfKind form names table (t ∷ ts) k (kind_at s (word w (class_of o) sp))
       at None p = no_row (among w (known s)) refl p
-      at (Some r) p = subst (IsOfKind form names table (t ∷ ts) k) (sym (kind_known s w (class_of_term r) sp (class_known r.role r.many (bytes_eq r.name (codes "-")) (inputs_of r)))) (unreadable, λ u. let both : Some r ≡ None = sym p ∙ ap (term_named table) (same_name u.0 u.1 u.2.0) ∙ u.2.1 in cc)
+      at (Some r) p = subst (IsOfKind form names table (t ∷ ts) k) (sym (kind_known s w (class_of_term r) sp (term_known r))) (unreadable, λ u. let both : Some r ≡ None = sym p ∙ ap (term_named table) (same_name u.0 u.1 u.2.0) ∙ u.2.1 in cc)
 
   told : (l : Lexeme) (sp : Span) → slice_get (t ∷ ts) k ≡ Some (record { lexeme = l; span = sp }) → IsOfKind form names table (t ∷ ts) k (kind_at s (marked_as table sp l))
   told (Number n) sp q = other (Number n) sp refl q

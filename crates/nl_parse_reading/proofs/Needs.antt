@@ -23,6 +23,9 @@ without_maybes_view true (input.Commands ∷ is) n = refl
 without_maybes_view true (input.MaybeCommands ∷ is) n = without_maybes_view true is n
 without_maybes_view true (input.Reporter ∷ is) n = refl
 without_maybes_view true (input.Variable ∷ is) n = refl
+without_maybes_view true (input.ArrowCommands ∷ is) n = refl
+without_maybes_view true (input.ArrowReporter ∷ is) n = refl
+without_maybes_view true (input.Cases ∷ is) n = refl
 without_maybes_view true (input.Fresh ∷ is) n = refl
 without_maybes_view false (input.Value ∷ is) n = refl
 without_maybes_view false (input.Expression ∷ is) n = refl
@@ -30,6 +33,9 @@ without_maybes_view false (input.Commands ∷ is) n = refl
 without_maybes_view false (input.MaybeCommands ∷ is) n = without_maybes_view false is n
 without_maybes_view false (input.Reporter ∷ is) n = refl
 without_maybes_view false (input.Variable ∷ is) n = refl
+without_maybes_view false (input.ArrowCommands ∷ is) n = refl
+without_maybes_view false (input.ArrowReporter ∷ is) n = refl
+without_maybes_view false (input.Cases ∷ is) n = refl
 without_maybes_view false (input.Fresh ∷ is) n = refl
 
 pub one_less : (n : ℕ) → (n ≡ 0 → ⊥) → n ≡ suc (n - 1)

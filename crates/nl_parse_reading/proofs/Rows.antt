@@ -31,6 +31,9 @@ let_class (input.Fresh ∷ input.Commands ∷ is) h = cc h
 let_class (input.Fresh ∷ input.MaybeCommands ∷ is) h = cc h
 let_class (input.Fresh ∷ input.Reporter ∷ is) h = cc h
 let_class (input.Fresh ∷ input.Variable ∷ is) h = cc h
+let_class (input.Fresh ∷ input.ArrowCommands ∷ is) h = cc h
+let_class (input.Fresh ∷ input.ArrowReporter ∷ is) h = cc h
+let_class (input.Fresh ∷ input.Cases ∷ is) h = cc h
 let_class (input.Fresh ∷ input.Fresh ∷ is) h = cc h
 let_class (input.Value ∷ is) h = cc h
 let_class (input.Expression ∷ is) h = cc h
@@ -38,6 +41,9 @@ let_class (input.Commands ∷ is) h = cc h
 let_class (input.MaybeCommands ∷ is) h = cc h
 let_class (input.Reporter ∷ is) h = cc h
 let_class (input.Variable ∷ is) h = cc h
+let_class (input.ArrowCommands ∷ is) h = cc h
+let_class (input.ArrowReporter ∷ is) h = cc h
+let_class (input.Cases ∷ is) h = cc h
 
 -- values are no new names
 pub new_listed : (is : List Input) (n : ℕ) → list_any is_new (is ++ repeated n) ≡ list_any is_new is
@@ -55,6 +61,9 @@ guarded (input.Fresh ∷ input.Commands ∷ is) h = refl
 guarded (input.Fresh ∷ input.MaybeCommands ∷ is) h = refl
 guarded (input.Fresh ∷ input.Reporter ∷ is) h = refl
 guarded (input.Fresh ∷ input.Variable ∷ is) h = refl
+guarded (input.Fresh ∷ input.ArrowCommands ∷ is) h = refl
+guarded (input.Fresh ∷ input.ArrowReporter ∷ is) h = refl
+guarded (input.Fresh ∷ input.Cases ∷ is) h = refl
 guarded (input.Fresh ∷ input.Fresh ∷ is) h = refl
 guarded (input.Value ∷ is) h = refl
 guarded (input.Expression ∷ is) h = refl
@@ -62,6 +71,9 @@ guarded (input.Commands ∷ is) h = refl
 guarded (input.MaybeCommands ∷ is) h = refl
 guarded (input.Reporter ∷ is) h = refl
 guarded (input.Variable ∷ is) h = refl
+guarded (input.ArrowCommands ∷ is) h = refl
+guarded (input.ArrowReporter ∷ is) h = refl
+guarded (input.Cases ∷ is) h = refl
 
 pub other_class : (is : List Input) (n : ℕ) → is_let (is ++ repeated n) ≡ false → list_any is_new is ≡ false → command_class (is ++ repeated n) ≡ Command (map need_of_command (is ++ repeated n))
 other_class is n h k = guarded (is ++ repeated n) h ∙ ap (λ b. if b then Nowhere else Command (map need_of_command (is ++ repeated n))) (new_listed is n ∙ k)
@@ -92,6 +104,9 @@ no_count (input.Commands ∷ is) h = refl
 no_count (input.MaybeCommands ∷ is) h = refl
 no_count (input.Reporter ∷ is) h = refl
 no_count (input.Variable ∷ is) h = refl
+no_count (input.ArrowCommands ∷ is) h = refl
+no_count (input.ArrowReporter ∷ is) h = refl
+no_count (input.Cases ∷ is) h = refl
 no_count (input.Fresh ∷ is) h = refl
 
 -- Counts of values.
@@ -111,6 +126,9 @@ all_repeated (input.Commands ∷ is) n h = cc h
 all_repeated (input.MaybeCommands ∷ is) n h = cc h
 all_repeated (input.Reporter ∷ is) n h = cc h
 all_repeated (input.Variable ∷ is) n h = cc h
+all_repeated (input.ArrowCommands ∷ is) n h = cc h
+all_repeated (input.ArrowReporter ∷ is) n h = cc h
+all_repeated (input.Cases ∷ is) n h = cc h
 all_repeated (input.Fresh ∷ is) n h = cc h
 
 pub not_repeated : (is : List Input) (n m : ℕ) → are_values is ≡ false → is ++ repeated n ≡ repeated m → ⊥
@@ -125,6 +143,9 @@ not_repeated (input.Commands ∷ is) n (suc m) h q = cc q
 not_repeated (input.MaybeCommands ∷ is) n (suc m) h q = cc q
 not_repeated (input.Reporter ∷ is) n (suc m) h q = cc q
 not_repeated (input.Variable ∷ is) n (suc m) h q = cc q
+not_repeated (input.ArrowCommands ∷ is) n (suc m) h q = cc q
+not_repeated (input.ArrowReporter ∷ is) n (suc m) h q = cc q
+not_repeated (input.Cases ∷ is) n (suc m) h q = cc q
 not_repeated (input.Fresh ∷ is) n (suc m) h q = cc q
 
 -- Reporters of any number of values.
@@ -142,6 +163,9 @@ many_none (input.Commands ∷ is) h = refl
 many_none (input.MaybeCommands ∷ is) h = refl
 many_none (input.Reporter ∷ is) h = refl
 many_none (input.Variable ∷ is) h = refl
+many_none (input.ArrowCommands ∷ is) h = refl
+many_none (input.ArrowReporter ∷ is) h = refl
+many_none (input.Cases ∷ is) h = refl
 many_none (input.Fresh ∷ is) h = refl
 
 -- Reporters.
@@ -201,6 +225,9 @@ near_none (input.Value ∷ input.Value ∷ input.Commands ∷ is) a b c = refl
 near_none (input.Value ∷ input.Value ∷ input.MaybeCommands ∷ is) a b c = refl
 near_none (input.Value ∷ input.Value ∷ input.Reporter ∷ is) a b c = refl
 near_none (input.Value ∷ input.Value ∷ input.Variable ∷ is) a b c = refl
+near_none (input.Value ∷ input.Value ∷ input.ArrowCommands ∷ is) a b c = refl
+near_none (input.Value ∷ input.Value ∷ input.ArrowReporter ∷ is) a b c = refl
+near_none (input.Value ∷ input.Value ∷ input.Cases ∷ is) a b c = refl
 near_none (input.Value ∷ input.Value ∷ input.Fresh ∷ is) a b c = refl
 near_none (input.Value ∷ input.Reporter ∷ []) a b c = cc a
 near_none (input.Value ∷ input.Reporter ∷ j ∷ is) a b c = refl
@@ -208,12 +235,18 @@ near_none (input.Value ∷ input.Expression ∷ is) a b c = refl
 near_none (input.Value ∷ input.Commands ∷ is) a b c = refl
 near_none (input.Value ∷ input.MaybeCommands ∷ is) a b c = refl
 near_none (input.Value ∷ input.Variable ∷ is) a b c = refl
+near_none (input.Value ∷ input.ArrowCommands ∷ is) a b c = refl
+near_none (input.Value ∷ input.ArrowReporter ∷ is) a b c = refl
+near_none (input.Value ∷ input.Cases ∷ is) a b c = refl
 near_none (input.Value ∷ input.Fresh ∷ is) a b c = refl
 near_none (input.Expression ∷ is) a b c = refl
 near_none (input.Commands ∷ is) a b c = refl
 near_none (input.MaybeCommands ∷ is) a b c = refl
 near_none (input.Reporter ∷ is) a b c = refl
 near_none (input.Variable ∷ is) a b c = refl
+near_none (input.ArrowCommands ∷ is) a b c = refl
+near_none (input.ArrowReporter ∷ is) a b c = refl
+near_none (input.Cases ∷ is) a b c = refl
 near_none (input.Fresh ∷ is) a b c = refl
 
 pub near_count : (is : List Input) (n : ℕ) → is ≡ repeated n → near_class is ≡ near_by n
@@ -239,12 +272,18 @@ with_there (input.Value ∷ input.Expression ∷ is) h = cc h
 with_there (input.Value ∷ input.Commands ∷ is) h = cc h
 with_there (input.Value ∷ input.MaybeCommands ∷ is) h = cc h
 with_there (input.Value ∷ input.Variable ∷ is) h = cc h
+with_there (input.Value ∷ input.ArrowCommands ∷ is) h = cc h
+with_there (input.Value ∷ input.ArrowReporter ∷ is) h = cc h
+with_there (input.Value ∷ input.Cases ∷ is) h = cc h
 with_there (input.Value ∷ input.Fresh ∷ is) h = cc h
 with_there (input.Expression ∷ is) h = cc h
 with_there (input.Commands ∷ is) h = cc h
 with_there (input.MaybeCommands ∷ is) h = cc h
 with_there (input.Reporter ∷ is) h = cc h
 with_there (input.Variable ∷ is) h = cc h
+with_there (input.ArrowCommands ∷ is) h = cc h
+with_there (input.ArrowReporter ∷ is) h = cc h
+with_there (input.Cases ∷ is) h = cc h
 with_there (input.Fresh ∷ is) h = cc h
 
 with_missing : (is : List Input) (n : ℕ) → false ≡ is_with (is ++ repeated (suc n))
@@ -258,12 +297,18 @@ with_missing (input.Value ∷ input.Expression ∷ is) n = refl
 with_missing (input.Value ∷ input.Commands ∷ is) n = refl
 with_missing (input.Value ∷ input.MaybeCommands ∷ is) n = refl
 with_missing (input.Value ∷ input.Variable ∷ is) n = refl
+with_missing (input.Value ∷ input.ArrowCommands ∷ is) n = refl
+with_missing (input.Value ∷ input.ArrowReporter ∷ is) n = refl
+with_missing (input.Value ∷ input.Cases ∷ is) n = refl
 with_missing (input.Value ∷ input.Fresh ∷ is) n = refl
 with_missing (input.Expression ∷ is) n = refl
 with_missing (input.Commands ∷ is) n = refl
 with_missing (input.MaybeCommands ∷ is) n = refl
 with_missing (input.Reporter ∷ is) n = refl
 with_missing (input.Variable ∷ is) n = refl
+with_missing (input.ArrowCommands ∷ is) n = refl
+with_missing (input.ArrowReporter ∷ is) n = refl
+with_missing (input.Cases ∷ is) n = refl
 with_missing (input.Fresh ∷ is) n = refl
 
 pub near_with : (is : List Input) → is_with is ≡ true → near_class is ≡ With

@@ -2,6 +2,7 @@
 ghost use Rattle.std.specs.Prelude.{◌≡◌, [], ◌∷◌, ◌++◌, ℕ, MatchOption};
 ghost use Rattle.std.specs.List.{list_any};
 ghost use Rattle.std.specs.Option.{option_map};
+ghost use Rattle.nl_words.specs.Table.{has_turns};
 ghost use Rattle.nl_tree.specs.Index.{named};
 ghost use Rattle.nl_tree.specs.Tokens.{repeated, class_of, command_class, is_new, many_class, reporter_class, reporter_of, near_class, operator_class, class_by};
 ghost use Rattle.nl_parse_reading.specs.inner.View as V;
@@ -9,16 +10,29 @@ ghost use Rattle.nl_parse_reading.specs.inner.Counts.{are_values, is_let, is_val
 
 use crate::marks::{Class, Inputs};
 use nl_tree::{Block, Word};
-use nl_words::{Input, Role};
+use nl_words::{Input, Role, Turns};
 
 /// What the row of a word of this name makes of it, or that it has none.
 pub fn class_of_word(name: &[u8], row: Option<Word>) -> Class
     ensures { V.class_of result ≡ class_of (option_map (named name.now) row) }
 {
     match row {
-        Some(word) => class_of_row(word, name == b"-".as_slice()),
+        Some(word) => {
+            // No text has arrow blocks yet.
+            if has_turns(word.turns) {
+                return Class::Nowhere;
+            }
+            class_of_row(word, name == b"-".as_slice())
+        }
         None => Class::Unknown,
     }
+}
+
+// Whether the word has an arrow block, which is run or evaluated in turns.
+fn has_turns(turns: Turns) -> bool
+    ensures { result ≡ has_turns turns }
+{
+    !matches!(turns, Turns::NoTurn)
 }
 
 // What a row makes of a word, which may be the minus sign.

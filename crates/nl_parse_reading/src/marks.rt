@@ -80,6 +80,9 @@ pub fn need_for(whole: bool, input: Input) -> Need
         Input::Reporter => Need::Within(Block::Reporter),
         Input::Variable => Need::Variable,
         Input::Fresh => Need::Whole,
+        Input::ArrowCommands => Need::Whole,
+        Input::ArrowReporter => Need::Whole,
+        Input::Cases => Need::Whole,
     }
 }
 

@@ -52,20 +52,20 @@ all_free_at test [] k d h within = absurd (omega (arith, within))
 all_free_at test (w ∷ ws) zero d h within = first_so (test w) (list_all test ws) h
 all_free_at test (w ∷ ws) (suc k) d h within = all_free_at test ws k d (second_so (test w) (list_all test ws) h) (omega (arith, within))
 
-unbarred : (table : List Term) (bodies : List Node) (kind : Kind) (ws : List (List ℕ)) → list_all (λ w. is_free kind (term_named table w)) ws ≡ true → (w : List ℕ) → Contains ws w → Bars table bodies kind w → ⊥
+pub unbarred : (table : List Term) (bodies : List Node) (kind : Kind) (ws : List (List ℕ)) → list_all (λ w. is_free kind (term_named table w)) ws ≡ true → (w : List ℕ) → Contains ws w → Bars table bodies kind w → ⊥
 unbarred table bodies kind ws free w (k, within, is) =
     one_is_free table bodies kind w (subst (λ x. is_free kind (term_named table x) ≡ true) is (all_free_at (λ x. is_free kind (term_named table x)) ws k w free within))
 
 -- no kind is barred from such words, so none of them is out of context
-left_is_right : (table : List Term) (bodies : List Node) (reporter : Bool) (u : Use) (kind : Kind) → allows u.first kind ≡ true → list_all (λ w. is_free kind (term_named table w)) u.so_far ≡ true → is_not_settable table u.manner u.name ≡ false → has_no_report table reporter u.in_block u.name ≡ false → IsRight table bodies reporter u
+pub left_is_right : (table : List Term) (bodies : List Node) (reporter : Bool) (u : Use) (kind : Kind) → allows u.first kind ≡ true → list_all (λ w. is_free kind (term_named table w)) u.so_far ≡ true → is_not_settable table u.manner u.name ≡ false → has_no_report table reporter u.in_block u.name ≡ false → IsRight table bodies reporter u
 left_is_right table bodies reporter u kind first free settable reports WrongContext fault = fault kind (first, unbarred table bodies kind u.so_far free)
 left_is_right table bodies reporter u kind first free settable reports NotSettable fault = let no = fault.1 in cc
 left_is_right table bodies reporter u kind first free settable reports NoReport fault = let no = fault.2 in cc
 
-abbrev body : Node → Node
+abbrev pub body : Node → Node
 body t = node label.Commands (at 0) (one t)
 
-abbrev block : ℕ → Node → Node
+abbrev pub block : ℕ → Node → Node
 block i t = node label.Commands (at i) (one t)
 
 -- ask patches [ fd 1 ]: the block is run by patches, which may not run fd
@@ -81,11 +81,11 @@ unfolding rows
 words_and_blocks = refl
 
 -- what bars a kind from a word of a site, by its row alone
-barred : (table : List Term) (bodies : List Node) (kind : Kind) (ws : List (List ℕ)) (w : List ℕ) (t : Term) → Contains ws w → term_named table w ≡ Some t → not (allows t.runs kind) ≡ true → ((v : List ℕ) → Contains ws v → Bars table bodies kind v → ⊥) → ⊥
+pub barred : (table : List Term) (bodies : List Node) (kind : Kind) (ws : List (List ℕ)) (w : List ℕ) (t : Term) → Contains ws w → term_named table w ≡ Some t → not (allows t.runs kind) ≡ true → ((v : List ℕ) → Contains ws v → Bars table bodies kind v → ⊥) → ⊥
 barred table bodies kind ws w t within here bars free = free w within (t, (here, inl bars))
 
 -- a chain of calls begins with a word of the body that bars the kind
-begins : {table : List Term} {bodies : List Node} {kind : Kind} {i : ℕ} → Leads table bodies kind i → (w : List ℕ) × (Contains (words_at table bodies i) w × Bars table bodies kind w)
+pub begins : {table : List Term} {bodies : List Node} {kind : Kind} {i : ℕ} → Leads table bodies kind i → (w : List ℕ) × (Contains (words_at table bodies i) w × Bars table bodies kind w)
 begins (at_word {w = w} {t = t} within here bars) = (w, (within, (t, (here, inl bars))))
 begins (by_call {j = j} {w = w} {t = t} within here calls later) = (w, (within, (t, (here, inr (j, (calls, later))))))
 

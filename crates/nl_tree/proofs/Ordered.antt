@@ -8,6 +8,7 @@ use Rattle.nl_fixed.specs.Nouns.{Name, Names}
 use Rattle.nl_fixed.specs.declared.span.Span.{Span}
 use Rattle.nl_words.specs.Row.{Row, row_named}
 use Rattle.nl_words.specs.Rows.{rows}
+use Rattle.nl_words.specs.Table.{has_turns}
 use Rattle.nl_words.specs.declared.entry.Kinds.{Kinds}
 use Rattle.nl_words.specs.declared.entry.Role.{Role}
 use Rattle.nl_words.specs.declared.entry.Role.TheVariants as role
@@ -156,11 +157,15 @@ says role.Constant many minus is = tt
 says role.Variable many minus is = tt
 says role.Reserved many minus is = tt
 
+says_by : (r : Role) (many minus : Bool) (is : List Input) (turns : Bool) → Says (if turns then Nowhere else class_by r many minus is) r is
+says_by r many minus is true = tt
+says_by r many minus is false = says r many minus is
+
 -- the row behind a class that isn't that of a word without one
 row_says : (o : Option Term) (c : Class) → c ≡ class_of o → (c ≡ Unknown → ⊥) → (t : Term) × ((o ≡ Some t) × Says c t.role (inputs_of t))
 row_says None c same known = absurd (known same)
 row_says (Some t) c same known =
-    (t, (refl, subst (λ k. Says k t.role (inputs_of t)) (sym same) (says t.role t.many (bytes_eq t.name (codes "-")) (inputs_of t))))
+    (t, (refl, subst (λ k. Says k t.role (inputs_of t)) (sym same) (says_by t.role t.many (bytes_eq t.name (codes "-")) (inputs_of t) (has_turns t.turns))))
 
 -- ---- rows that are in order: no input that is a name stands behind a block that may be missing, and none in an operator
 

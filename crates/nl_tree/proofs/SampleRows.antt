@@ -28,7 +28,7 @@ next_row rs k r here =
     let more = take_more (base_whats rs) k (base_what r) (slice_get_within (base_whats rs) k (base_what r) there) in
     ap (λ x. take k (base_whats rs) ++ x ∷ []) (sym (get_or_from_slice_get (base_whats rs) k (base_what r) (base_what r) there)) ∙ sym more
 
-pub all_taken : take 334 (base_whats rows) ≡ base_whats rows
+pub all_taken : take 341 (base_whats rows) ≡ base_whats rows
 unfolding rows
 all_taken = refl
 

@@ -60,6 +60,7 @@ module _ (table : List Term) (K : List ℕ → Type 0) where
   Stands label.Paren = Unit {0}
   Stands label.Commands = Unit {0}
   Stands label.Reporter = Unit {0}
+  Stands (label.Arrow names) = Unit {0}
 
   abbrev mutual
     Stand : Node → Type 0
@@ -259,6 +260,7 @@ module _ (table : List Term) (K : List ℕ → Type 0) where
   found_at label.Paren h = All-nil IsFound
   found_at label.Commands h = All-nil IsFound
   found_at label.Reporter h = All-nil IsFound
+  found_at (label.Arrow names) h = All-nil IsFound
 
   mutual
     all_found : (t : Node) → Stand table K t → All IsFound (names t)

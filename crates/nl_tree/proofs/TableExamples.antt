@@ -1,8 +1,9 @@
 -- The word table at examples, and that no row is lost on the way to the grammar.
-use Rattle.std.proofs.Common.{◌≡◌, ℕ, Bool, true, false, List, [], ◌∷◌, ◌++◌, map, Option, Some, None, refl, codes, is_some}
+use Rattle.std.proofs.Common.{◌≡◌, ℕ, Bool, true, false, ◌||◌, List, [], ◌∷◌, ◌++◌, map, Option, Some, None, refl, codes, is_some}
 use Rattle.std.specs.List.{list_all}
 use Rattle.nl_words.specs.Row.{Row, row_named}
 use Rattle.nl_words.specs.Rows.{rows}
+use Rattle.nl_words.specs.Table.{has_turns}
 use Rattle.nl_words.specs.declared.entry.Role.{Role}
 use Rattle.nl_words.specs.declared.entry.Role.TheVariants as role
 use Rattle.nl_words.specs.Kinds.{kinds}
@@ -16,7 +17,7 @@ use Rattle.nl_tree.specs.Vocabulary.{Pattern, base_term, terms, term_named, what
 use Rattle.nl_tree.specs.Tokens.{Class, Unknown, Constant, Plain, Named, Prefix, Many, Closing, Command, Let, With, Near, Of, Binary, Nowhere, class_of_term}
 use Rattle.nl_tree.specs.Names.{has_no_duplicate}
 
--- only reserved words have no place in a body
+-- only reserved words, and for now words with an arrow block, have no place in a body
 abbrev has_a_place : Class → Bool
 has_a_place Nowhere = false
 has_a_place Unknown = false
@@ -46,7 +47,7 @@ agree true b = b
 agree false true = false
 agree false false = true
 
-no_row_is_lost : list_all (λ (r : Row). agree (has_a_place (class_of_term (base_term r))) (agree false (is_reserved r.role))) rows ≡ true
+no_row_is_lost : list_all (λ (r : Row). agree (has_a_place (class_of_term (base_term r))) (agree false (is_reserved r.role || has_turns r.turns))) rows ≡ true
 unfolding rows
 no_row_is_lost = refl
 

@@ -131,6 +131,7 @@ given_as table label.List ks = agents
 given_as table label.Negate ks = agents
 given_as table label.Commands ks = agents
 given_as table label.Reporter ks = agents
+given_as table (label.Arrow names) ks = agents
 
 abbrev mutual
   pub given : List Term → Node → Kinds
@@ -171,10 +172,12 @@ text_of label.Negate = []
 text_of label.Paren = []
 text_of label.Commands = []
 text_of label.Reporter = []
+text_of (label.Arrow names) = []
 
 abbrev pub is_block : Label → Bool
 is_block label.Commands = true
 is_block label.Reporter = true
+is_block (label.Arrow names) = true
 is_block (label.Named w) = false
 is_block (label.Number n) = false
 is_block (label.Text bytes) = false
@@ -210,6 +213,9 @@ part_pieces t first input.Expression p = inner_pieces t first p
 part_pieces t first input.Commands p = inner_pieces t first p
 part_pieces t first input.MaybeCommands p = inner_pieces t first p
 part_pieces t first input.Reporter p = inner_pieces t first p
+part_pieces t first input.ArrowCommands p = inner_pieces t first p
+part_pieces t first input.ArrowReporter p = inner_pieces t first p
+part_pieces t first input.Cases p = inner_pieces t first p
 
 -- each part by its input; a part past the inputs, in parentheses, is a value
 abbrev pub parts_pieces : Term → Kinds → List Input → List Sub → List (List Piece)
@@ -253,6 +259,7 @@ node_pieces table label.Negate s ps = flat ps
 node_pieces table label.Paren s ps = flat ps
 node_pieces table label.Commands s ps = flat ps
 node_pieces table label.Reporter s ps = flat ps
+node_pieces table (label.Arrow names) s ps = flat ps
 
 abbrev pub label_at : Node → Label
 label_at (node l s ts) = l

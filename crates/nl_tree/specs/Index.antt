@@ -14,6 +14,7 @@ named name w = record {
   inputs = w.inputs.now;
   values = w.values;
   many = w.many;
+  turns = w.turns;
   runs = w.runs;
   gives = w.gives;
   what = w.what;

@@ -24,6 +24,7 @@ name_at label.Negate = []
 name_at label.Paren = []
 name_at label.Commands = []
 name_at label.Reporter = []
+name_at (label.Arrow names) = []
 
 -- the names of all words of a tree, new names among them, in the order of the tree
 abbrev mutual
@@ -58,7 +59,7 @@ abbrev pub first_name : Nodes → Names
 first_name none = []
 first_name (more t ts) = top_name t
 
--- the name that a node makes: the first part of a `let`
+-- the names that a node makes: the first part of a `let`, and those of the head of an arrow block
 abbrev pub made_at : List Term → Label → Nodes → Names
 made_at table (label.Named w) ts = if is_let (class_of (term_named table w)) then first_name ts else []
 made_at table (label.Number n) ts = []
@@ -68,8 +69,9 @@ made_at table label.Negate ts = []
 made_at table label.Paren ts = []
 made_at table label.Commands ts = []
 made_at table label.Reporter ts = []
+made_at table (label.Arrow names) ts = names
 
--- the names that a tree makes by `let`
+-- the names that a tree makes by `let` and in heads
 abbrev mutual
   pub made : List Term → Node → Names
   made table (node l s ts) = made_at table l ts ++ made_in table ts
@@ -82,7 +84,7 @@ abbrev mutual
 abbrev pub HasSlot : Declared → Name → Type 0
 HasSlot d name = (it : What) × ((what_named d name ≡ Some it) × IsInRange d it)
 
--- each name of the tree has a slot, or is one of these inputs, or one that the tree makes by `let`
+-- each name of the tree has a slot, or is one of these inputs, or one that the tree makes by `let` or in a head
 abbrev pub NamesHaveSlots : Declared → Names → Node → Type 0
 NamesHaveSlots d inputs t = All (λ name. HasSlot d name ⊎ IsTrue (among name inputs || among name (made (terms d) t))) (names t)
 

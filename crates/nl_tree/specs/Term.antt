@@ -4,6 +4,7 @@ use Rattle.nl_fixed.specs.Nouns.{Name}
 use Rattle.nl_words.specs.declared.entry.Role.{Role}
 use Rattle.nl_words.specs.declared.entry.Input.{Input}
 use Rattle.nl_words.specs.declared.entry.Kinds.{Kinds}
+use Rattle.nl_words.specs.declared.entry.Turns.{Turns}
 use Rattle.nl_tree.specs.declared.declared.What.{What}
 
 -- The inputs are those that the word's place in the language gives it; a procedure has so many values in their place.
@@ -13,6 +14,7 @@ pub record Term : Type 0 where
   pub inputs : List Input
   pub values : ℕ
   pub many : Bool
+  pub turns : Turns
   pub runs : Kinds
   pub gives : Kinds
   pub what : What

@@ -3,7 +3,7 @@ use Rattle.std.specs.Prelude.{ℕ, zero, suc, ◌+◌, ◌-◌, ◌==◌, Bool, 
 use Rattle.std.specs.List.{list_any}
 use Rattle.std.specs.Str.{IsUtf8}
 use Rattle.nl_fixed.specs.Nouns.{Bytes, Name}
-use Rattle.nl_words.specs.Table.{is_name}
+use Rattle.nl_words.specs.Table.{is_name, has_turns}
 use Rattle.nl_words.specs.declared.entry.Role.{Role}
 use Rattle.nl_words.specs.declared.entry.Role.TheVariants as role
 use Rattle.nl_words.specs.declared.entry.Input.{Input}
@@ -69,7 +69,7 @@ abbrev pub is_new : Input → Bool
 is_new input.Fresh = true
 is_new i = false
 
--- An input of a command, where a value is a whole expression. A new name is asked for by no row that comes to this.
+-- An input of a command, where a value is a whole expression. A new name, an arrow block and cases are asked for by no row that comes to this.
 abbrev pub need_of_command : Input → Need
 need_of_command input.Value = Whole
 need_of_command input.Expression = Whole
@@ -78,6 +78,9 @@ need_of_command input.MaybeCommands = Maybe
 need_of_command input.Reporter = Within blocks.Reporter
 need_of_command input.Variable = Variable
 need_of_command input.Fresh = Whole
+need_of_command input.ArrowCommands = Whole
+need_of_command input.ArrowReporter = Whole
+need_of_command input.Cases = Whole
 
 -- and of a reporter, where it is an item
 abbrev pub need_of_reporter : Input → Need
@@ -88,6 +91,9 @@ need_of_reporter input.MaybeCommands = Maybe
 need_of_reporter input.Reporter = Within blocks.Reporter
 need_of_reporter input.Variable = Variable
 need_of_reporter input.Fresh = Whole
+need_of_reporter input.ArrowCommands = Whole
+need_of_reporter input.ArrowReporter = Whole
+need_of_reporter input.Cases = Whole
 
 -- the inputs of a term: those of its row, or so many values
 abbrev pub repeated : ℕ → List Input
@@ -155,8 +161,11 @@ class_by role.Constant many minus is = Constant
 class_by role.Variable many minus is = Named
 class_by role.Reserved many minus is = Nowhere
 
+-- a word with an arrow block stands nowhere yet
 abbrev pub class_of_term : Term → Class
-class_of_term t = class_by t.role t.many (bytes_eq t.name (codes "-")) (inputs_of t)
+class_of_term t =
+    if has_turns t.turns then Nowhere
+    else class_by t.role t.many (bytes_eq t.name (codes "-")) (inputs_of t)
 
 abbrev pub class_of : Option Term → Class
 class_of None = Unknown

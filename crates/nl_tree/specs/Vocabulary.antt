@@ -10,6 +10,7 @@ use Rattle.nl_words.specs.Row.{Row, row_named}
 use Rattle.nl_words.specs.Rows.{rows}
 use Rattle.nl_words.specs.declared.entry.Role.TheVariants as role
 use Rattle.nl_words.specs.declared.entry.Kinds.{Kinds}
+use Rattle.nl_words.specs.declared.entry.Turns.TheVariants as turns
 use Rattle.nl_tree.specs.declared.declared.Breed.{Breed}
 use Rattle.nl_tree.specs.declared.declared.Procedure.{Procedure}
 use Rattle.nl_tree.specs.declared.declared.Declared.{Declared}
@@ -34,7 +35,7 @@ counted row n (x ∷ xs) = row n x ∷ counted row (n + 1) xs
 -- Built-in words.
 
 abbrev pub base_term : Row → Term
-base_term r = record { name = r.name; role = r.role; inputs = r.inputs; values = 0; many = r.many; runs = r.runs; gives = r.gives; what = what.Base r.code }
+base_term r = record { name = r.name; role = r.role; inputs = r.inputs; values = 0; many = r.many; turns = r.turns; runs = r.runs; gives = r.gives; what = what.Base r.code }
 
 -- Global variables: the widgets' and those of `globals`. A widget's name that stands in `globals` too is one variable.
 
@@ -43,7 +44,7 @@ global_names d = joined d.widgets d.globals
 
 -- a variable is used by the kinds of agents that may run it; its value may hold anything
 abbrev pub variable_term : Name → Kinds → What → Term
-variable_term name runs it = record { name = name; role = role.Variable; inputs = []; values = 0; many = false; runs = runs; gives = none; what = it }
+variable_term name runs it = record { name = name; role = role.Variable; inputs = []; values = 0; many = false; turns = turns.NoTurn; runs = runs; gives = none; what = it }
 
 abbrev pub global_term : ℕ → Name → Term
 global_term n name = variable_term name everyone (what.Global n)
@@ -156,7 +157,7 @@ made_name b p = p.before ++ (if p.plural then b.plural else b.singular) ++ p.aft
 -- the row of the built-in word under another name
 abbrev pub made_as : ℕ → Name → Option Row → List Term
 made_as n name None = []
-made_as n name (Some r) = record { name = name; role = r.role; inputs = r.inputs; values = 0; many = r.many; runs = r.runs; gives = r.gives; what = what.Made n r.code } ∷ []
+made_as n name (Some r) = record { name = name; role = r.role; inputs = r.inputs; values = 0; many = r.many; turns = r.turns; runs = r.runs; gives = r.gives; what = what.Made n r.code } ∷ []
 
 abbrev pub made_terms : ℕ → Breed → List Pattern → List Term
 made_terms n b [] = []
@@ -170,7 +171,7 @@ breed_terms n (b ∷ bs) = made_terms n b (patterns b) ++ breed_terms (n + 1) bs
 -- Procedures. Any agent may call one; what it gives isn't told.
 
 abbrev pub procedure_term : ℕ → Procedure → Term
-procedure_term n p = record { name = p.name; role = if p.reporter then role.Reporter else role.Command; inputs = []; values = length p.inputs; many = false; runs = everyone; gives = none; what = what.Procedure n }
+procedure_term n p = record { name = p.name; role = if p.reporter then role.Reporter else role.Command; inputs = []; values = length p.inputs; many = false; turns = turns.NoTurn; runs = everyone; gives = none; what = what.Procedure n }
 
 -- The table.
 

@@ -6,7 +6,7 @@ ghost use Rattle.nl_tree.specs.Index.{term_of, stands_before};
 
 use crate::declared::What;
 use nl_fixed::Str;
-use nl_words::{Input, Kinds, Role};
+use nl_words::{Input, Kinds, Role, Turns};
 use std::marker::Model;
 
 /// The row of a word in the model's whole word table, without its name.
@@ -19,6 +19,7 @@ pub struct Word {
     /// How many further inputs the word has, each of them a `Value`: the inputs of a procedure, else 0.
     pub values: u32,
     pub many: bool,
+    pub turns: Turns,
     pub runs: Kinds,
     pub gives: Kinds,
     pub what: What,

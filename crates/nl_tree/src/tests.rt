@@ -12,7 +12,7 @@ use crate::index::{NamedWord, NamedWords, Word};
 use crate::program::Program;
 use crate::tree::{Label, Tree, Trees};
 use nl_fixed::{Names, NoMemory, Span, Str};
-use nl_words::{Kinds, ROWS, Role, base_words};
+use nl_words::{Kinds, ROWS, Role, Turns, base_words};
 use std::alloc::Global;
 
 // Lets go of a thing by one call: a program that ends inside of a function is walked there, list by list.
@@ -55,6 +55,7 @@ fn one_word(alloc: Global) -> Result<NamedWords, NoMemory>
             inputs: &[],
             values: 0,
             many: false,
+            turns: Turns::NoTurn,
             runs: Kinds {
                 observer: true,
                 turtle: true,
@@ -224,8 +225,8 @@ fn is_base(program: &Program, name: &[u8], code: u16) -> bool {
 
 fn has_built_in_words(program: &Program) -> bool {
     is_base(program, b"!=", 0)
-        && is_base(program, b"ask", 15)
-        && is_base(program, b"yellow", 333)
+        && is_base(program, b"ask", 16)
+        && is_base(program, b"yellow", 340)
         && program.what(b"as").is_none()
         && program.what(b"go").is_none()
 }
@@ -264,7 +265,7 @@ fn bare_model_has_the_built_in_words(rt: HostRuntime) {
 
 fn has_the_procedure(program: &Program) -> bool {
     matches!(program.what(b"go"), Some(What::Procedure(0)))
-        && is_base(program, b"color", 50)
+        && is_base(program, b"color", 51)
         && program.declared().procedures.as_slice().len() == 1
 }
 

@@ -4,7 +4,7 @@ ghost use Rattle.std.specs.Option.{option_copied, option_map};
 ghost use Rattle.nl_tree.specs.Tree.{label, span, parts, size};
 ghost use Rattle.nl_tree.specs.Views.{plain};
 
-use nl_fixed::{NoMemory, Num, Span, Str};
+use nl_fixed::{Names, NoMemory, Num, Span, Str};
 use std::alloc::Global;
 use std::marker::Model;
 
@@ -28,12 +28,16 @@ pub enum Label {
     Commands,
     /// A block of one expression.
     Reporter,
+    /// An arrow block: a block that is run or evaluated in turns, with the names that its head gives to the values of a turn, in lower case.
+    /// Its one part is a block of commands, or an expression.
+    Arrow(Names),
 }
 
 /// A tree: what its node is, where that stands in the text, and its parts in order.
 ///
 /// The span is that of a word for a node of a word, of `-` for a negation, and of the literal for a number or a text; else that of the
-/// opening bracket. The commands of a whole body have the span of their first token, or of what ends them.
+/// opening bracket. The commands in an arrow block have that block's span, and those of a whole body the span of their first token, or of
+/// what ends them.
 #[cycle(tree)]
 #[derive(Drop)]
 pub struct Tree {

@@ -33,6 +33,7 @@ fn base_word(entry: &Entry) -> Word
         inputs: entry.inputs,
         values: 0,
         many: entry.many,
+        turns: entry.turns,
         runs: entry.runs,
         gives: entry.gives,
         what: What::Base(entry.code),

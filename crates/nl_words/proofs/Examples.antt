@@ -1,7 +1,7 @@
 -- The definitions at examples.
 use Rattle.std.proofs.Common.{◌≡◌, true, false, [], ◌∷◌, None, length, slice_get, codes, refl}
 use Rattle.std.specs.List.{list_any, list_all}
-use Rattle.nl_words.specs.declared.codes.TheConstants.{MINUS, SPROUT, YELLOW}
+use Rattle.nl_words.specs.declared.codes.TheConstants.{ARROW, FOREACH, MINUS, SORT_BY, SPROUT, YELLOW}
 use Rattle.nl_words.specs.Row.{row_named, row_at}
 use Rattle.nl_words.specs.Rows.{rows}
 use Rattle.nl_words.specs.Table.{is_number, is_name}
@@ -18,11 +18,11 @@ names = refl
 no_names : list_any is_name (codes "" ∷ codes "FD" ∷ codes "a b" ∷ codes "(" ∷ codes "12" ∷ codes "a,b" ∷ codes "a;b" ∷ []) ≡ false
 no_names = refl
 
-rows_number : length rows ≡ 334
+rows_number : length rows ≡ 341
 unfolding rows
 rows_number = refl
 
-ask_is_found : row_named rows (codes "ask") ≡ slice_get rows 15
+ask_is_found : row_named rows (codes "ask") ≡ slice_get rows 16
 unfolding rows
 ask_is_found = refl
 
@@ -42,6 +42,15 @@ front_is_not_found : row_named rows (codes "as") ≡ None
 unfolding rows
 front_is_not_found = refl
 
-later_words_are_not_found : row_named rows (codes "foreach") ≡ None
+-- the words whose blocks are run in turns, and the sign in a block's head, are in their places
+foreach_is_named : row_named rows (codes "foreach") ≡ row_at rows FOREACH
 unfolding rows
-later_words_are_not_found = refl
+foreach_is_named = refl
+
+sort_by_is_named : row_named rows (codes "sort-by") ≡ row_at rows SORT_BY
+unfolding rows
+sort_by_is_named = refl
+
+arrow_is_named : row_named rows (codes "->") ≡ row_at rows ARROW
+unfolding rows
+arrow_is_named = refl

@@ -7,6 +7,7 @@ use Rattle.nl_words.specs.declared.entry.Role.{Role}
 use Rattle.nl_words.specs.declared.entry.Input.{Input}
 use Rattle.nl_words.specs.declared.entry.Kinds.{Kinds}
 use Rattle.nl_words.specs.declared.entry.Runner.{Runner}
+use Rattle.nl_words.specs.declared.entry.Turns.{Turns}
 use Rattle.nl_words.specs.declared.entry.Manner.{Manner}
 use Rattle.nl_words.specs.declared.entry.Leaving.{Leaving}
 use Rattle.nl_words.specs.declared.entry.Entry.{Entry}
@@ -24,6 +25,7 @@ pub record Row : Type 0 where
   pub runs : Kinds
   pub gives : Kinds
   pub blocks : Runner
+  pub turns : Turns
   pub manner : Manner
   pub fixed : Bool
   pub leaving : Leaving
@@ -39,6 +41,7 @@ row_of e =
       runs = e.runs;
       gives = e.gives;
       blocks = e.blocks;
+      turns = e.turns;
       manner = e.manner;
       fixed = e.fixed;
       leaving = e.leaving;

@@ -8,6 +8,8 @@ use Rattle.nl_words.specs.declared.entry.Input.TheVariants as input
 use Rattle.nl_words.specs.declared.entry.Kinds.{Kinds}
 use Rattle.nl_words.specs.declared.entry.Runner.{Runner}
 use Rattle.nl_words.specs.declared.entry.Runner.TheVariants as runner
+use Rattle.nl_words.specs.declared.entry.Turns.{Turns}
+use Rattle.nl_words.specs.declared.entry.Turns.TheVariants as turns
 use Rattle.nl_words.specs.declared.entry.Manner.{Manner}
 use Rattle.nl_words.specs.declared.entry.Manner.TheVariants as manner
 use Rattle.nl_words.specs.declared.entry.Leaving.{Leaving}
@@ -48,6 +50,9 @@ input_written input.MaybeCommands = 3
 input_written input.Reporter = 4
 input_written input.Variable = 5
 input_written input.Fresh = 6
+input_written input.ArrowCommands = 7
+input_written input.ArrowReporter = 8
+input_written input.Cases = 9
 
 abbrev input_of : ℕ → Input
 input_of zero = input.Value
@@ -56,7 +61,10 @@ input_of (suc (suc zero)) = input.Commands
 input_of (suc (suc (suc zero))) = input.MaybeCommands
 input_of (suc (suc (suc (suc zero)))) = input.Reporter
 input_of (suc (suc (suc (suc (suc zero))))) = input.Variable
-input_of (suc (suc (suc (suc (suc (suc n)))))) = input.Fresh
+input_of (suc (suc (suc (suc (suc (suc zero)))))) = input.Fresh
+input_of (suc (suc (suc (suc (suc (suc (suc zero))))))) = input.ArrowCommands
+input_of (suc (suc (suc (suc (suc (suc (suc (suc zero)))))))) = input.ArrowReporter
+input_of (suc (suc (suc (suc (suc (suc (suc (suc (suc n))))))))) = input.Cases
 
 pub input_again : (i : Input) → input_of (input_written i) ≡ i
 input_again input.Value = refl
@@ -66,6 +74,9 @@ input_again input.MaybeCommands = refl
 input_again input.Reporter = refl
 input_again input.Variable = refl
 input_again input.Fresh = refl
+input_again input.ArrowCommands = refl
+input_again input.ArrowReporter = refl
+input_again input.Cases = refl
 
 abbrev pub input_code : Coded Input
 input_code = code_by ℕ coded_ℕ input_written input_of input_again
@@ -99,6 +110,27 @@ runner_again runner.Given = refl
 
 abbrev pub runner_code : Coded Runner
 runner_code = code_by ℕ coded_ℕ runner_written runner_of runner_again
+
+abbrev turns_written : Turns → ℕ
+turns_written turns.NoTurn = 0
+turns_written turns.OneValue = 1
+turns_written turns.TwoValues = 2
+turns_written turns.ValueOfEachList = 3
+
+abbrev turns_of : ℕ → Turns
+turns_of zero = turns.NoTurn
+turns_of (suc zero) = turns.OneValue
+turns_of (suc (suc zero)) = turns.TwoValues
+turns_of (suc (suc (suc n))) = turns.ValueOfEachList
+
+pub turns_again : (t : Turns) → turns_of (turns_written t) ≡ t
+turns_again turns.NoTurn = refl
+turns_again turns.OneValue = refl
+turns_again turns.TwoValues = refl
+turns_again turns.ValueOfEachList = refl
+
+abbrev pub turns_code : Coded Turns
+turns_code = code_by ℕ coded_ℕ turns_written turns_of turns_again
 
 abbrev manner_written : Manner → ℕ
 manner_written manner.Run = 0

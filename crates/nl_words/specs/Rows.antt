@@ -8,10 +8,12 @@ use Rattle.nl_words.specs.Row.{Row}
 use Rattle.nl_words.specs.declared.entry.Role.{Role}
 use Rattle.nl_words.specs.declared.entry.Role.TheVariants as role
 use Rattle.nl_words.specs.declared.entry.Input.{Input}
-use Rattle.nl_words.specs.declared.entry.Input.TheVariants.{Value, Expression, Commands, MaybeCommands, Reporter, Variable, Fresh}
+use Rattle.nl_words.specs.declared.entry.Input.TheVariants.{Value, Expression, Commands, MaybeCommands, Reporter, Variable, Fresh, ArrowCommands, ArrowReporter}
 use Rattle.nl_words.specs.declared.entry.Kinds.{Kinds}
 use Rattle.nl_words.specs.declared.entry.Runner.{Runner}
 use Rattle.nl_words.specs.declared.entry.Runner.TheVariants as runner
+use Rattle.nl_words.specs.declared.entry.Turns.{Turns}
+use Rattle.nl_words.specs.declared.entry.Turns.TheVariants as turns
 use Rattle.nl_words.specs.declared.entry.Manner.{Manner}
 use Rattle.nl_words.specs.declared.entry.Manner.TheVariants as manner
 use Rattle.nl_words.specs.declared.entry.Leaving.{Leaving}
@@ -28,16 +30,24 @@ word role text inputs runs gives code =
       runs = runs;
       gives = gives;
       blocks = runner.NoBlock;
+      turns = turns.NoTurn;
       manner = manner.Run;
       fixed = false;
       leaving = leaving.Stays;
       code = code;
     }
 
--- What isn't as for most words: who runs the blocks, what is done with the variable that the word names, how it leaves a procedure.
+-- What isn't as for most words: who runs the blocks, how many values a turn has, that there may be more in parentheses, what is done with the variable that the word names, how it leaves a procedure.
 
 abbrev run_by : Runner → (ℕ → Row) → ℕ → Row
 run_by who word code = record (word code) { blocks = who }
+
+abbrev opened : (ℕ → Row) → ℕ → Row
+opened word code = record (word code) { many = true }
+
+-- turns of so many values, which the same agent takes
+abbrev in_turns : Turns → (ℕ → Row) → ℕ → Row
+in_turns values word code = record (word code) { blocks = runner.Same; turns = values }
 
 abbrev naming : Manner → (ℕ → Row) → ℕ → Row
 naming how word code = record (word code) { manner = how }
@@ -71,7 +81,7 @@ reporter text inputs runs gives = word role.Reporter text inputs runs gives
 
 -- a reporter that may be given more or fewer of its last input, with parentheses round the whole
 abbrev open_reporter : String → List Input → Kinds → Kinds → ℕ → Row
-open_reporter text inputs runs gives code = record (reporter text inputs runs gives code) { many = true }
+open_reporter text inputs runs gives = opened (reporter text inputs runs gives)
 
 -- an operator of a level, with the inputs of both its sides
 abbrev operator : ℕ → String → List Input → Kinds → Kinds → ℕ → Row
@@ -101,6 +111,7 @@ rows = numbered 0 (
     ∷ operator 5 "*" (Value ∷ Value ∷ []) everyone none
     ∷ operator 6 "+" (Value ∷ Value ∷ []) everyone none
     ∷ operator 6 "-" (Value ∷ Value ∷ []) everyone none
+    ∷ reserved "->"
     ∷ operator 5 "/" (Value ∷ Value ∷ []) everyone none
     ∷ operator 7 "<" (Value ∷ Value ∷ []) everyone none
     ∷ operator 7 "<=" (Value ∷ Value ∷ []) everyone none
@@ -184,10 +195,12 @@ rows = numbered 0 (
     ∷ command "facexy" (Value ∷ Value ∷ []) turtles
     ∷ constant "false"
     ∷ command "fd" (Value ∷ []) turtles
+    ∷ in_turns turns.OneValue (reporter "filter" (ArrowReporter ∷ Value ∷ []) everyone none)
     ∷ reporter "first" (Value ∷ []) everyone none
     ∷ reporter "floor" (Value ∷ []) everyone none
     ∷ command "follow" (Value ∷ []) observers
     ∷ command "follow-me" [] turtles
+    ∷ in_turns turns.ValueOfEachList (opened (command "foreach" (Value ∷ ArrowCommands ∷ []) everyone))
     ∷ command "forward" (Value ∷ []) turtles
     ∷ reporter "fput" (Value ∷ Value ∷ []) everyone none
     ∷ reserved "globals"
@@ -249,6 +262,7 @@ rows = numbered 0 (
     ∷ reporter "lput" (Value ∷ Value ∷ []) everyone none
     ∷ command "lt" (Value ∷ []) turtles
     ∷ constant "magenta"
+    ∷ in_turns turns.ValueOfEachList (open_reporter "map" (ArrowReporter ∷ Value ∷ []) everyone none)
     ∷ reporter "max" (Value ∷ []) everyone none
     ∷ run_by runner.Given (reporter "max-n-of" (Value ∷ Value ∷ Reporter ∷ []) everyone agents)
     ∷ run_by runner.Given (reporter "max-one-of" (Value ∷ Reporter ∷ []) everyone agents)
@@ -270,6 +284,7 @@ rows = numbered 0 (
     ∷ reporter "my-out-links" [] turtles links
     ∷ reporter "myself" [] agents none
     ∷ reporter "n-of" (Value ∷ Value ∷ []) everyone agents
+    ∷ in_turns turns.OneValue (reporter "n-values" (Value ∷ ArrowReporter ∷ []) everyone none)
     ∷ reporter "neighbors" [] turtles_and_patches patches
     ∷ reporter "neighbors4" [] turtles_and_patches patches
     ∷ command "no-display" [] everyone
@@ -333,6 +348,7 @@ rows = numbered 0 (
     ∷ reporter "random-ycor" [] everyone none
     ∷ open_reporter "range" (Value ∷ []) everyone none
     ∷ constant "red"
+    ∷ in_turns turns.TwoValues (reporter "reduce" (ArrowReporter ∷ Value ∷ []) everyone none)
     ∷ reporter "remainder" (Value ∷ Value ∷ []) everyone none
     ∷ reporter "remove" (Value ∷ Value ∷ []) everyone none
     ∷ reporter "remove-duplicates" (Value ∷ []) everyone none
@@ -374,6 +390,7 @@ rows = numbered 0 (
     ∷ variable "size" turtles
     ∷ constant "sky"
     ∷ reporter "sort" (Value ∷ []) everyone none
+    ∷ in_turns turns.TwoValues (reporter "sort-by" (ArrowReporter ∷ Value ∷ []) everyone none)
     ∷ run_by runner.Given (reporter "sort-on" (Reporter ∷ Value ∷ []) everyone none)
     ∷ births "sprout" patches
     ∷ reporter "sqrt" (Value ∷ []) everyone none

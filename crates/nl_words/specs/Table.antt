@@ -11,6 +11,8 @@ use Rattle.nl_words.specs.declared.entry.Input.{Input}
 use Rattle.nl_words.specs.declared.entry.Input.TheVariants as input
 use Rattle.nl_words.specs.declared.entry.Runner.{Runner}
 use Rattle.nl_words.specs.declared.entry.Runner.TheVariants as runner
+use Rattle.nl_words.specs.declared.entry.Turns.{Turns}
+use Rattle.nl_words.specs.declared.entry.Turns.TheVariants as turns
 use Rattle.nl_words.specs.declared.entry.Manner.{Manner}
 use Rattle.nl_words.specs.declared.entry.Manner.TheVariants as manner
 use Rattle.nl_words.specs.declared.entry.Leaving.{Leaving}
@@ -89,10 +91,14 @@ is_table rows = ascends rows && list_all (λ row. is_name row.name) rows && coun
 
 -- What fits together in a row.
 
+-- a block, or cases, which have blocks
 abbrev pub is_block : Input → Bool
 is_block input.Commands = true
 is_block input.MaybeCommands = true
 is_block input.Reporter = true
+is_block input.ArrowCommands = true
+is_block input.ArrowReporter = true
+is_block input.Cases = true
 is_block input.Value = false
 is_block input.Expression = false
 is_block input.Variable = false
@@ -106,6 +112,39 @@ is_variable_name input.Commands = false
 is_variable_name input.MaybeCommands = false
 is_variable_name input.Reporter = false
 is_variable_name input.Fresh = false
+is_variable_name input.ArrowCommands = false
+is_variable_name input.ArrowReporter = false
+is_variable_name input.Cases = false
+
+abbrev pub is_arrow_block : Input → Bool
+is_arrow_block input.ArrowCommands = true
+is_arrow_block input.ArrowReporter = true
+is_arrow_block input.Value = false
+is_arrow_block input.Expression = false
+is_arrow_block input.Commands = false
+is_arrow_block input.MaybeCommands = false
+is_arrow_block input.Reporter = false
+is_arrow_block input.Variable = false
+is_arrow_block input.Fresh = false
+is_arrow_block input.Cases = false
+
+abbrev pub is_cases : Input → Bool
+is_cases input.Cases = true
+is_cases input.Value = false
+is_cases input.Expression = false
+is_cases input.Commands = false
+is_cases input.MaybeCommands = false
+is_cases input.Reporter = false
+is_cases input.Variable = false
+is_cases input.Fresh = false
+is_cases input.ArrowCommands = false
+is_cases input.ArrowReporter = false
+
+-- cases among the inputs before the last one
+abbrev pub has_inner_cases : List Input → Bool
+has_inner_cases [] = false
+has_inner_cases (i ∷ []) = false
+has_inner_cases (i ∷ j ∷ is) = is_cases i || has_inner_cases (j ∷ is)
 
 abbrev pub has_runner : Runner → Bool
 has_runner runner.NoBlock = false
@@ -113,6 +152,12 @@ has_runner runner.Same = true
 has_runner runner.Turtles = true
 has_runner runner.Links = true
 has_runner runner.Given = true
+
+abbrev pub has_turns : Turns → Bool
+has_turns turns.NoTurn = false
+has_turns turns.OneValue = true
+has_turns turns.TwoValues = true
+has_turns turns.ValueOfEachList = true
 
 abbrev pub has_manner : Manner → Bool
 has_manner manner.Run = false
@@ -144,11 +189,15 @@ abbrev same : Bool → Bool → Bool
 same true b = b
 same false b = not b
 
--- Blocks have one who runs them, and where there are none nobody is told; a variable that the word names is set or spread; only a variable is
--- fixed, and only a command leaves.
+-- Blocks have one who runs them, and where there are none nobody is told; turns are told of where an input is an arrow block; cases are the
+-- last input, and read in parentheses alone; a variable that the word names is set or spread; only a variable is fixed, and only a command
+-- leaves.
 abbrev pub is_fitting : Row → Bool
 is_fitting row =
     same (list_any is_block row.inputs) (has_runner row.blocks)
+    && same (list_any is_arrow_block row.inputs) (has_turns row.turns)
+    && not (has_inner_cases row.inputs)
+    && (not (list_any is_cases row.inputs) || row.many)
     && same (list_any is_variable_name row.inputs) (has_manner row.manner)
     && (not row.fixed || is_variable row.role)
     && (not (does_leave row.leaving) || is_command row.role)

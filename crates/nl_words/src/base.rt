@@ -8,7 +8,7 @@ ghost use Rattle.nl_words.specs.Rows.{rows};
 ghost use Rattle.nl_words.specs.Table.{is_table, is_fitting};
 
 use crate::codes;
-use crate::entry::{Entry, Input, Kinds, Leaving, Manner, Role, Runner};
+use crate::entry::{Entry, Input, Kinds, Leaving, Manner, Role, Runner, Turns};
 use crate::words::Words;
 
 /// How many rows the table has. The last word is `yellow`.
@@ -60,6 +60,12 @@ macro_rules! blocks {
     ($runner:ident) => { Runner::$runner };
 }
 
+// How many values a turn of the word has, or that it has no turns.
+macro_rules! turns {
+    () => { Turns::NoTurn };
+    ($turns:ident) => { Turns::$turns };
+}
+
 // How the variable that the word names stands there.
 macro_rules! manner {
     () => { Manner::Run };
@@ -79,13 +85,13 @@ macro_rules! leaving {
 }
 
 // A row: the constant of its code, its name, its role, its inputs, and then what isn't so for most words: who may run it, where not everyone
-// may; what its answer may hold, where that is known; who runs its blocks; what it does with the variable that it names; that no text sets
-// it; how it leaves a procedure. A star after the inputs says that there may be more or fewer of the last one, with parentheses round the
-// whole.
+// may; what its answer may hold, where that is known; who runs its blocks; how many values a turn of its arrow block has; what it does with the
+// variable that it names; that no text sets it; how it leaves a procedure. A star after the inputs says that there may be more with
+// parentheses round the whole.
 macro_rules! table {
     ($($code:ident $name:literal $role:ident $(($level:literal))? [$($inputs:tt)*]
-        $(by($($kind:ident)+))? $(gives($($given:ident)+))? $(blocks($runner:ident))? $(variable($manner:ident))? $(is($mark:ident))?
-        $(leaves($leaving:ident))?;)*) => {
+        $(by($($kind:ident)+))? $(gives($($given:ident)+))? $(blocks($runner:ident))? $(turns($turns:ident))? $(variable($manner:ident))?
+        $(is($mark:ident))? $(leaves($leaving:ident))?;)*) => {
         [$(Entry {
             name: $name,
             role: Role::$role $(($level))?,
@@ -94,6 +100,7 @@ macro_rules! table {
             runs: runners!($($($kind)+)?),
             gives: kinds!($($($given)+)?),
             blocks: blocks!($($runner)?),
+            turns: turns!($($turns)?),
             manner: manner!($($manner)?),
             fixed: fixed!($($mark)?),
             leaving: leaving!($($leaving)?),
@@ -113,6 +120,7 @@ pub fn base_words() -> Words<ROWS>
         TIMES "*" Operator(5) [Value Value];
         PLUS "+" Operator(6) [Value Value];
         MINUS "-" Operator(6) [Value Value];
+        ARROW "->" Reserved [];
         DIVIDED "/" Operator(5) [Value Value];
         LESS "<" Operator(7) [Value Value];
         LESS_EQUAL "<=" Operator(7) [Value Value];
@@ -202,10 +210,12 @@ pub fn base_words() -> Words<ROWS>
         FACEXY "facexy" Command [Value Value] by(turtle);
         FALSE "false" Constant [];
         FD "fd" Command [Value] by(turtle);
+        FILTER "filter" Reporter [ArrowReporter Value] blocks(Same) turns(OneValue);
         FIRST "first" Reporter [Value];
         FLOOR "floor" Reporter [Value];
         FOLLOW "follow" Command [Value] by(observer);
         FOLLOW_ME "follow-me" Command [] by(turtle);
+        FOREACH "foreach" Command [Value ArrowCommands *] blocks(Same) turns(ValueOfEachList);
         FORWARD "forward" Command [Value] by(turtle);
         FPUT "fput" Reporter [Value Value];
 
@@ -273,6 +283,7 @@ pub fn base_words() -> Words<ROWS>
         LT "lt" Command [Value] by(turtle);
 
         MAGENTA "magenta" Constant [];
+        MAP "map" Reporter [ArrowReporter Value *] blocks(Same) turns(ValueOfEachList);
         MAX "max" Reporter [Value];
         MAX_N_OF "max-n-of" Reporter [Value Value Reporter] gives(turtle patch link) blocks(Given);
         MAX_ONE_OF "max-one-of" Reporter [Value Reporter] gives(turtle patch link) blocks(Given);
@@ -295,6 +306,7 @@ pub fn base_words() -> Words<ROWS>
         MYSELF "myself" Reporter [] by(turtle patch link);
 
         N_OF "n-of" Reporter [Value Value] gives(turtle patch link);
+        N_VALUES "n-values" Reporter [Value ArrowReporter] blocks(Same) turns(OneValue);
         NEIGHBORS "neighbors" Reporter [] by(turtle patch) gives(patch);
         NEIGHBORS4 "neighbors4" Reporter [] by(turtle patch) gives(patch);
         NO_DISPLAY "no-display" Command [];
@@ -361,6 +373,7 @@ pub fn base_words() -> Words<ROWS>
         RANDOM_YCOR "random-ycor" Reporter [];
         RANGE "range" Reporter [Value *];
         RED "red" Constant [];
+        REDUCE "reduce" Reporter [ArrowReporter Value] blocks(Same) turns(TwoValues);
         REMAINDER "remainder" Reporter [Value Value];
         REMOVE "remove" Reporter [Value Value];
         REMOVE_DUPLICATES "remove-duplicates" Reporter [Value];
@@ -403,6 +416,7 @@ pub fn base_words() -> Words<ROWS>
         SIZE "size" Variable [] by(turtle);
         SKY "sky" Constant [];
         SORT "sort" Reporter [Value];
+        SORT_BY "sort-by" Reporter [ArrowReporter Value] blocks(Same) turns(TwoValues);
         SORT_ON "sort-on" Reporter [Reporter Value] blocks(Given);
         SPROUT "sprout" Command [Value MaybeCommands] by(patch) blocks(Turtles);
         SQRT "sqrt" Reporter [Value];

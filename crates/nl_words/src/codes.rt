@@ -15,6 +15,8 @@ pub const PLUS: u16 = ToL::Plus as u16;
 
 pub const MINUS: u16 = ToL::Minus as u16;
 
+pub const ARROW: u16 = ToL::Arrow as u16;
+
 pub const DIVIDED: u16 = ToL::Divided as u16;
 
 pub const LESS: u16 = ToL::Less as u16;
@@ -181,6 +183,8 @@ pub const FALSE: u16 = ToL::False as u16;
 
 pub const FD: u16 = ToL::Fd as u16;
 
+pub const FILTER: u16 = ToL::Filter as u16;
+
 pub const FIRST: u16 = ToL::First as u16;
 
 pub const FLOOR: u16 = ToL::Floor as u16;
@@ -188,6 +192,8 @@ pub const FLOOR: u16 = ToL::Floor as u16;
 pub const FOLLOW: u16 = ToL::Follow as u16;
 
 pub const FOLLOW_ME: u16 = ToL::FollowMe as u16;
+
+pub const FOREACH: u16 = ToL::Foreach as u16;
 
 pub const FORWARD: u16 = ToL::Forward as u16;
 
@@ -313,6 +319,8 @@ const FROM_M: u16 = LT + 1;
 
 pub const MAGENTA: u16 = FROM_M + FromM::Magenta as u16;
 
+pub const MAP: u16 = FROM_M + FromM::Map as u16;
+
 pub const MAX: u16 = FROM_M + FromM::Max as u16;
 
 pub const MAX_N_OF: u16 = FROM_M + FromM::MaxNOf as u16;
@@ -354,6 +362,8 @@ pub const MY_OUT_LINKS: u16 = FROM_M + FromM::MyOutLinks as u16;
 pub const MYSELF: u16 = FROM_M + FromM::Myself as u16;
 
 pub const N_OF: u16 = FROM_M + FromM::NOf as u16;
+
+pub const N_VALUES: u16 = FROM_M + FromM::NValues as u16;
 
 pub const NEIGHBORS: u16 = FROM_M + FromM::Neighbors as u16;
 
@@ -481,6 +491,8 @@ pub const RANGE: u16 = FROM_M + FromM::Range as u16;
 
 pub const RED: u16 = FROM_M + FromM::Red as u16;
 
+pub const REDUCE: u16 = FROM_M + FromM::Reduce as u16;
+
 pub const REMAINDER: u16 = FROM_M + FromM::Remainder as u16;
 
 pub const REMOVE: u16 = FROM_M + FromM::Remove as u16;
@@ -562,6 +574,8 @@ pub const SIZE: u16 = FROM_M + FromM::Size as u16;
 pub const SKY: u16 = FROM_M + FromM::Sky as u16;
 
 pub const SORT: u16 = FROM_M + FromM::Sort as u16;
+
+pub const SORT_BY: u16 = FROM_M + FromM::SortBy as u16;
 
 pub const SORT_ON: u16 = FROM_M + FromM::SortOn as u16;
 
@@ -683,6 +697,7 @@ enum ToL {
     Times,
     Plus,
     Minus,
+    Arrow,
     Divided,
     Less,
     LessEqual,
@@ -772,10 +787,12 @@ enum ToL {
     Facexy,
     False,
     Fd,
+    Filter,
     First,
     Floor,
     Follow,
     FollowMe,
+    Foreach,
     Forward,
     Fput,
 
@@ -846,6 +863,7 @@ enum ToL {
 // The words from M on.
 enum FromM {
     Magenta,
+    Map,
     Max,
     MaxNOf,
     MaxOneOf,
@@ -868,6 +886,7 @@ enum FromM {
     Myself,
 
     NOf,
+    NValues,
     Neighbors,
     Neighbors4,
     NoDisplay,
@@ -934,6 +953,7 @@ enum FromM {
     RandomYcor,
     Range,
     Red,
+    Reduce,
     Remainder,
     Remove,
     RemoveDuplicates,
@@ -976,6 +996,7 @@ enum FromM {
     Size,
     Sky,
     Sort,
+    SortBy,
     SortOn,
     Sprout,
     Sqrt,

@@ -37,6 +37,12 @@ pub enum Input {
     Variable,
     /// A name that nothing has yet.
     Fresh,
+    /// A block of commands that is run once a turn, and may name the values of the turn.
+    ArrowCommands,
+    /// A block of one expression that is evaluated once a turn, and may name the values of the turn.
+    ArrowReporter,
+    /// Conditions, each with its block, and at most one block behind them. They are read in parentheses alone, in place of all inputs.
+    Cases,
 }
 
 /// Kinds of agents.
@@ -64,6 +70,17 @@ pub enum Runner {
     Given,
 }
 
+/// How many values a turn of a word has, which its arrow block may name.
+#[derive(Clone, Copy, Debug, PartialEq, Eq)]
+pub enum Turns {
+    /// The word has no arrow block.
+    NoTurn,
+    OneValue,
+    TwoValues,
+    /// An item of each list that the word is given.
+    ValueOfEachList,
+}
+
 /// How a word stands at its place in a text.
 #[derive(Clone, Copy, Debug, PartialEq, Eq)]
 pub enum Manner {
@@ -88,16 +105,16 @@ pub enum Leaving {
 
 /// The row of one word.
 ///
-/// `name` is in lower case. `many` says that the word may be given more or fewer of its last input, with parentheses round the whole.
-/// `runs` has the kinds of agents that may run the word; it has all kinds where the word belongs to no agent, as a constant or a
-/// reserved word.
+/// `name` is in lower case. `many` says that the word may be given more with parentheses round the whole: one or more lists where a turn has
+/// a value of each list, else its cases where they are its last input, else more or fewer of its last input. `runs` has the kinds of
+/// agents that may run the word; it has all kinds where the word belongs to no agent, as a constant or a reserved word.
 ///
 /// `gives` says what agents the value may hold, which is known only of some words. Turtles, patches or links alone are told for a word
 /// that gives such agents. All three are told for a word that gives agents of its own input of agents (the left side of an operator of
 /// level 1, else its last `Value`), and so what that input may hold. None is told where nothing is known: for words of other values, for
 /// variables, and for `self`, `myself` and `of`. No row gives the observer.
 ///
-/// `blocks` says who runs the word's blocks. `manner` says how the variable stands there that the word names, as that of `set` does; it is
+/// `blocks` says who runs the word's blocks, and `turns` how many values its arrow block is given. `manner` says how the variable stands there that the word names, as that of `set` does; it is
 /// `Run` where the word names none. `fixed` is told of a variable that no text sets.
 ///
 /// `code` is the place of the row in the table, from 0. A second spelling has a row and a code of its own.
@@ -110,6 +127,7 @@ pub struct Entry {
     pub runs: Kinds,
     pub gives: Kinds,
     pub blocks: Runner,
+    pub turns: Turns,
     pub manner: Manner,
     pub fixed: bool,
     pub leaving: Leaving,

@@ -7,5 +7,5 @@ pub mod entry;
 pub mod words;
 
 pub use base::{ROWS, base_words};
-pub use entry::{Entry, Input, Kinds, Leaving, Manner, Role, Runner};
+pub use entry::{Entry, Input, Kinds, Leaving, Manner, Role, Runner, Turns};
 pub use words::Words;

@@ -1,8 +1,8 @@
 //! Rows as the NetLogo Dictionary has the words, and names that have no row.
-use Input::{Commands, Expression, Fresh, MaybeCommands, Value};
+use Input::{ArrowCommands, ArrowReporter, Commands, Expression, Fresh, MaybeCommands, Value};
 use nl_words::base::{ROWS, base_words};
 use nl_words::codes;
-use nl_words::entry::{Entry, Input, Kinds, Leaving, Manner, Role, Runner};
+use nl_words::entry::{Entry, Input, Kinds, Leaving, Manner, Role, Runner, Turns};
 
 const TEST: Input = Input::Reporter;
 
@@ -100,6 +100,25 @@ const KNOWN: &[Known] = &[
         NONE,
     ),
     ("while", Role::Command, &[TEST, Commands], ALL, NONE),
+    ("foreach", Role::Command, &[Value, ArrowCommands], ALL, NONE),
+    ("map", Role::Reporter, &[ArrowReporter, Value], ALL, NONE),
+    ("filter", Role::Reporter, &[ArrowReporter, Value], ALL, NONE),
+    ("reduce", Role::Reporter, &[ArrowReporter, Value], ALL, NONE),
+    (
+        "sort-by",
+        Role::Reporter,
+        &[ArrowReporter, Value],
+        ALL,
+        NONE,
+    ),
+    (
+        "n-values",
+        Role::Reporter,
+        &[Value, ArrowReporter],
+        ALL,
+        NONE,
+    ),
+    ("->", Role::Reserved, &[], ALL, NONE),
     (
         "cro",
         Role::Command,
@@ -214,6 +233,8 @@ const BLOCKS: &[(&str, Runner)] = &[
     ("while", Runner::Same),
     ("ifelse-value", Runner::Same),
     ("loop", Runner::Same),
+    ("foreach", Runner::Same),
+    ("sort-by", Runner::Same),
     ("hatch", Runner::Turtles),
     ("sprout", Runner::Turtles),
     ("cro", Runner::Turtles),
@@ -281,6 +302,32 @@ fn has_leaving(name: &str, leaving: Leaving) -> bool {
     }
 }
 
+const TURNS: &[(&str, Turns)] = &[
+    ("foreach", Turns::ValueOfEachList),
+    ("map", Turns::ValueOfEachList),
+    ("filter", Turns::OneValue),
+    ("n-values", Turns::OneValue),
+    ("reduce", Turns::TwoValues),
+    ("sort-by", Turns::TwoValues),
+    ("repeat", Turns::NoTurn),
+    ("sort-on", Turns::NoTurn),
+    ("->", Turns::NoTurn),
+];
+
+fn has_turns(name: &str, turns: Turns) -> bool {
+    match row_of(name) {
+        Some(row) => row.turns == turns,
+        None => false,
+    }
+}
+
+#[test]
+fn turns_have_so_many_values(rt: HostRuntime) {
+    for &(name, turns) in TURNS {
+        assert!(rt; has_turns(name, turns), "{name}");
+    }
+}
+
 #[test]
 fn two_words_leave_a_procedure(rt: HostRuntime) {
     for &(name, leaving) in LEAVING {
@@ -293,6 +340,10 @@ const MANY: &[(&str, bool)] = &[
     ("se", true),
     ("range", true),
     ("link-set", true),
+    ("foreach", true),
+    ("map", true),
+    ("filter", false),
+    ("n-values", false),
     ("sum", false),
     ("item", false),
 ];
@@ -312,8 +363,8 @@ fn some_words_take_any_number_of_inputs_in_parentheses(rt: HostRuntime) {
 }
 
 const NO_WORDS: &[&str] = &[
-    "", "as", "asks", "ASK", " ask", "!", "yello", "yellowy", "->", "foreach", "n-values", "run",
-    "z",
+    "", "as", "asks", "ASK", " ask", "!", "yello", "yellowy", "->>", "for-each", "MAP", "n-value",
+    "run", "z",
 ];
 
 #[test]
@@ -338,7 +389,7 @@ const CODES: &[(u16, &str)] = &[
 
 /// Whether there are so many rows, and the first, the last and one between have the codes of their places.
 fn are_places() -> bool {
-    ROWS == 334 && codes::NOT_EQUAL == 0 && codes::ABS == 11 && codes::YELLOW == 333
+    ROWS == 341 && codes::NOT_EQUAL == 0 && codes::ABS == 12 && codes::YELLOW == 340
 }
 
 fn has_code(name: &str, code: u16) -> bool {
@@ -362,5 +413,5 @@ fn codes_are_places_and_have_names(rt: HostRuntime) {
         assert!(rt; has_code(name, code), "{name}");
         assert!(rt; has_name(code, name), "{code}");
     }
-    assert!(rt; base_words().row(334).is_none());
+    assert!(rt; base_words().row(341).is_none());
 }

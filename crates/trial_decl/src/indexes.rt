@@ -7,7 +7,7 @@ use Input::{MaybeCommands, Value};
 use nl_decl::index::index_of;
 use nl_fixed::{Names, NoMemory, Str};
 use nl_tree::{Breed, Breeds, Declared, NamedWords, Procedure, Procedures, What, Word};
-use nl_words::{Input, Kinds, Role};
+use nl_words::{Input, Kinds, Role, codes};
 use std::alloc::Global;
 use std::process::Abort;
 use std::test::Fail;
@@ -261,17 +261,21 @@ fn a_breed_of_turtles_makes_these_words(rt: HostRuntime) -> Result<(), Fail> {
         rt.alloc(),
         Sort::Turtles,
         &[
-            ("kin", 303, &[]),
-            ("kin-own", 307, &[]),
-            ("create-kin", 62, &[Value, MaybeCommands]),
-            ("create-ordered-kin", 60, &[Value, MaybeCommands]),
-            ("hatch-kin", 97, &[Value, MaybeCommands]),
-            ("sprout-kin", 278, &[Value, MaybeCommands]),
-            ("kin-here", 305, &[]),
-            ("kin-at", 304, &[Value, Value]),
-            ("kin-on", 306, &[Value]),
-            ("one", 301, &[Value]),
-            ("is-one?", 127, &[Value]),
+            ("kin", codes::TURTLES, &[]),
+            ("kin-own", codes::TURTLES_OWN, &[]),
+            ("create-kin", codes::CREATE_TURTLES, &[Value, MaybeCommands]),
+            (
+                "create-ordered-kin",
+                codes::CREATE_ORDERED_TURTLES,
+                &[Value, MaybeCommands],
+            ),
+            ("hatch-kin", codes::HATCH, &[Value, MaybeCommands]),
+            ("sprout-kin", codes::SPROUT, &[Value, MaybeCommands]),
+            ("kin-here", codes::TURTLES_HERE, &[]),
+            ("kin-at", codes::TURTLES_AT, &[Value, Value]),
+            ("kin-on", codes::TURTLES_ON, &[Value]),
+            ("one", codes::TURTLE, &[Value]),
+            ("is-one?", codes::IS_TURTLE, &[Value]),
         ],
     )
 }
@@ -283,16 +287,24 @@ fn an_undirected_breed_of_links_makes_these_words(rt: HostRuntime) -> Result<(),
         rt.alloc(),
         Sort::Undirected,
         &[
-            ("kin", 145, &[]),
-            ("kin-own", 146, &[]),
-            ("my-kin", 169, &[]),
-            ("create-kin-with", 59, &[Value, MaybeCommands]),
-            ("one", 138, &[Value, Value]),
-            ("is-one?", 120, &[Value]),
-            ("one-neighbors", 142, &[]),
-            ("one-neighbor?", 141, &[Value]),
-            ("one-with", 144, &[Value]),
-            ("create-one-with", 56, &[Value, MaybeCommands]),
+            ("kin", codes::LINKS, &[]),
+            ("kin-own", codes::LINKS_OWN, &[]),
+            ("my-kin", codes::MY_LINKS, &[]),
+            (
+                "create-kin-with",
+                codes::CREATE_LINKS_WITH,
+                &[Value, MaybeCommands],
+            ),
+            ("one", codes::LINK, &[Value, Value]),
+            ("is-one?", codes::IS_LINK, &[Value]),
+            ("one-neighbors", codes::LINK_NEIGHBORS, &[]),
+            ("one-neighbor?", codes::LINK_NEIGHBOR, &[Value]),
+            ("one-with", codes::LINK_WITH, &[Value]),
+            (
+                "create-one-with",
+                codes::CREATE_LINK_WITH,
+                &[Value, MaybeCommands],
+            ),
         ],
     )
 }
@@ -304,26 +316,42 @@ fn a_directed_breed_of_links_makes_these_words(rt: HostRuntime) -> Result<(), Fa
         rt.alloc(),
         Sort::Directed,
         &[
-            ("kin", 145, &[]),
-            ("kin-own", 146, &[]),
-            ("my-kin", 169, &[]),
-            ("create-kin-to", 58, &[Value, MaybeCommands]),
-            ("create-kin-from", 57, &[Value, MaybeCommands]),
-            ("my-in-kin", 168, &[]),
-            ("my-out-kin", 170, &[]),
-            ("one", 138, &[Value, Value]),
-            ("is-one?", 120, &[Value]),
-            ("one-neighbors", 142, &[]),
-            ("one-neighbor?", 141, &[Value]),
-            ("one-with", 144, &[Value]),
-            ("create-one-to", 55, &[Value, MaybeCommands]),
-            ("create-one-from", 54, &[Value, MaybeCommands]),
-            ("in-one-neighbors", 111, &[]),
-            ("out-one-neighbors", 188, &[]),
-            ("in-one-neighbor?", 110, &[Value]),
-            ("out-one-neighbor?", 187, &[Value]),
-            ("in-one-from", 109, &[Value]),
-            ("out-one-to", 189, &[Value]),
+            ("kin", codes::LINKS, &[]),
+            ("kin-own", codes::LINKS_OWN, &[]),
+            ("my-kin", codes::MY_LINKS, &[]),
+            (
+                "create-kin-to",
+                codes::CREATE_LINKS_TO,
+                &[Value, MaybeCommands],
+            ),
+            (
+                "create-kin-from",
+                codes::CREATE_LINKS_FROM,
+                &[Value, MaybeCommands],
+            ),
+            ("my-in-kin", codes::MY_IN_LINKS, &[]),
+            ("my-out-kin", codes::MY_OUT_LINKS, &[]),
+            ("one", codes::LINK, &[Value, Value]),
+            ("is-one?", codes::IS_LINK, &[Value]),
+            ("one-neighbors", codes::LINK_NEIGHBORS, &[]),
+            ("one-neighbor?", codes::LINK_NEIGHBOR, &[Value]),
+            ("one-with", codes::LINK_WITH, &[Value]),
+            (
+                "create-one-to",
+                codes::CREATE_LINK_TO,
+                &[Value, MaybeCommands],
+            ),
+            (
+                "create-one-from",
+                codes::CREATE_LINK_FROM,
+                &[Value, MaybeCommands],
+            ),
+            ("in-one-neighbors", codes::IN_LINK_NEIGHBORS, &[]),
+            ("out-one-neighbors", codes::OUT_LINK_NEIGHBORS, &[]),
+            ("in-one-neighbor?", codes::IN_LINK_NEIGHBOR, &[Value]),
+            ("out-one-neighbor?", codes::OUT_LINK_NEIGHBOR, &[Value]),
+            ("in-one-from", codes::IN_LINK_FROM, &[Value]),
+            ("out-one-to", codes::OUT_LINK_TO, &[Value]),
         ],
     )
 }
@@ -379,7 +407,7 @@ fn a_shared_variable_has_one_row_for_all_its_owners(rt: HostRuntime) {
         };
         assert!(rt; is_owned(&index, name, place, runs), "at {name}");
     }
-    assert!(rt; is_what(&index, "tie", What::Made(2, 138)));
+    assert!(rt; is_what(&index, "tie", What::Made(2, codes::LINK)));
 }
 
 // The index of a model that declares a widget too.
@@ -478,5 +506,5 @@ fn many_words_have_rows(rt: HostRuntime) {
     assert!(rt; index.as_slice().len() == 5000 + 70 + 1000 * 11);
     assert!(rt; is_what(&index, "g4999", What::Global(4999)));
     assert!(rt; is_what(&index, "v0069", What::Own(69)));
-    assert!(rt; is_what(&index, "p0999-here", What::Made(1000, 305)));
+    assert!(rt; is_what(&index, "p0999-here", What::Made(1000, codes::TURTLES_HERE)));
 }

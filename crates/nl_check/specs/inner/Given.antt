@@ -44,3 +44,6 @@ is_value (Some input.MaybeCommands) = false
 is_value (Some input.Reporter) = false
 is_value (Some input.Variable) = false
 is_value (Some input.Fresh) = false
+is_value (Some input.ArrowCommands) = false
+is_value (Some input.ArrowReporter) = false
+is_value (Some input.Cases) = false

@@ -4,9 +4,10 @@ use Rattle.std.specs.Coded.{Coded, code_by, coded_list, coded_ℕ, coded_bool, c
 use Rattle.nl_words.specs.declared.entry.Role.{Role}
 use Rattle.nl_words.specs.declared.entry.Input.{Input}
 use Rattle.nl_words.specs.declared.entry.Kinds.{Kinds}
+use Rattle.nl_words.specs.declared.entry.Turns.{Turns}
 use Rattle.nl_tree.specs.declared.declared.What.{What}
 use Rattle.nl_tree.specs.declared.declared.What.TheVariants as what
-use Rattle.nl_words.specs.RowCode.{role_code, input_code, kinds_code}
+use Rattle.nl_words.specs.RowCode.{role_code, input_code, kinds_code, turns_code}
 use Rattle.nl_tree.specs.Term.{Term}
 
 abbrev what_written : What → ℕ × (ℕ × ℕ)
@@ -34,8 +35,8 @@ abbrev what_code : Coded What
 what_code = code_by (ℕ × (ℕ × ℕ)) (coded× coded_ℕ (coded× coded_ℕ coded_ℕ)) what_written (λ c. what_of c.0 c.1.0 c.1.1) what_again
 
 abbrev pub term_code : Coded Term
-term_code = code_by (List ℕ × (Role × (List Input × (ℕ × (Bool × (Kinds × (Kinds × What)))))))
-    (coded× (coded_list coded_ℕ) (coded× role_code (coded× (coded_list input_code) (coded× coded_ℕ (coded× coded_bool (coded× kinds_code (coded× kinds_code what_code)))))))
-    (λ t. (t.name, (t.role, (t.inputs, (t.values, (t.many, (t.runs, (t.gives, t.what))))))))
-    (λ c. record { name = c.0; role = c.1.0; inputs = c.1.1.0; values = c.1.1.1.0; many = c.1.1.1.1.0; runs = c.1.1.1.1.1.0; gives = c.1.1.1.1.1.1.0; what = c.1.1.1.1.1.1.1 })
+term_code = code_by (List ℕ × (Role × (List Input × (ℕ × (Bool × (Turns × (Kinds × (Kinds × What))))))))
+    (coded× (coded_list coded_ℕ) (coded× role_code (coded× (coded_list input_code) (coded× coded_ℕ (coded× coded_bool (coded× turns_code (coded× kinds_code (coded× kinds_code what_code))))))))
+    (λ t. (t.name, (t.role, (t.inputs, (t.values, (t.many, (t.turns, (t.runs, (t.gives, t.what)))))))))
+    (λ c. record { name = c.0; role = c.1.0; inputs = c.1.1.0; values = c.1.1.1.0; many = c.1.1.1.1.0; turns = c.1.1.1.1.1.0; runs = c.1.1.1.1.1.1.0; gives = c.1.1.1.1.1.1.1.0; what = c.1.1.1.1.1.1.1.1 })
     (λ _. refl)

@@ -6,32 +6,34 @@ use Rattle.nl_tree.specs.declared.tree.Label.{Label}
 use Rattle.nl_tree.specs.declared.tree.Label.TheVariants as label
 use Rattle.nl_tree.specs.Tree.{Node, node, Nodes, none, more}
 
--- a label as its kind, a number and a text
+-- a label as its kind, a number, a text and a list of texts
 abbrev pub Written : Type 0
-Written = ℕ × (ℤ × List ℕ)
+Written = ℕ × (ℤ × (List ℕ × List (List ℕ)))
 
 abbrev pub label_written : Label → Written
-label_written (label.Number n) = (0, (n, []))
-label_written (label.Text bytes) = (1, (pos 0, bytes))
-label_written label.List = (2, (pos 0, []))
-label_written (label.Named bytes) = (3, (pos 0, bytes))
-label_written label.Negate = (4, (pos 0, []))
-label_written label.Paren = (5, (pos 0, []))
-label_written label.Commands = (6, (pos 0, []))
-label_written label.Reporter = (7, (pos 0, []))
+label_written (label.Number n) = (0, (n, ([], [])))
+label_written (label.Text bytes) = (1, (pos 0, (bytes, [])))
+label_written label.List = (2, (pos 0, ([], [])))
+label_written (label.Named bytes) = (3, (pos 0, (bytes, [])))
+label_written label.Negate = (4, (pos 0, ([], [])))
+label_written label.Paren = (5, (pos 0, ([], [])))
+label_written label.Commands = (6, (pos 0, ([], [])))
+label_written label.Reporter = (7, (pos 0, ([], [])))
+label_written (label.Arrow names) = (8, (pos 0, ([], names)))
 
-abbrev pub label_of : ℕ → ℤ → List ℕ → Label
-label_of zero n bytes = label.Number n
-label_of (suc zero) n bytes = label.Text bytes
-label_of (suc (suc zero)) n bytes = label.List
-label_of (suc (suc (suc zero))) n bytes = label.Named bytes
-label_of (suc (suc (suc (suc zero)))) n bytes = label.Negate
-label_of (suc (suc (suc (suc (suc zero))))) n bytes = label.Paren
-label_of (suc (suc (suc (suc (suc (suc zero)))))) n bytes = label.Commands
-label_of (suc (suc (suc (suc (suc (suc (suc k))))))) n bytes = label.Reporter
+abbrev pub label_of : ℕ → ℤ → List ℕ → List (List ℕ) → Label
+label_of zero n bytes names = label.Number n
+label_of (suc zero) n bytes names = label.Text bytes
+label_of (suc (suc zero)) n bytes names = label.List
+label_of (suc (suc (suc zero))) n bytes names = label.Named bytes
+label_of (suc (suc (suc (suc zero)))) n bytes names = label.Negate
+label_of (suc (suc (suc (suc (suc zero))))) n bytes names = label.Paren
+label_of (suc (suc (suc (suc (suc (suc zero)))))) n bytes names = label.Commands
+label_of (suc (suc (suc (suc (suc (suc (suc zero))))))) n bytes names = label.Reporter
+label_of (suc (suc (suc (suc (suc (suc (suc (suc k)))))))) n bytes names = label.Arrow names
 
 abbrev pub label_read : Written → Label
-label_read w = label_of w.0 w.1.0 w.1.1
+label_read w = label_of w.0 w.1.0 w.1.1.0 w.1.1.1
 
 label_again : (l : Label) → label_read (label_written l) ≡ l
 label_again (label.Number n) = refl
@@ -42,6 +44,7 @@ label_again label.Negate = refl
 label_again label.Paren = refl
 label_again label.Commands = refl
 label_again label.Reporter = refl
+label_again (label.Arrow names) = refl
 
 -- a node without its parts: label, place, number of parts
 abbrev pub Item : Type 0
@@ -111,7 +114,8 @@ pub again : (t : Node) → from_code (to_code t) ≡ t
 again t = ap (λ q. q.0) (read-written t (room t) [] (omega arith))
 
 abbrev pub coded_item : Coded Item
-coded_item = coded× (coded× coded_ℕ (coded× coded_ℤ (coded_list coded_ℕ))) (coded× (coded× coded_ℕ coded_ℕ) coded_ℕ)
+coded_item =
+    coded× (coded× coded_ℕ (coded× coded_ℤ (coded× (coded_list coded_ℕ) (coded_list (coded_list coded_ℕ))))) (coded× (coded× coded_ℕ coded_ℕ) coded_ℕ)
 
 abbrev pub node_code : Coded Node
 node_code = code_by (ℕ × List Item) (coded× coded_ℕ (coded_list coded_item)) to_code from_code again
