@@ -28,7 +28,7 @@ use Rattle.nl_exec_meaning.specs.State.{State, Outcome, Eval, come_to, found, go
 use Rattle.nl_exec_meaning.specs.Running.{allowed, staying}
 use Rattle.nl_exec_meaning.specs.Variables.{make_local, assign}
 use Rattle.nl_exec_meaning.specs.Walks.{at_stream}
-use Rattle.nl_exec_meaning.specs.Meaning.{built_case, by_case, cases, control_case, evaluator, limited, name_in, slot_in, spread_case, text, text_by, text_statements, unless}
+use Rattle.nl_exec_meaning.specs.Meaning.{built_case, by_case, cases, control_case, evaluator, limited, name_in, nesting_limit, slot_in, spread_case, text, text_by, text_statements, unless}
 use Rattle.nl_check_model.specs.Laws.{bare}
 
 -- what a label is beside a table of words, whatever the index is
@@ -140,4 +140,4 @@ module _ (p : Checked) where
 
   -- what a lone text means beside the program
   pub text_same : (f : Form) (t : Node) (s : State) → text (bare p) f t s ≡ text p f t s
-  text_same f t s = text_by_same 500 f t s
+  text_same f t s = text_by_same nesting_limit f t s

@@ -1,5 +1,5 @@
 //! The machine, in slices of units.
-ghost use Rattle.std.specs.Prelude.{◌≡◌, ◌≤◌, ◌<◌, ◌+◌, IsTrue, IfOk, vec_len};
+ghost use Rattle.std.specs.Prelude.{◌≡◌, ◌≤◌, ◌<◌, ◌+◌, [], IsTrue, IfOk, vec_len};
 ghost use Rattle.nl_value.specs.Views.{plain};
 ghost use Rattle.nl_agents_layout.specs.Layouts.{layout_of};
 ghost use Rattle.nl_agents.specs.Changes.{revalued};
@@ -19,15 +19,15 @@ use nl_exec_levels::focus::Stop;
 use nl_exec_levels::levels::{Level, copy_levels};
 use nl_exec_levels::run::spend_units;
 use nl_exec_meaning::sound::program_is_sound;
-use nl_exec_meaning::{Code, Hands, Locals, Site};
+use nl_exec_meaning::{Code, Hands, Locals, NESTING_LIMIT, Site};
 use nl_fixed::NoMemory;
 use nl_grid::Shape;
 use nl_tree::{Form, Program, Tree};
 use nl_value::Value;
 use std::alloc::Global;
 
-/// How deep nodes may be evaluated in each other. A lone text's own node has the nesting 1.
-const NESTING_LIMIT: usize = 500;
+// For so many levels a machine keeps its room between texts.
+const KEPT_LEVELS: usize = 1_000;
 
 /// How a slice ends.
 #[derive(Drop)]
@@ -39,6 +39,8 @@ pub enum Turn {
 }
 
 /// A machine over a program and a store, which runs one text after another and can be stopped at any unit.
+///
+/// It takes memory for the levels of nesting that a text reaches; when the text is over it keeps room for a thousand of them at most.
 ///
 /// Once memory was wanting in `begin`, `advance` or `finish`, each of these answers so from then on.
 #[derive(Drop)]
@@ -239,7 +241,10 @@ impl<'a, S: Store> Machine<'a, S> {
     {
         match self.phase {
             Phase::Failed | Phase::Closed => {}
-            Phase::Begun(_) | Phase::Waiting(_) => self.phase = Phase::Closed,
+            Phase::Begun(_) | Phase::Waiting(_) => {
+                self.phase = Phase::Closed;
+                clear(&mut self.levels);
+            }
         }
     }
 
@@ -326,11 +331,13 @@ impl<'a, S: Store> Machine<'a, S> {
         match stop {
             Stop::End(exit) => {
                 self.phase = Phase::Closed;
+                clear(&mut self.levels);
                 Ok(Turn::Ended(end_of(self.form, exit)))
             }
             Stop::Wanted(wish) => {
                 if self.spent == self.budget {
                     self.phase = Phase::Closed;
+                    clear(&mut self.levels);
                     return Ok(Turn::Ended(End::Budget));
                 }
                 self.phase = Phase::Waiting(wish);
@@ -361,6 +368,15 @@ impl<'a, S: Store> Machine<'a, S> {
             Turn::More => unreachable!(),
         }
     }
+}
+
+// Lets go of the levels of a text that is over, and of room that few texts want.
+fn clear(levels: &mut Vec<Level>)
+    ensures items { levels.new.items ≡ [] }
+    ensures len { vec_len levels.new ≡ 0 }
+{
+    levels.clear();
+    levels.shrink_to(KEPT_LEVELS);
 }
 
 // Who runs a lone text.

@@ -37,7 +37,8 @@ fn bind(alloc: Global, code: &Code, procedure: u32, made: &Items) -> Result<Loca
         all_held code.now.names locals ≡ bound (inputs_at code.now.program procedure) made.now) }
     ensures fits { (g : Ground) → IsTrue (all_fit g made.now) → IfOk result (λ locals. LocalsFit g locals) }
 {
-    let mut locals = Locals::empty(alloc);
+    let many = made.len();
+    let mut locals = Locals::with_room(alloc, many)?;
     for value in made.as_slice() {
         let Some(id) = code.input(procedure, locals.len()) else {
             return Ok(locals);

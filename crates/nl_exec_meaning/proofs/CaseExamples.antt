@@ -14,7 +14,7 @@ use Rattle.nl_birth.specs.Looks.{looks_in_order, heading_in_order}
 use Rattle.nl_exec_acts.specs.declared.fail.ErrorKind.TheVariants.{WrongType, WrongContext, TooLarge, TooNested}
 use Rattle.nl_exec_meaning.specs.State.{Exit, Gives, Stopped, Budget, Error}
 use Rattle.nl_exec_meaning.specs.Blocks.{unending}
-use Rattle.nl_exec_meaning.specs.Meaning.{cases, evaluator, text_by}
+use Rattle.nl_exec_meaning.specs.Meaning.{cases, evaluator, nesting_limit, text_by}
 use Rattle.nl_exec_meaning.proofs.Samples.{model, empty_model, procedure, at, word_at, word, one, number, block, expression, literal, text_of, minus_at, one_patch, beginning, runs, exit_of, living, x_in, y_in, x_after, value_of}
 
 -- ---- values
@@ -130,12 +130,10 @@ pub too_deep_is_an_error : (diving 3 ≡ Gives PlainNobody) × (diving 4 ≡ Err
 unfolding cases evaluator rows layout_of difference_of as_number
 too_deep_is_an_error = (refl, refl)
 
--- dive 123 and dive 124 with the room that there is
-pub nesting_has_a_limit :
-    (exit_of with_dive (block (word "dive" (number 123 ∷ []) ∷ [])) 999 ≡ Gives PlainNobody)
-    × (exit_of with_dive (block (word "dive" (number 124 ∷ []) ∷ [])) 999 ≡ Error TooNested (at 17) 1)
+-- dive 124 lies 501 deep, and that fits into the room that there is
+pub nesting_has_room : (nesting_limit ≡ 200000) × (exit_of with_dive (block (word "dive" (number 124 ∷ []) ∷ [])) 999 ≡ Gives PlainNobody)
 unfolding cases evaluator rows layout_of difference_of as_number
-nesting_has_a_limit = (refl, refl)
+nesting_has_room = (refl, refl)
 
 -- repeat N [ set x list x 1 ]: a list is one deeper than what it holds
 abbrev nested_lists : ℕ → Node

@@ -42,6 +42,7 @@ use Rattle.nl_exec_meaning.specs.Calls.{call_case}
 use Rattle.nl_exec_meaning.specs.Steps.{walk_case}
 use Rattle.nl_exec_meaning.specs.Walks.{over_case, at_stream}
 use Rattle.nl_exec_meaning.specs.Makings.{making_case}
+use Rattle.nl_exec_meaning.specs.declared.nesting.TheConstants.{NESTING_LIMIT}
 
 -- ---- acts
 
@@ -188,7 +189,7 @@ evaluator p (suc room) t s = limited (span t) (cases p (evaluator p room) t s)
 
 -- how deep nodes may be evaluated in each other: a lone text's own node has the nesting 1
 abbrev pub nesting_limit : ℕ
-nesting_limit = 500
+nesting_limit = NESTING_LIMIT
 
 -- ---- lone texts
 

@@ -46,6 +46,15 @@ impl Locals {
         }
     }
 
+    /// No locals, and room for so many.
+    pub fn with_room(alloc: Global, many: usize) -> Result<Locals, NoMemory>
+        ensures { IfOk result (λ locals. locals ≡ []) }
+    {
+        Ok(Locals {
+            list: Vec::with_capacity(alloc, many)?,
+        })
+    }
+
     /// Makes a local, which is the newest one, or leaves all as they were.
     pub fn push(&mut self, _alloc: Global, local: Local) -> Result<(), NoMemory>
         ensures ok { OnOk result (self.new ≡ self.old ++ kept local ∷ []) }
@@ -105,7 +114,7 @@ impl Locals {
     pub fn copy(&self, alloc: Global) -> Result<Locals, NoMemory>
         ensures { IfOk result (λ locals. locals ≡ self.now) }
     {
-        let mut copied = Locals::empty(alloc);
+        let mut copied = Locals::with_room(alloc, self.list.len())?;
         for local in &self.list {
             let value = local.value.copy(alloc)?;
             let again = Local {

@@ -1,6 +1,6 @@
 //! Statements, turns and steps that can be done without frames, and what keeps them from it.
 use crate::playing::{wrong_in, wrong_with};
-use crate::rows::{BOX, Ends, FINE, Row, WIDE};
+use crate::rows::{AT_ONCE, BOX, Ends, FINE, Row, WIDE};
 use nl_exec_acts::ErrorKind;
 
 const MODEL: &str =
@@ -667,93 +667,93 @@ fn steps_end_at_the_edge(rt: HostRuntime) {
     assert!(rt; wrong.is_none(), "{wrong:?}");
 }
 
-// Statements at the bottom of a procedure that calls itself, near the limit of 500 nodes in each other.
+// Statements at the bottom of a procedure that calls itself, near the limit of 200,000 nodes in each other.
 const DEEP: &[Row] = &[
-    // All that stands at the bottom fits: its deepest node is the 494th, and so on to the 500th.
+    // All that stands at the bottom fits: its deepest node is the 199,994th, and so on to the last one.
     Row {
-        text: "sink 121",
+        text: "sink 49996",
         ends: Ends::Done,
-        spent: 251,
+        spent: 100_001,
         looks: &[("(list a b c)", Ends::Says("[1 3 2]"))],
     },
     Row {
-        text: "(sink 121)",
+        text: "(sink 49996)",
         ends: Ends::Done,
-        spent: 251,
+        spent: 100_001,
         looks: &[("(list a b c)", Ends::Says("[1 3 2]"))],
     },
     Row {
-        text: "if true [ sink 121 ]",
+        text: "if true [ sink 49996 ]",
         ends: Ends::Done,
-        spent: 252,
+        spent: 100_002,
         looks: &[("(list a b c)", Ends::Says("[1 3 2]"))],
     },
     Row {
-        text: "if true [ (sink 121) ]",
+        text: "if true [ (sink 49996) ]",
         ends: Ends::Done,
-        spent: 252,
+        spent: 100_002,
         looks: &[("(list a b c)", Ends::Says("[1 3 2]"))],
     },
     Row {
-        text: "sink 122",
+        text: "sink 49997",
         ends: Ends::Done,
-        spent: 253,
+        spent: 100_003,
         looks: &[("(list a b c)", Ends::Says("[1 3 2]"))],
     },
     Row {
-        text: "(sink 122)",
+        text: "(sink 49997)",
         ends: Ends::Done,
-        spent: 253,
+        spent: 100_003,
         looks: &[("(list a b c)", Ends::Says("[1 3 2]"))],
     },
     Row {
-        text: "if true [ sink 122 ]",
+        text: "if true [ sink 49997 ]",
         ends: Ends::Done,
-        spent: 254,
+        spent: 100_004,
         looks: &[("(list a b c)", Ends::Says("[1 3 2]"))],
     },
     // The last statement is too deep, then the second, then the first, and then the test above them.
     Row {
-        text: "if true [ (sink 122) ]",
+        text: "if true [ (sink 49997) ]",
         ends: Ends::Fails(ErrorKind::TooNested, 103, 1),
-        spent: 252,
+        spent: 100_002,
         looks: &[("(list a b c)", Ends::Says("[1 3 0]"))],
     },
     Row {
-        text: "sink 123",
+        text: "sink 49998",
         ends: Ends::Fails(ErrorKind::TooNested, 76, 1),
-        spent: 250,
+        spent: 100_000,
         looks: &[("(list a b)", Ends::Says("[1 0]"))],
     },
     Row {
-        text: "(sink 123)",
+        text: "(sink 49998)",
         ends: Ends::Fails(ErrorKind::TooNested, 64, 1),
-        spent: 249,
+        spent: 99_999,
         looks: &[("(list a b)", Ends::Says("[0 0]"))],
     },
     Row {
-        text: "if true [ sink 123 ]",
+        text: "if true [ sink 49998 ]",
         ends: Ends::Fails(ErrorKind::TooNested, 66, 1),
-        spent: 250,
+        spent: 100_000,
         looks: &[("(list a b)", Ends::Says("[0 0]"))],
     },
     Row {
-        text: "if true [ (sink 123) ]",
+        text: "if true [ (sink 49998) ]",
         ends: Ends::Fails(ErrorKind::TooNested, 35, 1),
-        spent: 249,
+        spent: 99_999,
         looks: &[("(list a b)", Ends::Says("[0 0]"))],
     },
     // The same in a turn of agents.
     Row {
-        text: "cro 2 ask turtles [ sink 122 ]",
+        text: "cro 2 ask turtles [ sink 49997 ]",
         ends: Ends::Done,
-        spent: 510,
+        spent: 200_010,
         looks: &[("(list a b c)", Ends::Says("[2 5 6]"))],
     },
 ];
 
 #[test]
 fn the_deepest_statements_end_as_told(rt: HostRuntime) {
-    let wrong = wrong_in(rt.alloc(), DIVE, WIDE, DEEP, FINE);
+    let wrong = wrong_in(rt.alloc(), DIVE, WIDE, DEEP, AT_ONCE);
     assert!(rt; wrong.is_none(), "{wrong:?}");
 }

@@ -17,9 +17,9 @@ use Rattle.nl_exec_cases.proofs.calls.bind.Goals as goal
 
 pub loop-value-init : goal.loop-value-init
 loop-value-init c = record {
-  many = ap length c.empty-locals.ensures;
-  held = ap (all_held c.args.code.now.names) c.empty-locals.ensures ∙ sym (bound_none (inputs_at c.args.code.now.program c.args.procedure));
-  fit = λ g all. subst (λ (ks : List Kept). LocalsFit g ks) (sym c.empty-locals.ensures) refl;
+  many = ap length c.in_ok-locals.ensures;
+  held = ap (all_held c.args.code.now.names) c.in_ok-locals.ensures ∙ sym (bound_none (inputs_at c.args.code.now.program c.args.procedure));
+  fit = λ g all. subst (λ (ks : List Kept). LocalsFit g ks) (sym c.in_ok-locals.ensures) refl;
 }
 
 pub returns-in_default-clause-held : goal.returns-in_default-clause-held

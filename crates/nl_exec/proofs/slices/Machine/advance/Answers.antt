@@ -1,9 +1,11 @@
 -- What is kept of a checked program is steady, and where more is to come no unit is left, and all that were asked for could be spent.
-use Rattle.std.proofs.Common.{◌≡◌, ℕ, ◌+◌, Some, ap, subst, ◌∙◌, sym, arith}
-use Rattle.nl_exec_meaning.specs.Seen.{ended, state_of}
+use Rattle.std.proofs.Common.{◌≡◌, ℕ, ◌+◌, List, Some, ap, subst, ◌∙◌, sym, arith}
+use Rattle.nl_exec_meaning.specs.Seen.{ended, ground, state_of}
 use Rattle.nl_exec_meaning.specs.State.{ends}
 use Rattle.nl_exec_meaning.specs.Sound.{IsSound}
 use Rattle.nl_exec_levels.specs.declared.focus.Focus.TheVariants as focus
+use Rattle.nl_exec_levels.specs.Steady.{LevelsFit}
+use Rattle.nl_exec_levels.specs.declared.levels.Level.{Level}
 use Rattle.nl_exec_levels.specs.Rest.{rest, stopped, stop_exit}
 use Rattle.nl_exec.specs.Slices.{focus_of, rest_by}
 use Rattle.nl_exec.specs.Machines.{with_more}
@@ -30,7 +32,8 @@ invariant_of-self-then-self-clause-kept g c = λ well.
     (c.in_ok-stop.ensures.steady.laid, c.in_ok-stop.ensures.steady.fit)
 
 pub invariant_of-self-then-self-clause-held : goal.invariant_of-self-then-self-clause-held
-invariant_of-self-then-self-clause-held g c = λ well. c.in_ok-stop.ensures.steady.held
+invariant_of-self-then-self-clause-held g c = λ well.
+    subst (λ (ls : List Level). LevelsFit (ground c.spend_units.new.hands) ls) (sym c.clear-then-self.ensures.items) tt
 
 pub invariant_of-self-in-Wanted-clause-held : goal.invariant_of-self-in-Wanted-clause-held
 invariant_of-self-in-Wanted-clause-held g c = λ well. c.in_ok-stop.ensures.steady.held
