@@ -18,3 +18,5 @@ pub mod Outcomes
 pub mod Bare
 pub mod RowsAlike
 pub mod Unique
+pub mod WidgetSlots
+pub mod SetNames

@@ -6,4 +6,5 @@ pub mod Table
 pub mod Answer
 pub mod Outcome
 pub mod Laws
+pub mod SettingLaws
 pub mod inner

@@ -1,5 +1,6 @@
 //! What the definition of answers means. These functions do nothing: the contract of each is a law.
 ghost use Rattle.nl_cli.specs.Laws.{AnswersAreAlike, AnswersAreUnique, ChecksTellOfTables, TablesAreInParts, TablesAreLines, WordsHaveAnswers};
+ghost use Rattle.nl_cli.specs.SettingLaws.{JobsSetTheirNames};
 
 /// A list of words has one status over a folder, and one answer at most where nothing is put.
 pub fn answers_are_alike()
@@ -29,4 +30,10 @@ pub fn checks_tell_of_tables()
 /// A table is its lines.
 pub fn tables_are_lines()
     ensures { TablesAreLines }
+{}
+
+/// Whatever a run of a job sets is a global variable of its program, or belongs to the run itself, as a bound of its world or its seed. So no
+/// setting is passed over.
+pub fn jobs_set_their_names()
+    ensures { JobsSetTheirNames }
 {}
