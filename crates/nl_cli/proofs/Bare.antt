@@ -101,6 +101,7 @@ module _ (p : Checked) where
       → built_case word breed (bare p) runs prev t s ≡ built_case word breed p runs prev t s
   built_same (built.Control word) breed runs prev t s = control_same word runs prev t s
   built_same (built.Over word) breed runs prev t s = refl
+  built_same (built.Arrow word) breed runs prev t s = refl
   built_same (built.Making word) breed runs prev t s = refl
   built_same (built.Spread word) breed runs prev t s = spread_same word runs prev t s
   built_same (built.Act act) breed runs prev t s = refl

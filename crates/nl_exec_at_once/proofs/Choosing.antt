@@ -1,5 +1,5 @@
 -- What a test chooses.
-use Rattle.std.proofs.Common.{◌≡◌, ◌+◌, ◌<◌, ℕ, suc, Bool, true, false, Option, Some, slice_get, ap, ◌∙◌, arith}
+use Rattle.std.proofs.Common.{◌≡◌, ◌+◌, ◌<◌, ℕ, suc, Bool, true, false, List, [], ◌∷◌, Option, Some, length, slice_get, refl, ap, ◌∙◌, arith}
 use Rattle.nl_words.specs.declared.entry.Kinds.{Kinds}
 use Rattle.nl_agents_layout.specs.Nouns.{BreedNumber}
 use Rattle.nl_value.specs.Plain.{Plain, PlainTruth}
@@ -13,7 +13,7 @@ use Rattle.nl_exec_meaning.specs.Code.{Code, node_at}
 use Rattle.nl_exec_meaning.specs.declared.words.Built.TheVariants as built
 use Rattle.nl_exec_meaning.specs.Running.{allowed}
 use Rattle.nl_exec_meaning.specs.State.{State, Outcome, Eval, choose, found, gives, goes_on, with_truth, ◌>>=◌}
-use Rattle.nl_exec_meaning.specs.Blocks.{part_of, tested}
+use Rattle.nl_exec_meaning.specs.Blocks.{chosen, part_of, tested}
 use Rattle.nl_exec_meaning.specs.Meaning.{control_case, evaluator, limited}
 use Rattle.nl_exec_meaning.specs.Seen.{state_of}
 use Rattle.nl_exec_meaning.specs.declared.hands.Hands.{Hands}
@@ -35,13 +35,35 @@ tested_as prev t part truth s s1 next there gives_it =
 -- ---- what the word's case is then
 
 module _ (p : Checked) (runs : Kinds) (prev : Eval) (t part : Node) (s s1 : State) (there : slice_get (parts t) 0 ≡ Some part) where
-  pub chooses_first : (either : Bool) → prev part s ≡ gives (PlainTruth true) s1 → control_case (choosing either) p runs prev t s ≡ part_of prev t 1 s1
-  chooses_first true gives_it = tested_as prev t part true s s1 (λ truth s2. choose truth (part_of prev t 1 s2) (part_of prev t 2 s2)) there gives_it
-  chooses_first false gives_it = tested_as prev t part true s s1 (λ truth s2. choose truth (part_of prev t 1 s2) (goes_on s2)) there gives_it
+  -- what comes of the test of two blocks
+  abbrev behind : Node → Node → Outcome → Outcome
+  behind first second o = o >>= λ value s2. with_truth value (span t) s2 (λ truth. choose truth (prev first s2) (prev second s2))
 
-  pub chooses_second : (either : Bool) → either ≡ true → prev part s ≡ gives (PlainTruth false) s1 → control_case (choosing either) p runs prev t s ≡ part_of prev t 2 s1
-  chooses_second true is gives_it = tested_as prev t part false s s1 (λ truth s2. choose truth (part_of prev t 1 s2) (part_of prev t 2 s2)) there gives_it
-  chooses_second false is gives_it = absurd (cc)
+  first_of_two : (ts : List Node) → length ts ≡ 3 → slice_get ts 0 ≡ Some part → prev part s ≡ gives (PlainTruth true) s1 →
+      chosen prev (span t) goes_on ts s ≡ found (slice_get ts 1) WrongType (span t) s1 (λ x. prev x s1)
+  first_of_two [] three is gives_it = absurd (omega (arith, three))
+  first_of_two (x ∷ []) three is gives_it = absurd (omega (arith, three))
+  first_of_two (x ∷ y ∷ []) three is gives_it = absurd (omega (arith, three))
+  first_of_two (x ∷ y ∷ z ∷ []) three is gives_it =
+      let same : x ≡ part = cc in ap (behind y z) (ap (λ (n : Node). prev n s) same ∙ gives_it)
+  first_of_two (x ∷ y ∷ z ∷ w ∷ ts) three is gives_it = absurd (omega (arith, three))
+
+  second_of_two : (ts : List Node) → length ts ≡ 3 → slice_get ts 0 ≡ Some part → prev part s ≡ gives (PlainTruth false) s1 →
+      chosen prev (span t) goes_on ts s ≡ found (slice_get ts 2) WrongType (span t) s1 (λ x. prev x s1)
+  second_of_two [] three is gives_it = absurd (omega (arith, three))
+  second_of_two (x ∷ []) three is gives_it = absurd (omega (arith, three))
+  second_of_two (x ∷ y ∷ []) three is gives_it = absurd (omega (arith, three))
+  second_of_two (x ∷ y ∷ z ∷ []) three is gives_it =
+      let same : x ≡ part = cc in ap (behind y z) (ap (λ (n : Node). prev n s) same ∙ gives_it)
+  second_of_two (x ∷ y ∷ z ∷ w ∷ ts) three is gives_it = absurd (omega (arith, three))
+
+  pub chooses_first : (either : Bool) → (either ≡ true → length (parts t) ≡ 3) → prev part s ≡ gives (PlainTruth true) s1 → control_case (choosing either) p runs prev t s ≡ part_of prev t 1 s1
+  chooses_first true plain gives_it = first_of_two (parts t) (plain refl) there gives_it
+  chooses_first false plain gives_it = tested_as prev t part true s s1 (λ truth s2. choose truth (part_of prev t 1 s2) (goes_on s2)) there gives_it
+
+  pub chooses_second : (either : Bool) → (either ≡ true → length (parts t) ≡ 3) → either ≡ true → prev part s ≡ gives (PlainTruth false) s1 → control_case (choosing either) p runs prev t s ≡ part_of prev t 2 s1
+  chooses_second true plain is gives_it = second_of_two (parts t) (plain refl) there gives_it
+  chooses_second false plain is gives_it = absurd (cc)
 
   pub chooses_nothing : (either : Bool) → either ≡ false → prev part s ≡ gives (PlainTruth false) s1 → control_case (choosing either) p runs prev t s ≡ goes_on s1
   chooses_nothing true is gives_it = absurd (cc)
@@ -52,7 +74,7 @@ module _ (p : Checked) (runs : Kinds) (prev : Eval) (t part : Node) (s s1 : Stat
 module _ {S : Type 0} {G : Ghosts S} (c : Code) (node part : ℕ) (runs : Kinds) (breed : Option BreedNumber) (either : Bool) (drawn before : Hands S G) (units : ℕ)
     (is : case.Word runs breed (built.Control (choosing either)) ≡ case_of c.program.declared (label (node_at c node)))
     (may : (n : ℕ) (next : Outcome) → allowed runs (span (node_at c node)) (state_of c.names before n) next ≡ next)
-    (there : slice_get (parts (node_at c node)) 0 ≡ Some (node_at c part)) where
+    (there : slice_get (parts (node_at c node)) 0 ≡ Some (node_at c part)) (plain : either ≡ true → length (parts (node_at c node)) ≡ 3) where
   -- the block at the index comes to what is left of it
   abbrev pub Chosen : ℕ → Done → (after : Hands S G) → ℕ → Type 0
   Chosen index how after left = (room n : ℕ) → suc plain_nested < room →
@@ -73,7 +95,7 @@ module _ {S : Type 0} {G : Ghosts S} (c : Code) (node part : ℕ) (runs : Kinds)
   goes_by_first how after left draws chosen = by-case how after left (λ room n deep.
       ap (limited (span (node_at c node)))
       (chooses_first c.program runs (evaluator c.program room) (node_at c node) (node_at c part) (state_of c.names before (units + n)) (state_of c.names drawn (units + n)) there
-      either (draws room (units + n) deep))
+      either plain (draws room (units + n) deep))
       ∙ chosen room n (omega (arith, deep)))
 
   pub goes_by_second : either ≡ true → (how : Done) (after : Hands S G) (left : ℕ) → IsDrawn c drawn before part 9 (PlainTruth false) → Chosen 2 how after left →
@@ -81,7 +103,7 @@ module _ {S : Type 0} {G : Ghosts S} (c : Code) (node part : ℕ) (runs : Kinds)
   goes_by_second both how after left draws chosen = by-case how after left (λ room n deep.
       ap (limited (span (node_at c node)))
       (chooses_second c.program runs (evaluator c.program room) (node_at c node) (node_at c part) (state_of c.names before (units + n)) (state_of c.names drawn (units + n)) there
-      either both (draws room (units + n) deep))
+      either plain both (draws room (units + n) deep))
       ∙ chosen room n (omega (arith, deep)))
 
   pub goes_by_none : either ≡ false → IsDrawn c drawn before part 9 (PlainTruth false) → GoesUpTo c node most_nested done.Whole drawn units before units

@@ -1,5 +1,5 @@
 //! Statements that are done at once.
-ghost use Rattle.std.specs.Prelude.{◌≡◌, ◌+◌, ◌^◌, ◌<◌, ◌≤◌, ℕ, suc, Option, None, IfSome, true, false, drop};
+ghost use Rattle.std.specs.Prelude.{◌≡◌, ◌+◌, ◌^◌, ◌<◌, ◌≤◌, ℕ, suc, Option, None, IfSome, true, false, drop, length};
 ghost use Rattle.nl_agents_layout.specs.Nouns.{BreedNumber};
 ghost use Rattle.nl_exec_acts.specs.Acts.{is_gone};
 ghost use Rattle.nl_tree.specs.Tree.{label, parts, span};
@@ -235,7 +235,15 @@ fn do_chosen<S: Store>(
     }))
 }
 
-// `if` is done, or `ifelse` where there are two blocks; a test that draws is undone where the rest can't be done at once.
+// Whether the word has one condition, and as many blocks as it has in its plain form.
+#[inline(always)]
+fn is_plain(code: &Code, node: u32, either: bool) -> bool
+    ensures { result ≡ true → either ≡ true → length (parts (node_at code.now node)) ≡ 3 }
+{
+    !either || code.count(node) == 3
+}
+
+// `if` is done, or `ifelse` of one condition and two blocks; a test that draws is undone where the rest can't be done at once.
 #[inline(never)]
 fn choose<S: Store>(
     alloc: Global,
@@ -262,6 +270,9 @@ fn choose<S: Store>(
     let Some(part) = code.part(node, 0) else {
         return None;
     };
+    if !is_plain(code, node, either) {
+        return None;
+    }
     let mark = hands.stage.stream.save();
     let done = match truth_or_chance(alloc, code, hands, part) {
         Some(true) => do_chosen(alloc, code, hands, node, 1, units),

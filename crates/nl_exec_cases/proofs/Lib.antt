@@ -1,3 +1,4 @@
+pub mod Choosing
 pub mod Statements
 pub mod Binding
 pub mod Sharing

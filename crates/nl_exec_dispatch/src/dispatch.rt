@@ -22,14 +22,16 @@ ghost use Rattle.nl_exec_meaning.specs.Work.{frame_work, next_work};
 
 use nl_agents::Store;
 use nl_exec_acts::ErrorKind;
+use nl_exec_arrows::inputs::{enter_arrow, resume_input};
+use nl_exec_arrows::rounds::{resume_round, resume_wanted};
 use nl_exec_cases::blocks::{
     enter_inside, enter_negation, enter_statements, next_text_statement, resume_negated,
     resume_statement, resume_text_statement,
 };
 use nl_exec_cases::calls::{enter_report, resume_body, resume_report};
 use nl_exec_cases::choices::{
-    enter_and, enter_either, enter_if, enter_or, resume_and, resume_either, resume_if, resume_or,
-    resume_right,
+    enter_and, enter_if, enter_ifelse, enter_ifelse_value, enter_or, resume_and, resume_either,
+    resume_if, resume_or, resume_right,
 };
 use nl_exec_cases::loops::{
     enter_loop, enter_repeat, enter_while, resume_loop, resume_repeat, resume_test, resume_turn,
@@ -83,7 +85,8 @@ fn enter_control<S: Store>(
         Control::Report => enter_report(code, hands, node),
         Control::Die => Next::Answer(enter_die(code, hands)),
         Control::If => enter_if(code, hands, node),
-        Control::IfElse | Control::IfElseValue => enter_either(code, hands, node),
+        Control::IfElse => enter_ifelse(code, hands, node),
+        Control::IfElseValue => enter_ifelse_value(code, hands, node),
         Control::Repeat => enter_repeat(code, hands, node),
         Control::While => enter_while(code, hands, node),
         Control::Loop => enter_loop(code, hands, node),
@@ -173,6 +176,7 @@ fn enter_built<S: Store>(
         Built::Spread(word) => Ok(enter_spread(code, hands, node, runs, word)),
         Built::Act(_) => enter_parts(alloc, code, hands, node),
         Built::Over(word) => Ok(enter_over(code, hands, node, word)),
+        Built::Arrow(word) => enter_arrow(alloc, code, hands, node, word),
         Built::Making(word) => Ok(enter_making(code, hands, node, runs, breed, word)),
     }
 }
@@ -299,7 +303,9 @@ pub fn resume<S: Store>(
         Frame::OrLeft { node } => Ok(resume_or(code, hands, node, exit)),
         Frame::RightSide { node } => Ok(resume_right(code, hands, node, exit)),
         Frame::IfTest { node } => Ok(resume_if(code, hands, node, exit)),
-        Frame::EitherTest { node } => Ok(resume_either(code, hands, node, exit)),
+        Frame::EitherTest { node, at, valued } => {
+            Ok(resume_either(code, hands, node, at, valued, exit))
+        }
         Frame::RepeatCount { node } => Ok(resume_repeat(code, hands, node, exit)),
         Frame::RepeatTurn { node, left } => Ok(resume_turn(code, hands, node, left, exit)),
         Frame::WhileTest { node } => Ok(resume_test(code, hands, node, exit)),
@@ -364,6 +370,25 @@ pub fn resume<S: Store>(
             slot,
             four,
         } => { resume_share(alloc, code, hands, node, runs, slot, four, exit) }
+        Frame::ArrowInput {
+            node,
+            word,
+            at,
+            made,
+        } => { resume_input(alloc, code, hands, node, word, at, made, exit) }
+        Frame::RoundWanted {
+            node,
+            index,
+            word,
+            rounds,
+        } => { resume_wanted(alloc, code, hands, node, index, word, rounds, exit) }
+        Frame::Round {
+            node,
+            index,
+            word,
+            kept,
+            rounds,
+        } => { resume_round(alloc, code, hands, node, index, word, kept, rounds, exit) }
     }
 }
 

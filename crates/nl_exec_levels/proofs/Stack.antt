@@ -71,7 +71,7 @@ budget_passes c prev (frame.AndLeft node) s = refl
 budget_passes c prev (frame.OrLeft node) s = refl
 budget_passes c prev (frame.RightSide node) s = refl
 budget_passes c prev (frame.IfTest node) s = refl
-budget_passes c prev (frame.EitherTest node) s = refl
+budget_passes c prev (frame.EitherTest node at valued) s = refl
 budget_passes c prev (frame.RepeatCount node) s = refl
 budget_passes c prev (frame.RepeatTurn node left) s = refl
 budget_passes c prev (frame.WhileTest node) s = refl
@@ -90,6 +90,9 @@ budget_passes c prev (frame.OfWho node) s = refl
 budget_passes c prev (frame.Answering node index word member turns made what) s = refl
 budget_passes c prev (frame.MakingInput node word breed runs) s = refl
 budget_passes c prev (frame.Share node runs slot four) s = refl
+budget_passes c prev (frame.ArrowInput node word at made) s = refl
+budget_passes c prev (frame.RoundWanted node index word rounds) s = refl
+budget_passes c prev (frame.Round node index word kept rounds) s = refl
 
 -- so a unit is wanted before the frame as well as behind it
 spend_by_passes : (c : Code) (prev : Eval) (f : Frame) (units : ℕ) (s : State) (k : State → Outcome) →

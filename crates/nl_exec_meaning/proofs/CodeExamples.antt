@@ -1,9 +1,8 @@
--- Each word of the table is some construct, computed; but for those whose block is run in turns, which no text has yet.
+-- Each word of the table is some construct, computed.
 use Rattle.std.specs.Prelude.{◌≡◌, ◌||◌, Bool, true, false, not, List, [], filter, map, refl}
 use Rattle.nl_fixed.specs.Nouns.{Name}
 use Rattle.nl_words.specs.Row.{Row}
 use Rattle.nl_words.specs.Rows.{rows}
-use Rattle.nl_words.specs.Table.{has_turns}
 use Rattle.nl_words.specs.declared.entry.Role.{Role}
 use Rattle.nl_words.specs.declared.entry.Role.TheVariants as role
 use Rattle.nl_tree.specs.Vocabulary.{base_term}
@@ -19,9 +18,9 @@ is_something Nothing = false
 is_something other = true
 
 abbrev has_case : Row → Bool
-has_case r = is_reserved r.role || has_turns r.turns || is_something (case_of_what (base_term r) (what.Base r.code))
+has_case r = is_reserved r.role || is_something (case_of_what (base_term r) (what.Base r.code))
 
--- words that are nothing, other than those of declarations and of turns
+-- words that are nothing, other than those of declarations
 abbrev left_out : List Name
 left_out = map (λ r. r.name) (filter (λ r. not (has_case r)) rows)
 

@@ -1,8 +1,11 @@
+mod ArrowExamples
 mod CodeExamples
+mod Heads
 mod Inputs
 mod Kept
 mod Lists
 mod Numbering
+mod Raising
 mod Resolved
 mod Said
 mod Sizes

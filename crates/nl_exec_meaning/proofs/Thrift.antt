@@ -11,7 +11,7 @@ use Rattle.nl_value.specs.Nouns.{Serials}
 use Rattle.nl_value.specs.Plain.{Plain, PlainNumber, PlainTruth, PlainWords, PlainItems, PlainTurtle, PlainPatch, PlainLink, PlainNobody, PlainSet}
 use Rattle.nl_value.specs.Limits.{within_limits}
 use Rattle.nl_value.specs.declared.sets.AgentKind.{AgentKind}
-use Rattle.nl_tree.specs.Tree.{Node, label, span}
+use Rattle.nl_tree.specs.Tree.{Node, label, span, parts}
 use Rattle.nl_tree.specs.Checked.{Checked}
 use Rattle.nl_agents_layout.specs.Nouns.{BreedNumber}
 use Rattle.nl_agents.specs.declared.agents.Owner.{Owner}
@@ -19,9 +19,12 @@ use Rattle.nl_agents.specs.declared.agents.Owner.TheVariants as owner
 use Rattle.nl_motion.specs.declared.faults.MoveFault.{MoveFault}
 use Rattle.nl_birth.specs.Outcomes as births
 use Rattle.nl_exec_acts.specs.declared.fail.ErrorKind.{ErrorKind}
+use Rattle.nl_exec_acts.specs.declared.fail.ErrorKind.TheVariants.{WrongType, NoReport}
 use Rattle.nl_exec_acts.specs.Stage.{Stage}
 use Rattle.nl_exec_meaning.specs.declared.words.Apart.{Apart}
 use Rattle.nl_exec_meaning.specs.declared.words.Apart.TheVariants as apart
+use Rattle.nl_exec_meaning.specs.declared.words.Arrow.{Arrow}
+use Rattle.nl_exec_meaning.specs.declared.words.Arrow.TheVariants as arrow
 use Rattle.nl_exec_meaning.specs.declared.words.Over.{Over}
 use Rattle.nl_exec_meaning.specs.declared.words.Over.TheVariants as over
 use Rattle.nl_exec_meaning.specs.declared.words.Making.{Making}
@@ -35,9 +38,10 @@ use Rattle.nl_exec_meaning.specs.declared.words.Built.TheVariants as built
 use Rattle.nl_exec_meaning.specs.Cases.{Case, case_of}
 use Rattle.nl_exec_meaning.specs.Cases as case
 use Rattle.nl_exec_meaning.specs.declared.sites.Site.{Site}
-use Rattle.nl_exec_meaning.specs.State.{Held, State, Exit, Outcome, Eval, Gives, Stopped, Reported, Left, Budget, Error, ends, next_by, spend_by, choose, found, come_to, with_number, with_truth}
+use Rattle.nl_exec_meaning.specs.State.{Held, State, Exit, Outcome, Eval, Gives, Stopped, Reported, Left, Budget, Error, ends, goes_on, fails, next_by, spend_by, choose, found, come_to, with_number, with_truth}
 use Rattle.nl_exec_meaning.specs.Variables.{set_of_turtle, set_of_link, set_of_agent, assign}
-use Rattle.nl_exec_meaning.specs.Blocks.{values, leave_by, statements, turns, Step, fuelled, unending, while_step, while_case, loop_step, loop_case}
+use Rattle.nl_exec_meaning.specs.Blocks.{values, leave_by, cut_to, statements, chosen, turns, Step, fuelled, unending, while_step, while_case, loop_step, loop_case}
+use Rattle.nl_exec_meaning.specs.Arrows.{after_turn_by, all_turns, are_as_long, arrow_case, gives_kept, lists_in, reduced, with_lists}
 use Rattle.nl_exec_meaning.specs.Calls.{command_by, reporter_by, returned_by}
 use Rattle.nl_exec_meaning.specs.Steps.{step_made, last_step, steps}
 use Rattle.nl_exec_meaning.specs.Walks.{Group, Chosen, Several, One, with_turns, turn_by, walk, Answer, value_by, Reply, Keep, Pass, Decide, Refuse, replied, collect, value_of_one, of_answers, over_case}
@@ -68,6 +72,15 @@ leave-within kept next (within {e = Reported value} few) keeps = within few
 leave-within kept next (within {e = Left} few) keeps = within few
 leave-within kept next (within {e = Budget} few) keeps = within few
 leave-within kept next (within {e = Error kind place body} few) keeps = within few
+
+after-within : {n : ℕ} {o : Outcome} (kept : ℕ) (next : Plain → State → Outcome) → Within n o →
+    ((value : Plain) (s : State) → s.units ≤ n → Within n (next value s)) → Within n (after_turn_by o.exit kept o.state next)
+after-within kept next (within {e = Gives value} {s = s} few) keeps = keeps value (cut_to kept s) few
+after-within kept next (within {e = Stopped} few) keeps = within few
+after-within kept next (within {e = Reported value} few) keeps = within few
+after-within kept next (within {e = Left} few) keeps = within few
+after-within kept next (within {e = Budget} few) keeps = within few
+after-within kept next (within {e = Error kind place body} few) keeps = within few
 
 command-within : {n : ℕ} {o : Outcome} (saved : List Held) (site : Site) → Within n o → Within n (command_by o.exit saved site o.state)
 command-within saved site (within {e = Gives value} few) = within few
@@ -198,7 +211,16 @@ made-within (births.Made made now) after place s next few keeps = keeps made _ f
 made-within (births.Filled now) after place s next few keeps = within few
 made-within (births.Refused now) after place s next few keeps = within few
 
-ruleset keeps = (bind-within, leave-within, returned-within, turn-within, value-within, choose-within, spend-within, found-within, come-within, number-within, truth-within, step-within, unless-within, chosen-within, replied-within, answers-within, made-within, within)
+kept-within : {n : ℕ} (made : Option (List Plain)) (place : Span) (s : State) → s.units ≤ n → Within n (gives_kept made place s)
+kept-within (Some made) place s few = within few
+kept-within None place s few = within few
+
+lists-within : {n : ℕ} (made : List Plain) (place : Span) (s : State) (next : List (List Plain) → Outcome) → s.units ≤ n →
+    ((lists : List (List Plain)) → Within n (next lists)) → Within n (with_lists made place s next)
+lists-within made place s next few keeps =
+    found-within (lists_in made) WrongType place s _ few (λ lists. choose-within (are_as_long lists) (keeps lists) (within few))
+
+ruleset keeps = (bind-within, leave-within, after-within, kept-within, lists-within, returned-within, turn-within, value-within, choose-within, spend-within, found-within, come-within, number-within, truth-within, step-within, unless-within, chosen-within, replied-within, answers-within, made-within, within)
 
 -- ---- variables
 
@@ -252,6 +274,18 @@ module _ (n : ℕ) (prev : Eval) (thrifty : (t : Node) (s : State) → s.units �
   statements-within kept [] s few = within few
   statements-within kept (t ∷ ts) s few = search (keeps, statements-within kept ts) depth 14
 
+  choice-within : (place : Span) (none : State → Outcome) → ((s : State) → s.units ≤ n → Within n (none s)) → (ts : List Node) (s : State) → s.units ≤ n →
+      Within n (chosen prev place none ts s)
+  choice-within place none after [] s few = after s few
+  choice-within place none after (last ∷ []) s few = thrifty last s few
+  choice-within place none after (test ∷ block ∷ others) s few = search (keeps, choice-within place none after others) depth 14
+
+  all-within : {X A : Type 0} (t : Node) (index : ℕ) (given : A → X → List Plain) (make : A → X → Plain → Option A) (next : A → State → Outcome) →
+      ((made : A) (s : State) → s.units ≤ n → Within n (next made s)) → (xs : List X) (made : A) (s : State) → s.units ≤ n →
+      Within n (all_turns prev t index given make xs made s next)
+  all-within t index given make next after [] made s few = after made s few
+  all-within t index given make next after (x ∷ xs) made s few = search (keeps, all-within t index given make next after xs) depth 14
+
   turns-within : (count : ℕ) (t : Node) (s : State) → s.units ≤ n → Within n (turns count prev t s)
   turns-within zero t s few = within few
   turns-within (suc count) t s few = search (keeps, turns-within count t) depth 14
@@ -286,13 +320,21 @@ module _ (n : ℕ) (prev : Eval) (thrifty : (t : Node) (s : State) → s.units �
   new-within t index which made None s few = within few
   new-within t index which made (Some block) s few = search (walk-within)
 
-  ruleset walks = (keeps, assign-within, steps-within, values-within, statements-within, turns-within, walk-within, collect-within, made_of-within, new-within)
+  ruleset walks = (keeps, all-within, assign-within, steps-within, values-within, statements-within, turns-within, walk-within, collect-within, made_of-within, new-within)
 
   -- ---- the cases
 
   over-within : (word : Over) (t : Node) (s : State) → s.units ≤ n → Within n (over_case word prev t s)
   over-within over.Ask t s few = search walks depth 14
   over-within word t s few = search walks depth 14
+
+  reduced-within : (t : Node) (items : List Plain) (s : State) → s.units ≤ n → Within n (reduced prev t items s)
+  reduced-within t [] s few = within few
+  reduced-within t (first ∷ items) s few = search walks depth 14
+
+  arrow-within : (word : Arrow) (t : Node) (s : State) → s.units ≤ n → Within n (arrow_case word prev t s)
+  arrow-within arrow.Reduce t s few = search (walks, reduced-within) depth 14
+  arrow-within word t s few = search walks depth 14
 
   making-within : (word : Making) (breed : Option BreedNumber) (runs : Kinds) (t : Node) (s : State) → s.units ≤ n →
       Within n (making_case word breed runs prev t s)
@@ -303,6 +345,8 @@ module _ (n : ℕ) (prev : Eval) (thrifty : (t : Node) (s : State) → s.units �
   spread-within (spread.Climb up four) p runs t s few = search keeps depth 14
 
   control-within : (word : Control) (p : Checked) (runs : Kinds) (t : Node) (s : State) → s.units ≤ n → Within n (control_case word p runs prev t s)
+  control-within control.IfElse p runs t s few = choice-within (span t) goes_on (λ s1 fewer. within fewer) (parts t) s few
+  control-within control.IfElseValue p runs t s few = choice-within (span t) (fails NoReport (span t)) (λ s1 fewer. within fewer) (parts t) s few
   control-within control.While p runs t s few = while-within t s few
   control-within control.Loop p runs t s few = loop-within t s few
   control-within word p runs t s few = search walks depth 14
@@ -311,6 +355,7 @@ module _ (n : ℕ) (prev : Eval) (thrifty : (t : Node) (s : State) → s.units �
       Within n (built_case word breed p runs prev t s)
   built-within (built.Control word) breed p runs t s few = control-within word p runs t s few
   built-within (built.Over word) breed p runs t s few = over-within word t s few
+  built-within (built.Arrow word) breed p runs t s few = arrow-within word t s few
   built-within (built.Making word) breed p runs t s few = making-within word breed runs t s few
   built-within (built.Spread word) breed p runs t s few = spread-within word p runs t s few
   built-within (built.Act act) breed p runs t s few = search walks depth 14

@@ -4,8 +4,10 @@
 use Rattle.std.specs.Prelude.{ℕ, zero, suc, neg_ℤ, ◌++◌, Bool, true, false, List, [], ◌∷◌, length, take}
 use Rattle.nl_value.specs.Plain.{Plain, PlainNumber, PlainTruth, PlainItems, plains}
 use Rattle.nl_birth.specs.Births.{count_of}
+use Rattle.nl_fixed.specs.declared.span.Span.{Span}
 use Rattle.nl_tree.specs.Tree.{Node, span, parts}
-use Rattle.nl_exec_meaning.specs.State.{State, Exit, Outcome, Eval, Gives, Stopped, Reported, Left, Budget, Error, ends, gives, goes_on, ◌>>=◌, spend, choose, with_part, with_number, with_truth, with_locals}
+use Rattle.nl_exec_acts.specs.declared.fail.ErrorKind.TheVariants.{NoReport}
+use Rattle.nl_exec_meaning.specs.State.{State, Exit, Outcome, Eval, Gives, Stopped, Reported, Left, Budget, Error, ends, gives, goes_on, fails, ◌>>=◌, spend, choose, with_part, with_number, with_truth, with_locals}
 use Rattle.nl_exec_meaning.specs.Running.{is_dead}
 
 -- ---- parts in order
@@ -80,9 +82,21 @@ or_case prev t s =
 abbrev pub if_case : Eval → Node → State → Outcome
 if_case prev t s = tested prev t 0 s (λ truth s1. choose truth (part_of prev t 1 s1) (goes_on s1))
 
--- `ifelse`, and `ifelse-value` with blocks that have a value
-abbrev pub either_case : Eval → Node → State → Outcome
-either_case prev t s = tested prev t 0 s (λ truth s1. choose truth (part_of prev t 1 s1) (part_of prev t 2 s1))
+-- Conditions, each with its block, and perhaps a last block: the block of the first one that is true, else the last block, else what is told where
+-- there is none. A condition has to be a truth, and is looked at only where those before it are false.
+abbrev pub chosen : Eval → Span → (State → Outcome) → List Node → State → Outcome
+chosen prev place none [] s = none s
+chosen prev place none (last ∷ []) s = prev last s
+chosen prev place none (test ∷ block ∷ others) s =
+    prev test s >>= λ value s1. with_truth value place s1 (λ truth. choose truth (prev block s1) (chosen prev place none others s1))
+
+-- `ifelse` goes on where no block is chosen
+abbrev pub ifelse_case : Eval → Node → State → Outcome
+ifelse_case prev t s = chosen prev (span t) goes_on (parts t) s
+
+-- and `ifelse-value` has no value then
+abbrev pub ifelse_value_case : Eval → Node → State → Outcome
+ifelse_value_case prev t s = chosen prev (span t) (fails NoReport (span t)) (parts t) s
 
 -- ---- loops
 

@@ -11,7 +11,7 @@ use Rattle.nl_tree.specs.Checked.{Checked}
 use Rattle.nl_birth.specs.Births.{count_of}
 use Rattle.nl_motion.specs.Motion.{step_end}
 use Rattle.nl_motion.specs.Diffusion.{diffused, diffuse_fault}
-use Rattle.nl_exec_acts.specs.declared.fail.ErrorKind.TheVariants.{WrongType}
+use Rattle.nl_exec_acts.specs.declared.fail.ErrorKind.TheVariants.{NoReport, WrongType}
 use Rattle.nl_exec_acts.specs.Stage.{bare, changed}
 use Rattle.nl_exec_meaning.specs.declared.words.Built.TheVariants as built
 use Rattle.nl_exec_meaning.specs.declared.words.Over.{Over}
@@ -23,11 +23,13 @@ use Rattle.nl_exec_meaning.specs.State.{State, Outcome, Eval, Reported, ends, gi
 use Rattle.nl_exec_meaning.specs.Running.{staying}
 use Rattle.nl_exec_meaning.specs.Acting.{performed}
 use Rattle.nl_exec_meaning.specs.Variables.{make_local, assign}
-use Rattle.nl_exec_meaning.specs.Blocks.{values, leaving, statements, tested, part_of, turns, while_tested, while_case, loop_case}
+use Rattle.nl_exec_meaning.specs.Blocks.{values, leaving, statements, tested, part_of, chosen, turns, while_tested, while_case, loop_case}
 use Rattle.nl_exec_meaning.specs.Calls.{called, returned_by}
 use Rattle.nl_exec_meaning.specs.Walks.{Answer as Told, Chosen, Several, One, agents_in, set_in, with_turns, walk, walk_group, turn_over, ascending, collect, collect_group, valued, replied, reply_to, listed_members, all_true, listed_extremes, one_extreme, some_extremes, sorted_on, value_of_one}
 use Rattle.nl_exec_meaning.specs.Makings.{made_of, kind_made, run_by_new}
 use Rattle.nl_exec_meaning.specs.Steps.{step_made, steps, walked}
+use Rattle.nl_exec_meaning.specs.Arrows.{after_turn}
+use Rattle.nl_exec_meaning.specs.Rounds.{inputs_from, turn_begun, turn_over as round_over}
 use Rattle.nl_exec_meaning.specs.Meaning.{text_statements, is_stopped, unless}
 use Rattle.nl_exec_meaning.specs.Kept.{all_held}
 use Rattle.nl_exec_meaning.specs.Seen.{ended}
@@ -96,6 +98,15 @@ some_of_set word up prev t n value s =
     with_number n (span t) s (λ number. come_to (set_in value) (span t) s (λ set.
     answers_of_set word prev t 2 (gathered.Several up number) set s))
 
+-- what is told where no block is chosen: a word that has a value has none then
+abbrev pub none_chosen : Bool → Span → State → Outcome
+none_chosen true place s = fails NoReport place s
+none_chosen false place s = goes_on s
+
+-- the conditions that are left, with their blocks
+abbrev pub choices_left : Eval → Node → Bool → List Node → State → Outcome
+choices_left prev t valued left s = chosen prev (span t) (none_chosen valued (span t)) left s
+
 abbrev pub resumed : Code → Eval → Frame → Outcome → Outcome
 resumed c prev (frame.Part node at made) o = o >>= λ v s. parts_from c prev (node_at c node) at (made ++ v ∷ []) s
 resumed c prev (frame.Inside node) o = o
@@ -118,9 +129,9 @@ resumed c prev (frame.RightSide node) o =
     o >>= λ v s. with_truth v (span (node_at c node)) s (λ right. gives (PlainTruth right) s)
 resumed c prev (frame.IfTest node) o =
     o >>= λ v s. with_truth v (span (node_at c node)) s (λ truth. choose truth (part_of prev (node_at c node) 1 s) (goes_on s))
-resumed c prev (frame.EitherTest node) o =
+resumed c prev (frame.EitherTest node at valued) o =
     o >>= λ v s. with_truth v (span (node_at c node)) s (λ truth.
-    choose truth (part_of prev (node_at c node) 1 s) (part_of prev (node_at c node) 2 s))
+    choose truth (part_of prev (node_at c node) at s) (choices_left prev (node_at c node) valued (drop 1 (drop at (parts (node_at c node)))) s))
 resumed c prev (frame.RepeatCount node) o =
     o >>= λ v s. with_number v (span (node_at c node)) s (λ number. turns (count_of number) prev (node_at c node) s)
 resumed c prev (frame.RepeatTurn node left) o = o >>= λ v s. turns left prev (node_at c node) s
@@ -158,6 +169,9 @@ resumed c prev (frame.Share node runs slot four) o =
     o >>= λ v s. staying runs s (with_number v (span (node_at c node)) s (λ share.
     unless (diffuse_fault slot share four (bare (rest_of s))) (span (node_at c node)) s
     (goes_on (with_stage (changed (diffused slot share four) s.stage) s))))
+resumed c prev (frame.ArrowInput node word at made) o = o >>= λ v s. inputs_from word prev (node_at c node) at (made ++ v ∷ []) s
+resumed c prev (frame.RoundWanted node index word rounds) o = o >>= λ v s. turn_begun word prev (node_at c node) index rounds s
+resumed c prev (frame.Round node index word kept rounds) o = after_turn kept o (λ v s. round_over word prev (node_at c node) index rounds v s)
 
 -- the node of which a frame is the rest
 abbrev pub node_of : Frame → ℕ
@@ -173,7 +187,7 @@ node_of (frame.AndLeft node) = node
 node_of (frame.OrLeft node) = node
 node_of (frame.RightSide node) = node
 node_of (frame.IfTest node) = node
-node_of (frame.EitherTest node) = node
+node_of (frame.EitherTest node at valued) = node
 node_of (frame.RepeatCount node) = node
 node_of (frame.RepeatTurn node left) = node
 node_of (frame.WhileTest node) = node
@@ -191,6 +205,9 @@ node_of (frame.OfWho node) = node
 node_of (frame.Answering node index word member turns made what) = node
 node_of (frame.MakingInput node word breed runs) = node
 node_of (frame.Share node runs slot four) = node
+node_of (frame.ArrowInput node word at made) = node
+node_of (frame.RoundWanted node index word rounds) = node
+node_of (frame.Round node index word kept rounds) = node
 
 -- what is next: an answer, or a child and the frame behind it, or the same behind a unit, or a unit and the frame
 abbrev pub going : Code → Eval → Next → State → Outcome

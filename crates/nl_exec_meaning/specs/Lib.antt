@@ -1,4 +1,5 @@
 pub mod Acting
+pub mod Arrows
 pub mod Blocks
 pub mod Calls
 pub mod Cases
@@ -12,6 +13,7 @@ pub mod LoneTexts
 pub mod Makings
 pub mod Meaning
 pub mod Means
+pub mod Rounds
 pub mod Running
 pub mod Seen
 pub mod Sound

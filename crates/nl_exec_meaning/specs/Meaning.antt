@@ -37,7 +37,8 @@ use Rattle.nl_exec_meaning.specs.State.{State, Exit, Outcome, Eval, Gives, Stopp
 use Rattle.nl_exec_meaning.specs.Running.{allowed, staying}
 use Rattle.nl_exec_meaning.specs.Acting.{performed}
 use Rattle.nl_exec_meaning.specs.Variables.{read_local, read_global, read_owned, read_apart, make_local, assign}
-use Rattle.nl_exec_meaning.specs.Blocks.{values, inside_case, items_case, negation_case, statement, cut_to, statements_case, and_case, or_case, if_case, either_case, repeat_case, while_case, loop_case}
+use Rattle.nl_exec_meaning.specs.Blocks.{values, inside_case, items_case, negation_case, statement, cut_to, statements_case, and_case, or_case, if_case, ifelse_case, ifelse_value_case, repeat_case, while_case, loop_case}
+use Rattle.nl_exec_meaning.specs.Arrows.{arrow_case}
 use Rattle.nl_exec_meaning.specs.Calls.{call_case}
 use Rattle.nl_exec_meaning.specs.Steps.{walk_case}
 use Rattle.nl_exec_meaning.specs.Walks.{over_case, at_stream}
@@ -132,8 +133,8 @@ control_case control.Stop p runs prev t s = ends Stopped s
 control_case control.Report p runs prev t s = report_case prev t s
 control_case control.Die p runs prev t s = die_case s
 control_case control.If p runs prev t s = if_case prev t s
-control_case control.IfElse p runs prev t s = either_case prev t s
-control_case control.IfElseValue p runs prev t s = either_case prev t s
+control_case control.IfElse p runs prev t s = ifelse_case prev t s
+control_case control.IfElseValue p runs prev t s = ifelse_value_case prev t s
 control_case control.Repeat p runs prev t s = repeat_case prev t s
 control_case control.While p runs prev t s = while_case prev t s
 control_case control.Loop p runs prev t s = loop_case prev t s
@@ -147,6 +148,7 @@ control_case control.ClearAll p runs prev t s = goes_on (clear_all s)
 abbrev pub built_case : Built → Option BreedNumber → Checked → Kinds → Eval → Node → State → Outcome
 built_case (built.Control word) breed p runs prev t s = control_case word p runs prev t s
 built_case (built.Over word) breed p runs prev t s = over_case word prev t s
+built_case (built.Arrow word) breed p runs prev t s = arrow_case word prev t s
 built_case (built.Making word) breed p runs prev t s = making_case word breed runs prev t s
 built_case (built.Spread word) breed p runs prev t s = spread_case word p runs prev t s
 built_case (built.Act act) breed p runs prev t s = act_case act breed runs prev t s

@@ -1,5 +1,5 @@
 -- What holds of all that is held while a text runs: values and agents fit the world, and a walk's last step is shorter than 1.
-use Rattle.std.specs.Prelude.{⊤, ℕ, ◌<◌, ◌++◌, IsTrue, List, [], ◌∷◌, drop}
+use Rattle.std.specs.Prelude.{◌≡◌, false, ⊤, ℕ, ◌<◌, ◌++◌, IsTrue, List, [], ◌∷◌, drop}
 use Rattle.std.specs.List.{list_all}
 use Rattle.std.specs.List.Sorted.{IsStrictlyIncreasing}
 use Rattle.nl_fixed.specs.Numbers.{one}
@@ -9,10 +9,13 @@ use Rattle.nl_exec_meaning.specs.Kept.{Kept}
 use Rattle.nl_value.specs.declared.sets.AgentKind.{AgentKind}
 use Rattle.nl_value.specs.declared.sets.AgentKind.TheVariants as kind
 use Rattle.nl_exec_meaning.specs.Ground.{Ground, fits, all_fit, patch_in, SiteFits}
+use Rattle.nl_exec_meaning.specs.declared.rounds.Rounds.{Rounds}
+use Rattle.nl_exec_meaning.specs.declared.words.Arrow.{Arrow}
 use Rattle.nl_exec_meaning.specs.declared.turns.Turns.{Turns}
 use Rattle.nl_exec_meaning.specs.Walks.{Answer as Told, members_kept}
 use Rattle.nl_exec_meaning.specs.declared.turns.Gathered.{Gathered}
 use Rattle.nl_exec_meaning.specs.declared.turns.Gathered.TheVariants as gathered
+use Rattle.nl_exec_meaning.specs.Rounds.{RoundsStand, is_over}
 use Rattle.nl_exec_meaning.specs.Sound.{MakingStands}
 use Rattle.nl_exec_meaning.specs.Seen.{ground}
 use Rattle.nl_exec_meaning.specs.declared.exits.Exit.{Exit}
@@ -55,6 +58,12 @@ pub record AnsweringFits (g : Ground) (member : ℕ) (ts : Turns) (made : List T
   pub values : IsTrue (list_all (λ a. fits g a.value) made)
   pub members : MembersFit g ts.which (members_kept made ++ member ∷ [])
 
+-- the places of turns are those of what they go over
+pub record RoundsFit (g : Ground) (word : Arrow) (rounds : Rounds) : Type 0 where
+  pub over : IsTrue (all_fit g rounds.over)
+  pub made : IsTrue (all_fit g rounds.made)
+  pub stand : RoundsStand word rounds
+
 abbrev pub FrameFits : Ground → Frame → Type 0
 FrameFits g (frame.Part node at made) = IsTrue (all_fit g made)
 FrameFits g (frame.Body node reporter saved site) = LocalsFit g saved × SiteFits g site
@@ -64,6 +73,9 @@ FrameFits g (frame.Answering node index word member turns made what) =
     AnsweringFits g member turns made × MembersAscend what (members_kept made ++ member ∷ drop turns.at turns.members)
 FrameFits g (frame.MakingInput node word breed runs) = MakingStands g.layout runs breed word
 FrameFits g (frame.Step node turtle by left rest way) = rest < one
+FrameFits g (frame.ArrowInput node word at made) = IsTrue (all_fit g made)
+FrameFits g (frame.RoundWanted node index word rounds) = RoundsFit g word rounds × (is_over word rounds ≡ false)
+FrameFits g (frame.Round node index word kept rounds) = RoundsFit g word rounds × (is_over word rounds ≡ false)
 FrameFits g f = ⊤
 
 -- nothing has to hold of what is in the frame
@@ -75,6 +87,9 @@ HoldsNothing (frame.Asked node index turns) = ⊥
 HoldsNothing (frame.Answering node index word member turns made what) = ⊥
 HoldsNothing (frame.MakingInput node word breed runs) = ⊥
 HoldsNothing (frame.Step node turtle by left rest way) = ⊥
+HoldsNothing (frame.ArrowInput node word at made) = ⊥
+HoldsNothing (frame.RoundWanted node index word rounds) = ⊥
+HoldsNothing (frame.Round node index word kept rounds) = ⊥
 HoldsNothing f = ⊤
 
 abbrev pub NextFits : Ground → Next → Type 0

@@ -8,6 +8,8 @@ use Rattle.nl_birth.specs.declared.way.Way.TheVariants as way
 use Rattle.nl_exec_acts.specs.Words.{act_word}
 use Rattle.nl_exec_meaning.specs.declared.words.Apart.{Apart}
 use Rattle.nl_exec_meaning.specs.declared.words.Apart.TheVariants as apart
+use Rattle.nl_exec_meaning.specs.declared.words.Arrow.{Arrow}
+use Rattle.nl_exec_meaning.specs.declared.words.Arrow.TheVariants as arrow
 use Rattle.nl_exec_meaning.specs.declared.words.Control.{Control}
 use Rattle.nl_exec_meaning.specs.declared.words.Control.TheVariants as control
 use Rattle.nl_exec_meaning.specs.declared.words.Over.{Over}
@@ -71,6 +73,16 @@ over_word n =
     else (if n == code.SORT_ON then Some over.SortOn
     else None))))))))))
 
+abbrev pub arrow_word : Code → Option Arrow
+arrow_word n =
+    if n == code.FOREACH then Some arrow.ForEach
+    else (if n == code.MAP then Some arrow.Map
+    else (if n == code.FILTER then Some arrow.Filter
+    else (if n == code.REDUCE then Some arrow.Reduce
+    else (if n == code.SORT_BY then Some arrow.SortBy
+    else (if n == code.N_VALUES then Some arrow.NValues
+    else None)))))
+
 abbrev pub making_word : Code → Option Making
 making_word n =
     if n == code.CREATE_TURTLES then Some (making.Create false)
@@ -102,6 +114,7 @@ abbrev pub built_word : Code → Option Built
 built_word n =
     option_or (option_map built.Control (control_word n))
     (option_or (option_map built.Over (over_word n))
+    (option_or (option_map built.Arrow (arrow_word n))
     (option_or (option_map built.Making (making_word n))
     (option_or (option_map built.Spread (spread_word n))
-    (option_map built.Act (act_word n)))))
+    (option_map built.Act (act_word n))))))

@@ -13,8 +13,10 @@ frame_work c (frame.Part node at made) = 4 + weights (drop at (parts (node_at c 
 frame_work c (frame.AndLeft node) = 1 + weights (drop 1 (parts (node_at c node)))
 frame_work c (frame.OrLeft node) = 1 + weights (drop 1 (parts (node_at c node)))
 frame_work c (frame.IfTest node) = 1 + weights (drop 1 (parts (node_at c node)))
-frame_work c (frame.EitherTest node) = 1 + weights (drop 1 (parts (node_at c node)))
+frame_work c (frame.EitherTest node at valued) = 1 + weights (drop at (parts (node_at c node)))
 frame_work c (frame.SomeNumber node word up) = 1 + weights (drop 1 (parts (node_at c node)))
+frame_work c (frame.ArrowInput node word at made) = 1 + weights (drop at (parts (node_at c node)))
+frame_work c (frame.RoundWanted node index word rounds) = 1 + weights (drop index (parts (node_at c node)))
 frame_work c f = 1
 
 abbrev pub next_work : Code → Next → ℕ

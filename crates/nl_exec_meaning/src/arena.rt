@@ -1,8 +1,9 @@
 //! Code: the nodes of texts, with each name looked up once.
-ghost use Rattle.std.specs.Prelude.{◌≡◌, ◌+◌, ◌<◌, ◌^◌, [], ◌∷◌, IfOk, OnErr, IfSome, MatchOption, length, drop, slice_get};
+ghost use Rattle.std.specs.Prelude.{◌≡◌, ◌+◌, ◌<◌, ◌^◌, [], ◌∷◌, IfOk, OnErr, IfSome, MatchOption, length, map, drop, slice_get};
 ghost use Rattle.std.specs.Option.{option_copied, option_map};
 ghost use Rattle.nl_tree.specs.Tree.{label, span, parts};
 ghost use Rattle.nl_tree.specs.Views.{plain};
+ghost use Rattle.nl_exec_meaning.specs.Arrows.{head_of};
 ghost use Rattle.nl_exec_meaning.specs.Cases.{case_of};
 ghost use Rattle.nl_exec_meaning.specs.inner.Arena.{IsItem};
 ghost use Rattle.nl_exec_meaning.specs.Code.{IsOneToOne, case_of_op, case_of_text, inputs_at, name_of, node_at, written};
@@ -12,7 +13,9 @@ use crate::items::{copy_items, copy_lists, copy_trees, item_at, numbers_at, tree
 use crate::local_names::LocalNames;
 use crate::naming::text_of;
 use crate::numbers::Numbers;
-use crate::resolve::{number_inputs, procedures_of, push_bodies, resolve_all, resolve_text};
+use crate::resolve::{
+    number_heads, number_inputs, procedures_of, push_bodies, resolve_all, resolve_text,
+};
 use nl_fixed::{NoMemory, Span, Str};
 use nl_tree::{Program, Tree};
 use std::alloc::Global;
@@ -31,6 +34,8 @@ pub struct Code<'a> {
     names: LocalNames<'a>,
     // The numbers of each procedure's inputs.
     inputs: Vec<Numbers>,
+    // The numbers of the names of each node's head: none, where it has no head.
+    heads: Vec<Numbers>,
     // How many nodes are those of the bodies, which stand first.
     kept: usize,
 }
@@ -52,7 +57,7 @@ impl<'a> Model for Code<'a> {
     } };
 
     ghost invariant = { λ c. IsArena c.program.now c.names (trees_seen c.trees.items) c.items.items
-        c.inputs.items c.kept };
+        c.inputs.items c.heads.items c.kept };
 }
 
 impl<'a> Code<'a> {
@@ -64,9 +69,11 @@ impl<'a> Code<'a> {
         let mut trees: Vec<&'a Tree> = Vec::new(alloc);
         let mut names: LocalNames<'a> = LocalNames::empty(alloc);
         let mut items = Vec::new(alloc);
+        let mut heads = Vec::new(alloc);
         let inputs = number_inputs(alloc, &mut names, procedures_of(program))?;
         push_bodies(&mut trees, program)?;
         resolve_all(alloc, program, &mut trees, &mut names, &mut items)?;
+        number_heads(alloc, &mut names, trees.as_slice(), &mut heads)?;
         let kept = items.len();
         Ok(Code {
             program,
@@ -74,6 +81,7 @@ impl<'a> Code<'a> {
             items,
             names,
             inputs,
+            heads,
             kept,
         })
     }
@@ -90,18 +98,21 @@ impl<'a> Code<'a> {
         let kept = self.kept;
         self.trees.truncate(kept);
         self.items.truncate(kept);
+        self.heads.truncate(kept);
         match resolve_text(
             alloc,
             self.program,
             &mut self.trees,
             &mut self.names,
             &mut self.items,
+            &mut self.heads,
             text,
         ) {
             Ok(root) => Ok(root),
             Err(error) => {
                 self.trees.truncate(self.kept);
                 self.items.truncate(self.kept);
+                self.heads.truncate(self.kept);
                 Err(error)
             }
         }
@@ -115,12 +126,14 @@ impl<'a> Code<'a> {
         let items = copy_items(alloc, &self.items)?;
         let names = self.names.copy(alloc)?;
         let inputs = copy_lists(alloc, &self.inputs)?;
+        let heads = copy_lists(alloc, &self.heads)?;
         Ok(Code {
             program: self.program,
             trees,
             items,
             names,
             inputs,
+            heads,
             kept: self.kept,
         })
     }
@@ -227,6 +240,16 @@ impl<'a> Code<'a> {
         match numbers_at(&self.inputs, procedure as usize) {
             Some(ids) => ids.get(at),
             None => None,
+        }
+    }
+    /// The numbers of the names that the head of an arrow block has, in order. A node of another kind has none.
+    #[inline]
+    pub fn head(&self, node: u32) -> &[u32]
+        ensures { map (λ id. name_of self.now.names id) result.now ≡ head_of (node_at self.now node) }
+    {
+        match numbers_at(&self.heads, node as usize) {
+            Some(ids) => ids.as_slice(),
+            None => &[],
         }
     }
 }

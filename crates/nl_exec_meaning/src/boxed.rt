@@ -1,10 +1,14 @@
 //! What a frame keeps in a box, so that every frame is small.
-ghost use Rattle.std.specs.Prelude.{◌≡◌, [], ◌∷◌, ◌++◌, IfOk, OnOk, OnErr};
+ghost use Rattle.std.specs.Prelude.{◌≡◌, true, [], ◌∷◌, ◌++◌, IfOk, OnOk, OnErr};
+ghost use Rattle.nl_value.specs.Views.{plain};
+ghost use Rattle.nl_exec_meaning.specs.Arrows.{raised};
 ghost use Rattle.nl_exec_meaning.specs.inner.Seen.{answered};
 
 use crate::Site;
+use crate::rounds::Rounds;
 use crate::turns::{Answered, Answers, Turns};
 use nl_fixed::NoMemory;
+use nl_value::{Items, Value};
 use std::alloc::Global;
 use std::marker::Model;
 
@@ -146,5 +150,109 @@ impl BoxedAnswers {
         let answers = self.held.copy(alloc)?;
         let held = Box::new(alloc, answers)?;
         Ok(BoxedAnswers { held })
+    }
+}
+
+/// Turns of an arrow block in a box, seen by contracts as the turns. It is made once a word, and then changed in place.
+#[derive(Drop)]
+pub struct BoxedRounds {
+    held: Box<Rounds>,
+}
+
+impl Model for BoxedRounds {
+    ghost use Rattle.nl_exec_meaning.specs.declared.rounds.Rounds.{Rounds};
+    ghost use Rattle.nl_exec_meaning.specs.Kept.{rounds_code};
+
+    ghost Value = { Rounds };
+
+    ghost coded = { rounds_code };
+
+    ghost view = { λ boxed. boxed.held.value };
+}
+
+impl BoxedRounds {
+    /// Puts turns into a box.
+    pub fn new(alloc: Global, rounds: Rounds) -> Result<BoxedRounds, NoMemory>
+        ensures { IfOk result (λ boxed. boxed ≡ rounds) }
+    {
+        let held = Box::new(alloc, rounds)?;
+        Ok(BoxedRounds { held })
+    }
+
+    /// The turns.
+    #[inline(always)]
+    pub fn get(&self) -> &Rounds
+        ensures { result.now ≡ self.now }
+    {
+        &self.held
+    }
+
+    /// The turns, out of their box.
+    pub fn into_rounds(self) -> Rounds
+        ensures { result ≡ self }
+    {
+        Box::into_inner(self.held)
+    }
+
+    /// The turns from a place on are left.
+    #[inline(always)]
+    pub fn go_to(&mut self, at: usize)
+        ensures { self.new ≡ record self.old { at = at } }
+    {
+        self.held.at = at;
+    }
+
+    /// The turns from a pair of places on are left.
+    #[inline(always)]
+    pub fn go_to_pair(&mut self, place: usize, at: usize)
+        ensures { self.new ≡ record self.old { place = place; at = at } }
+    {
+        self.held.place = place;
+        self.held.at = at;
+    }
+
+    /// Keeps a value behind the others.
+    #[inline(always)]
+    pub fn keep(&mut self, alloc: Global, value: Value) -> Result<(), NoMemory>
+        ensures { OnOk result (self.new ≡ record self.old { made = self.old.made ++ plain value ∷ [] }) }
+    {
+        self.held.made.push(alloc, value)?;
+        Ok(())
+    }
+
+    /// Lets all values go, and keeps none from here on.
+    pub fn let_go(&mut self, alloc: Global)
+        ensures { self.new ≡ record self.old { made = []; past = true } }
+    {
+        self.held.made = Items::empty(alloc);
+        self.held.past = true;
+    }
+
+    /// Hands a value on, in the place of the one before.
+    #[inline(always)]
+    pub fn hand_on(&mut self, alloc: Global, value: Value) -> Result<(), NoMemory>
+        ensures { OnOk result (self.new ≡ record self.old { made = plain value ∷ [] }) }
+    {
+        self.held.made.truncate(0);
+        self.held.made.push(alloc, value)?;
+        Ok(())
+    }
+
+    /// One item more comes before the one at the place.
+    #[inline(always)]
+    pub fn raise(&mut self) -> Result<(), NoMemory>
+        ensures { OnOk result (self.new ≡ record self.old { ranks = raised self.old.place self.old.ranks }) }
+    {
+        let place = self.held.place;
+        self.held.ranks.raise(place)?;
+        Ok(())
+    }
+
+    /// The same turns again.
+    pub fn copy(&self, alloc: Global) -> Result<BoxedRounds, NoMemory>
+        ensures { IfOk result (λ boxed. boxed ≡ self.now) }
+    {
+        let rounds = self.held.copy(alloc)?;
+        BoxedRounds::new(alloc, rounds)
     }
 }

@@ -1,12 +1,12 @@
 //! What is left to do above a node.
 ghost use Rattle.std.specs.Prelude.{◌≡◌, IfOk, length, vec_len};
 
-use crate::boxed::{BoxedAnswers, BoxedSite, BoxedTurns};
+use crate::boxed::{BoxedAnswers, BoxedRounds, BoxedSite, BoxedTurns};
 use crate::exits::Exit;
 use crate::held::HeldValue;
 use crate::locals::Locals;
 use crate::turns::Gathered;
-use crate::{Making, Over};
+use crate::{Arrow, Making, Over};
 use nl_fixed::{NoMemory, Num};
 use nl_value::Items;
 use nl_words::Kinds;
@@ -71,9 +71,11 @@ pub enum Frame {
     IfTest {
         node: u32,
     },
-    /// The test of `ifelse` or `ifelse-value`.
+    /// A test of `ifelse` or `ifelse-value`, the index of its block, and whether the word has a value.
     EitherTest {
         node: u32,
+        at: u32,
+        valued: bool,
     },
     /// The number of `repeat`.
     RepeatCount {
@@ -175,6 +177,28 @@ pub enum Frame {
         slot: u32,
         four: bool,
     },
+    /// An input of a word with an arrow block: `at` is the next part, and `made` are the values before it.
+    ArrowInput {
+        node: u32,
+        word: Arrow,
+        at: u32,
+        made: Items,
+    },
+    /// A turn of an arrow block for which a unit was wanted: the block is the part at the index.
+    RoundWanted {
+        node: u32,
+        index: u32,
+        word: Arrow,
+        rounds: BoxedRounds,
+    },
+    /// A turn of an arrow block, and how many locals there are around it.
+    Round {
+        node: u32,
+        index: u32,
+        word: Arrow,
+        kept: usize,
+        rounds: BoxedRounds,
+    },
 }
 
 /// What a case does next.
@@ -237,7 +261,11 @@ impl Frame {
             Frame::OrLeft { node } => Frame::OrLeft { node: *node },
             Frame::RightSide { node } => Frame::RightSide { node: *node },
             Frame::IfTest { node } => Frame::IfTest { node: *node },
-            Frame::EitherTest { node } => Frame::EitherTest { node: *node },
+            Frame::EitherTest { node, at, valued } => Frame::EitherTest {
+                node: *node,
+                at: *at,
+                valued: *valued,
+            },
             Frame::RepeatCount { node } => Frame::RepeatCount { node: *node },
             Frame::RepeatTurn { node, left } => Frame::RepeatTurn {
                 node: *node,
@@ -332,6 +360,41 @@ impl Frame {
                 runs: *runs,
                 slot: *slot,
                 four: *four,
+            },
+            Frame::ArrowInput {
+                node,
+                word,
+                at,
+                made,
+            } => Frame::ArrowInput {
+                node: *node,
+                word: *word,
+                at: *at,
+                made: made.copy(alloc)?,
+            },
+            Frame::RoundWanted {
+                node,
+                index,
+                word,
+                rounds,
+            } => Frame::RoundWanted {
+                node: *node,
+                index: *index,
+                word: *word,
+                rounds: rounds.copy(alloc)?,
+            },
+            Frame::Round {
+                node,
+                index,
+                word,
+                kept,
+                rounds,
+            } => Frame::Round {
+                node: *node,
+                index: *index,
+                word: *word,
+                kept: *kept,
+                rounds: rounds.copy(alloc)?,
             },
         })
     }

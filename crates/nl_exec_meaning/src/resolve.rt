@@ -1,8 +1,9 @@
 //! Nodes of trees, with each name looked up once.
-ghost use Rattle.std.specs.Prelude.{◌≡◌, ◌+◌, ◌<◌, ◌≤◌, ◌^◌, Some, ◌++◌, IfOk, OnOk, map, length, slice_get};
-ghost use Rattle.nl_tree.specs.Tree.{parts};
+ghost use Rattle.std.specs.Prelude.{◌≡◌, ◌+◌, ◌<◌, ◌≤◌, ◌^◌, Some, ◌++◌, IfOk, OnOk, map, length, slice_get, take};
+ghost use Rattle.nl_tree.specs.Tree.{label, parts};
 ghost use Rattle.nl_tree.specs.Views.{plain};
-ghost use Rattle.nl_exec_meaning.specs.inner.Arena.{AreInputs, AreItems, AreNames, Grows, IsInputs, IsItem, trees_seen};
+ghost use Rattle.nl_exec_meaning.specs.Arrows.{head_of};
+ghost use Rattle.nl_exec_meaning.specs.inner.Arena.{AreHeads, AreInputs, AreItems, AreNames, Grows, IsInputs, IsItem, trees_seen};
 
 use crate::item::{Item, Op};
 use crate::items::push_item;
@@ -10,7 +11,7 @@ use crate::local_names::LocalNames;
 use crate::naming::label_op;
 use crate::numbers::Numbers;
 use nl_fixed::{NoMemory, Str};
-use nl_tree::{Procedure, Program, Tree};
+use nl_tree::{Label, Procedure, Program, Tree};
 use std::alloc::Global;
 
 /// The parts of a tree.
@@ -122,15 +123,19 @@ pub(crate) fn resolve_text<'a>(
     trees: &mut Vec<&'a Tree>,
     names: &mut LocalNames<'a>,
     items: &mut Vec<Item>,
+    heads: &mut Vec<Numbers>,
     text: &'a Tree,
 ) -> Result<u32, NoMemory>
     requires full { length items.old.items ≡ length trees.old.items }
     requires right { AreItems program.now.declared names.old (trees_seen trees.old.items) items.old.items }
+    requires heads { AreHeads names.old heads.old.items (trees_seen trees.old.items) }
     ensures text { IfOk result (λ root. slice_get (trees_seen trees.new.items) root ≡ Some (plain text.now)) }
     ensures first { IfOk result (λ root. root ≡ length trees.old.items) }
     ensures right { OnOk result
         (AreItems program.now.declared names.new (trees_seen trees.new.items) items.new.items) }
     ensures full { OnOk result (length items.new.items ≡ length trees.new.items) }
+    ensures heads { OnOk result (AreHeads names.new heads.new.items (trees_seen trees.new.items)) }
+    ensures kept { Grows heads.old.items heads.new.items }
     ensures items { Grows items.old.items items.new.items }
     ensures trees { Grows (trees_seen trees.old.items) (trees_seen trees.new.items) }
     ensures names { Grows names.old names.new }
@@ -141,6 +146,7 @@ pub(crate) fn resolve_text<'a>(
     };
     trees.push(text)?;
     resolve_all(alloc, program, trees, names, items)?;
+    number_heads(alloc, names, trees.as_slice(), heads)?;
     Ok(root)
 }
 
@@ -191,4 +197,35 @@ pub(crate) fn number_inputs<'a>(
         inputs.push(ids)?;
     }
     Ok(inputs)
+}
+
+/// The names that the head of a tree has, where it has one.
+fn head_names(tree: &Tree) -> &[Str]
+    ensures { result.now ≡ head_of (plain tree.now) }
+{
+    match tree.label() {
+        Label::Arrow(names) => names.as_slice(),
+        _ => &[],
+    }
+}
+
+/// The numbers of the names of heads, for all trees that have none yet.
+pub(crate) fn number_heads<'a>(
+    alloc: Global,
+    names: &mut LocalNames<'a>,
+    trees: &[&'a Tree],
+    heads: &mut Vec<Numbers>,
+) -> Result<(), NoMemory>
+    requires heads { AreHeads names.old heads.old.items
+        (take (length heads.old.items) (trees_seen trees.now)) }
+    ensures heads { OnOk result (AreHeads names.new heads.new.items (trees_seen trees.now)) }
+    ensures kept { Grows heads.old.items heads.new.items }
+    ensures grows { Grows names.old names.new }
+    ensures apart { AreNames names.old → AreNames names.new }
+{
+    for at in heads.len()..trees.len() {
+        let ids = number_all(alloc, names, head_names(trees[at]))?;
+        heads.push(ids)?;
+    }
+    Ok(())
 }

@@ -2,7 +2,7 @@
 //!
 //! A second spelling is the same word, and a word that a breed makes has the code of the word without the breed.
 ghost use Rattle.std.specs.Prelude.{◌≡◌};
-ghost use Rattle.nl_exec_meaning.specs.Words.{apart_word, control_word, over_word, making_word, spread_word, built_word};
+ghost use Rattle.nl_exec_meaning.specs.Words.{apart_word, arrow_word, control_word, over_word, making_word, spread_word, built_word};
 
 use nl_birth::Way;
 use nl_exec_acts::Act;
@@ -49,6 +49,17 @@ pub enum Over {
     SortOn,
 }
 
+/// Words whose block the same agent runs or evaluates in turns.
+#[derive(Clone, Copy, Debug, PartialEq, Eq)]
+pub enum Arrow {
+    ForEach,
+    Map,
+    Filter,
+    Reduce,
+    SortBy,
+    NValues,
+}
+
 /// Words that make agents, which may run a block.
 #[derive(Clone, Copy, Debug, PartialEq, Eq)]
 pub enum Making {
@@ -74,6 +85,7 @@ pub enum Spread {
 pub enum Built {
     Control(Control),
     Over(Over),
+    Arrow(Arrow),
     Making(Making),
     Spread(Spread),
     Act(Act),
@@ -158,6 +170,21 @@ fn over_word(code: u16) -> Option<Over>
     }
 }
 
+/// Words whose block is run or evaluated in turns.
+fn arrow_word(code: u16) -> Option<Arrow>
+    ensures { result ≡ arrow_word code }
+{
+    match code {
+        codes::FOREACH => Some(Arrow::ForEach),
+        codes::MAP => Some(Arrow::Map),
+        codes::FILTER => Some(Arrow::Filter),
+        codes::REDUCE => Some(Arrow::Reduce),
+        codes::SORT_BY => Some(Arrow::SortBy),
+        codes::N_VALUES => Some(Arrow::NValues),
+        _ => None,
+    }
+}
+
 /// Words that make agents.
 fn making_word(code: u16) -> Option<Making>
     ensures { result ≡ making_word code }
@@ -233,6 +260,9 @@ pub fn built_word(code: u16) -> Option<Built>
     }
     if let Some(word) = over_word(code) {
         return Some(Built::Over(word));
+    }
+    if let Some(word) = arrow_word(code) {
+        return Some(Built::Arrow(word));
     }
     if let Some(word) = making_word(code) {
         return Some(Built::Making(word));

@@ -75,7 +75,7 @@ is_there other = true
 abbrev row_passes : Row → Bool
 row_passes r =
     let it = built_case (base_term r) None r.code in
-    or_not (not (stands_nowhere (base_term r))) (not (is_nothing it)) && covers (looks_of it) r.many (inputs_of (base_term r))
+    or_not (not (stands_nowhere (base_term r))) (not (is_nothing it) && covers (looks_of it) r.many (inputs_of (base_term r)))
     && or_not (is_variable r.role) (is_variable_case it) && is_there it
 
 rows_pass : list_all row_passes rows ≡ true
@@ -118,7 +118,7 @@ IsThereFor d other r = Unit {0}
 
 pub record IsMet (d : Declared) (it : Case) (r : Term) : Type 0 where
   pub something : stands_nowhere r ≡ false → is_nothing it ≡ false
-  pub looks : covers (looks_of it) r.many (inputs_of r) ≡ true
+  pub looks : stands_nowhere r ≡ false → covers (looks_of it) r.many (inputs_of r) ≡ true
   pub variable : is_variable r.role ≡ true → is_variable_case it ≡ true
   pub program : IsThereFor d it r
 
@@ -170,30 +170,31 @@ module _ (d : Declared) where
   met_base : (r : Row) → row_passes r ≡ true → Met (base_term r)
   met_base r h =
       let it = built_case (base_term r) None r.code in
-      let a = or_not (not (stands_nowhere (base_term r))) (not (is_nothing it)) in
+      let x = not (is_nothing it) in
       let b = covers (looks_of it) r.many (inputs_of (base_term r)) in
+      let a = or_not (not (stands_nowhere (base_term r))) (x && b) in
       let c = or_not (is_variable r.role) (is_variable_case it) in
       let e = is_there it in
-      let three = first_so (a && b && c) e h in
-      let two = first_so (a && b) c three in
+      let two = first_so (a && c) e h in
+      let both = λ (here : stands_nowhere (base_term r) ≡ false). follows (not (stands_nowhere (base_term r))) (x && b) (first_so a c two) (not_to (stands_nowhere (base_term r)) here) in
       record {
-        something = λ here. not_false (is_nothing it) (follows (not (stands_nowhere (base_term r))) (not (is_nothing it)) (first_so a b two) (not_to (stands_nowhere (base_term r)) here));
-        looks = second_so a b two;
-        variable = follows (is_variable r.role) (is_variable_case it) (second_so (a && b) c three);
-        program = there_by d it (base_term r) (second_so (a && b && c) e h);
+        something = λ here. not_false (is_nothing it) (first_so x b (both here));
+        looks = λ here. second_so x b (both here);
+        variable = follows (is_variable r.role) (is_variable_case it) (second_so a c two);
+        program = there_by d it (base_term r) (second_so (a && c) e h);
       }
 
   met_word : (n : ℕ) (name : Name) (r : Row) (word : Option Built) → is_variable r.role ≡ false → word_covers word r ≡ true
       → IsMet d (word_case r.runs (Some n) word) (made_term n name r)
   met_word n name r None plain h =
-      record { something = λ here. let bad : true ≡ false = sym (ap (λ b. b || has_turns r.turns) h) ∙ here in cc; looks = refl; variable = λ is. let bad : true ≡ false = sym is ∙ plain in cc; program = tt }
+      record { something = λ here. let bad : true ≡ false = sym (ap (λ b. b || has_turns r.turns) h) ∙ here in cc; looks = λ here. refl; variable = λ is. let bad : true ≡ false = sym is ∙ plain in cc; program = tt }
   met_word n name r (Some word) plain h =
-      record { something = λ here. refl; looks = h; variable = λ is. let bad : true ≡ false = sym is ∙ plain in cc; program = tt }
+      record { something = λ here. refl; looks = λ here. h; variable = λ is. let bad : true ≡ false = sym is ∙ plain in cc; program = tt }
 
   met_color : (n : ℕ) (name : Name) (r : Row) (color : Option ℤ) → is_variable r.role ≡ false → word_covers (built_word r.code) r ≡ true
       → IsMet d (color_case (made_term n name r) (Some n) r.code color) (made_term n name r)
   met_color n name r (Some count) plain h =
-      record { something = λ here. refl; looks = refl; variable = λ is. let bad : true ≡ false = sym is ∙ plain in cc; program = tt }
+      record { something = λ here. refl; looks = λ here. refl; variable = λ is. let bad : true ≡ false = sym is ∙ plain in cc; program = tt }
   met_color n name r None plain h = met_word n name r (built_word r.code) plain h
 
   met_made : (n : ℕ) (name : Name) (r : Row) → breed_passes r ≡ true → Met (made_term n name r)
@@ -212,15 +213,15 @@ module _ (d : Declared) where
       (met_color n name r (color_named name) (not_false (is_variable r.role) (second_so (a && b) c three)) (second_so (a && b && c) e h)))
 
   met_global : (n : ℕ) (name : Name) → slice_get (global_names d) n ≡ Some name → Met (global_term n name)
-  met_global n name at = record { something = λ here. refl; looks = refl; variable = λ is. refl; program = slice_get_within (global_names d) n name at }
+  met_global n name at = record { something = λ here. refl; looks = λ here. refl; variable = λ is. refl; program = slice_get_within (global_names d) n name at }
 
   met_owned : (n : ℕ) (name : Name) → slice_get (owned_names d) n ≡ Some name → Met (owned_term d n name)
   met_owned n name at =
       let within = slice_get_within (owned_names d) n name at in
-      record { something = λ here. refl; looks = refl; variable = λ is. refl; program = omega (arith, within) }
+      record { something = λ here. refl; looks = λ here. refl; variable = λ is. refl; program = omega (arith, within) }
 
   met_procedure : (n : ℕ) (p : Procedure) → slice_get d.procedures n ≡ Some p → Met (procedure_term n p)
-  met_procedure n p at = record { something = λ here. refl; looks = refl; variable = by p.reporter; program = (p, (at, refl, refl)) }
+  met_procedure n p at = record { something = λ here. refl; looks = λ here. refl; variable = by p.reporter; program = (p, (at, refl, refl)) }
     where
       by : (b : Bool) → is_variable (if b then role.Reporter else role.Command) ≡ true → false ≡ true
       by true is = is
@@ -286,7 +287,7 @@ module _ (d : Declared) where
   word_whole name None ts each h = (refl, tt, tt)
   word_whole name (Some r) ts each h =
       let m = each r refl in
-      (m.something h.0, found_all (looks_of (case_of_what r r.what)) r.many (inputs_of r) ts m.looks h.1, there_with (case_of_what r r.what) r ts m.program h.1)
+      (m.something h.0, found_all (looks_of (case_of_what r r.what)) r.many (inputs_of r) ts (m.looks h.0) h.1, there_with (case_of_what r r.what) r ts m.program h.1)
 
   one_found : (ts : List Node) → IsOne ts → AreFound d (Part ∷ []) ts
   one_found ts (t, is) = subst (AreFound d (Part ∷ [])) (sym is) (tt, tt)

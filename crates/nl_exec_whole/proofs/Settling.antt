@@ -353,6 +353,7 @@ yields_word t n (Some (built.Control control.Set)) plain h = cc
 yields_word t n (Some (built.Spread word)) plain h = cc
 yields_word t n (Some (built.Control word)) plain h = yields_other t _ refl refl plain
 yields_word t n (Some (built.Over word)) plain h = yields_other t _ refl refl plain
+yields_word t n (Some (built.Arrow word)) plain h = yields_other t _ refl refl plain
 yields_word t n (Some (built.Making word)) plain h = yields_other t _ refl refl plain
 yields_word t n (Some (built.Act which)) plain h = yields_other t _ refl refl plain
 

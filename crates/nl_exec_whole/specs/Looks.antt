@@ -151,10 +151,11 @@ abbrev pub looks_of_spread : Spread → List Look
 looks_of_spread (spread.Diffuse four) = Variable ∷ Part ∷ []
 looks_of_spread (spread.Climb up four) = Variable ∷ []
 
--- a block of new agents may be missing
+-- A word with an arrow block has it and a list or another value at least; further lists are all that there are. A block of new agents may be missing.
 abbrev pub looks_of_built : Built → List Look
 looks_of_built (built.Control word) = looks_of_control word
 looks_of_built (built.Over word) = looks_of_over word
+looks_of_built (built.Arrow word) = so_many 2
 looks_of_built (built.Making word) = so_many 1
 looks_of_built (built.Spread word) = looks_of_spread word
 looks_of_built (built.Act which) = so_many (inputs_of_act which)

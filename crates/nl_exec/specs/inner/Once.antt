@@ -1,6 +1,6 @@
 -- That levels fit the world can be shown in one way only, so that a machine may keep it as a fact.
-use Rattle.std.specs.Prelude.{Bool, ℕ, true, IsTrue, List, [], ◌∷◌, ◌++◌, drop, Option}
-use Rattle.std.specs.Coded.{×_prop, Π_prop, Unit-prop, le_prop, Coded-set, coded_bool}
+use Rattle.std.specs.Prelude.{Bool, ℕ, true, false, IsTrue, List, [], ◌∷◌, ◌++◌, drop, Option}
+use Rattle.std.specs.Coded.{×_prop, Π_prop, Unit-prop, le_prop, Coded-set, coded_bool, coded_ℕ}
 use Rattle.std.specs.List.{list_all}
 use Rattle.std.specs.List.Sorted.{IsStrictlyIncreasing}
 use Rattle.nl_words.specs.declared.entry.Kinds.{Kinds}
@@ -13,10 +13,14 @@ use Rattle.nl_exec_meaning.specs.declared.words.Making.{Making}
 use Rattle.nl_exec_meaning.specs.declared.words.Making.TheVariants as making
 use Rattle.nl_exec_meaning.specs.declared.sites.Site.{Site}
 use Rattle.nl_exec_meaning.specs.Walks.{Answer as Told, members_kept}
-use Rattle.nl_exec_meaning.specs.Ground.{Ground, SiteFits, fits, agent_fits}
+use Rattle.nl_exec_meaning.specs.Ground.{Ground, SiteFits, fits, all_fit, agent_fits}
 use Rattle.nl_exec_meaning.specs.Seen.{ground}
 use Rattle.nl_exec_meaning.specs.Sound.{MakingStands}
-use Rattle.nl_exec_meaning.specs.Standing.{AnsweringFits, FrameFits, MembersAscend, MembersFit, TurnsFit}
+use Rattle.nl_exec_meaning.specs.Standing.{AnsweringFits, FrameFits, MembersAscend, MembersFit, RoundsFit, TurnsFit}
+use Rattle.nl_exec_meaning.specs.Rounds.{RoundsStand, is_over}
+use Rattle.nl_exec_meaning.specs.declared.rounds.Rounds.{Rounds}
+use Rattle.nl_exec_meaning.specs.declared.words.Arrow.{Arrow}
+use Rattle.nl_exec_meaning.specs.declared.words.Arrow.TheVariants as arrow
 use Rattle.nl_exec_meaning.specs.declared.hands.Hands.{Hands}
 use Rattle.nl_exec_meaning.specs.declared.frames.Frame.{Frame}
 use Rattle.nl_exec_meaning.specs.declared.frames.Frame.TheVariants as frame
@@ -69,6 +73,21 @@ making_once layout runs breed making.Hatch = ×_prop (true_once _) (true_once _)
 making_once layout runs breed making.Sprout = ×_prop (true_once _) (true_once _)
 making_once layout runs breed (making.Link way one) = ×_prop (true_once _) (true_once _)
 
+stand_once : (word : Arrow) (rounds : Rounds) → IsProp (RoundsStand word rounds)
+stand_once arrow.ForEach rounds = true_once _
+stand_once arrow.Map rounds = true_once _
+stand_once arrow.Filter rounds = Coded-set coded_ℕ _ _
+stand_once arrow.Reduce rounds = Coded-set coded_ℕ _ _
+stand_once arrow.SortBy rounds = ×_prop (Coded-set coded_ℕ _ _) (Π_prop (λ within. ×_prop le_prop (Coded-set coded_bool _ false)))
+stand_once arrow.NValues rounds = le_prop
+
+rounds_once : (g : Ground) (word : Arrow) (rounds : Rounds) → IsProp (RoundsFit g word rounds)
+rounds_once g word rounds = λ x y i. record {
+  over = true_once (all_fit g rounds.over) x.over y.over i;
+  made = true_once (all_fit g rounds.made) x.made y.made i;
+  stand = stand_once word rounds x.stand y.stand i;
+}
+
 frame_once : (g : Ground) (f : Frame) → IsProp (FrameFits g f)
 frame_once g (frame.Part node at made) = true_once _
 frame_once g (frame.Body node reporter saved site) = ×_prop (true_once _) (site_once g site)
@@ -78,6 +97,9 @@ frame_once g (frame.Answering node index word member turns made what) =
     ×_prop (answering_once g member turns made) (ascend_once what (members_kept made ++ member ∷ drop turns.at turns.members))
 frame_once g (frame.MakingInput node word breed runs) = making_once g.layout runs breed word
 frame_once g (frame.Step node turtle by left rest way) = le_prop
+frame_once g (frame.ArrowInput node word at made) = true_once _
+frame_once g (frame.RoundWanted node index word rounds) = ×_prop (rounds_once g word rounds) (Coded-set coded_bool (is_over word rounds) false)
+frame_once g (frame.Round node index word kept rounds) = ×_prop (rounds_once g word rounds) (Coded-set coded_bool (is_over word rounds) false)
 frame_once g f = Unit-prop
 
 levels_once : (g : Ground) (levels : List Level) → IsProp (LevelsFit g levels)

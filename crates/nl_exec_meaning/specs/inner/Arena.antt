@@ -11,6 +11,7 @@ use Rattle.nl_tree.specs.declared.tree.Label.{Label}
 use Rattle.nl_tree.specs.declared.tree.Tree.{Tree}
 use Rattle.nl_exec_meaning.specs.Cases.{Case, case_of}
 use Rattle.nl_exec_meaning.specs.Code.{name_of, case_of_op}
+use Rattle.nl_exec_meaning.specs.Arrows.{head_of}
 use Rattle.nl_exec_meaning.specs.declared.item.Op.{Op}
 use Rattle.nl_exec_meaning.specs.declared.item.Op.TheVariants as op
 use Rattle.nl_exec_meaning.specs.declared.item.Item.{Item}
@@ -61,8 +62,12 @@ IsInputs names ids inputs = (map (name_of names) ids ≡ inputs) × ((k id : ℕ
 abbrev pub AreInputs : Names → List (List ℕ) → List Procedure → Type 0
 AreInputs names ids ps = (length ids ≡ length ps) × ((i : ℕ) (is : List ℕ) (p : Procedure) → slice_get ids i ≡ Some is → slice_get ps i ≡ Some p → IsInputs names is p.inputs)
 
--- An arena that is right: an item for each tree, those that are kept don't need the others, and first stand the bodies.
-pub record IsArena (p : Checked) (names : Names) (ts : List Node) (items : List Item) (ids : List (List ℕ)) (kept : ℕ) : Type 0 where
+-- these are the numbers of the names that the head of each tree has, where it has one
+abbrev pub AreHeads : Names → List (List ℕ) → List Node → Type 0
+AreHeads names heads ts = (length heads ≡ length ts) × ((i : ℕ) (ids : List ℕ) (t : Node) → slice_get heads i ≡ Some ids → slice_get ts i ≡ Some t → IsInputs names ids (head_of t))
+
+-- An arena that is right: an item and the numbers of a head for each tree, those that are kept don't need the others, and first stand the bodies.
+pub record IsArena (p : Checked) (names : Names) (ts : List Node) (items : List Item) (ids hs : List (List ℕ)) (kept : ℕ) : Type 0 where
   pub right : AreItems p.declared names ts items
   pub full : length items ≡ length ts
   pub least : AreItems p.declared names (take kept ts) (take kept items)
@@ -70,4 +75,5 @@ pub record IsArena (p : Checked) (names : Names) (ts : List Node) (items : List 
   pub bodies : Grows p.bodies (take kept ts)
   pub many : length p.bodies ≡ length p.declared.procedures
   pub inputs : AreInputs names ids p.declared.procedures
+  pub heads : AreHeads names hs ts
   pub apart : AreNames names

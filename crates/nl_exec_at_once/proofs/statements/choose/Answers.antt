@@ -39,18 +39,19 @@ returns-in_default-done-clause-done g c =
     let there = sym c.in-Some.ensures.value in
     let is = sym c.requires.is.1 in
     let breed = c.requires.is.0 in
+    let plain = c.is_plain.ensures (c.if-not-is_plain.false) in
     let told = λ (b : Bool). IsDrawn code drawn before part 9 (PlainTruth b) in
     elim c.match-truth_or_chance.branch [
       | in-Some-true w ↦ rw (w.done-is, w.hands-is, w.units-is)
           (IfSome_then w.do_chosen-done.result w.do_chosen-done.ensures.done (λ how chosen.
-          goes_by_first code node part runs breed c.args.either drawn before units is may there how w.do_chosen-done.new.hands w.do_chosen-done.new.units
+          goes_by_first code node part runs breed c.args.either drawn before units is may there plain how w.do_chosen-done.new.hands w.do_chosen-done.new.units
           (subst told w.in-Some-true.field-0-test w.in-Some-true.ensures.drawn) chosen))
       | in-Some-false+then-either w ↦ rw (w.done-is, w.hands-is, w.units-is)
           (IfSome_then w.do_chosen.result w.do_chosen.ensures.done (λ how chosen.
-          goes_by_second code node part runs breed c.args.either drawn before units is may there w.if-either.true how w.do_chosen.new.hands w.do_chosen.new.units
+          goes_by_second code node part runs breed c.args.either drawn before units is may there plain w.if-either.true how w.do_chosen.new.hands w.do_chosen.new.units
           (subst told w.in-Some-false.field-0-test w.in-Some-false.ensures.drawn) chosen))
       | in-Some-false+else-either w ↦ rw (w.done-is, w.hands-is, w.units-is)
-          (goes_by_none code node part runs breed c.args.either drawn before units is may there w.if-either.false
+          (goes_by_none code node part runs breed c.args.either drawn before units is may there plain w.if-either.false
           (subst told w.in-Some-false.field-0-test w.in-Some-false.ensures.drawn))
       | in-None w ↦ rw w.done-is tt
     ]

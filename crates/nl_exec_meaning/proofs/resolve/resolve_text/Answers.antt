@@ -3,6 +3,7 @@ use Rattle.std.proofs.Common.{◌≡◌, length, ◌∙◌, arith}
 use Rattle.std.proofs.lemmas.Option.{slice_get_within}
 use Rattle.nl_exec_meaning.specs.inner.Arena.{trees_seen}
 use Rattle.nl_tree.specs.Views.{plain}
+use Rattle.nl_exec_meaning.proofs.Heads.{heads_grown, heads_of_grown}
 use Rattle.nl_exec_meaning.proofs.Lists.{grows_same, grows_on, grown_get}
 use Rattle.nl_exec_meaning.proofs.Resolved.{items_grown, trees_length}
 use Rattle.nl_exec_meaning.proofs.Kept.{push_grows, pushed_tree}
@@ -35,3 +36,36 @@ returns-in_err-resolve_all-clause-trees c =
     let ts = c.args.trees.now.items in
     grows_on (trees_seen ts) (trees_seen c.push.new.self.items) (trees_seen c.resolve_all.new.trees.items)
     (push_grows ts c.push.new.self.items c.args.text c.in_ok-push.ensures.items) c.resolve_all.ensures.trees
+
+pub returns-in_err-number_heads-clause-trees : goal.returns-in_err-number_heads-clause-trees
+returns-in_err-number_heads-clause-trees c =
+    let ts = c.args.trees.now.items in
+    grows_on (trees_seen ts) (trees_seen c.push.new.self.items) (trees_seen c.resolve_all.new.trees.items)
+    (push_grows ts c.push.new.self.items c.args.text c.in_ok-push.ensures.items) c.resolve_all.ensures.trees
+
+pub number_heads-requires : goal.number_heads-requires
+number_heads-requires c =
+    let ts = c.args.trees.now.items in
+    let us = c.resolve_all.new.trees.items in
+    let grown = grows_on (trees_seen ts) (trees_seen c.push.new.self.items) (trees_seen us) (push_grows ts c.push.new.self.items c.args.text c.in_ok-push.ensures.items) c.resolve_all.ensures.trees in
+    record {
+      heads = rw c.as_slice.ensures.value
+          (heads_of_grown c.resolve_all.new.names c.args.heads.now.items (trees_seen ts) (trees_seen us)
+          (heads_grown c.args.names.now c.resolve_all.new.names c.resolve_all.ensures.names c.args.heads.now.items (trees_seen ts) c.requires.heads) grown);
+    }
+
+pub returns-clause-right : goal.returns-clause-right
+returns-clause-right c =
+    let us = c.resolve_all.new.trees.items in
+    let full = c.in_ok-resolve_all.ensures.full in
+    items_grown c.args.program.now.declared c.resolve_all.new.names c.number_heads.new.names (trees_seen us) (trees_seen us) c.resolve_all.new.items.items
+    c.number_heads.ensures.grows (grows_same (trees_seen us)) (let n = trees_length us in omega (arith, full, n)) c.in_ok-resolve_all.ensures.right
+
+pub returns-clause-heads : goal.returns-clause-heads
+returns-clause-heads c = rw c.as_slice.ensures.value at c.in_ok-number_heads.ensures.heads
+
+pub returns-clause-names : goal.returns-clause-names
+returns-clause-names c = grows_on c.args.names.now c.resolve_all.new.names c.number_heads.new.names c.resolve_all.ensures.names c.number_heads.ensures.grows
+
+pub returns-in_err-number_heads-clause-names : goal.returns-in_err-number_heads-clause-names
+returns-in_err-number_heads-clause-names c = grows_on c.args.names.now c.resolve_all.new.names c.number_heads.new.names c.resolve_all.ensures.names c.number_heads.ensures.grows

@@ -1,0 +1,17 @@
+pub mod Beside
+pub mod Fewest
+pub mod Fitted
+pub mod Folding
+pub mod Given
+pub mod InputsLeft
+pub mod Lengths
+pub mod Naming
+pub mod Ones
+pub mod Ordering
+pub mod Pairs
+pub mod Ranking
+pub mod Running
+pub mod Selecting
+pub mod Sorting
+pub mod Starting
+pub mod Turning
