@@ -1,3 +1,6 @@
-mod Cells
 mod Counts
+mod Cuts
+mod Ends
+mod FoundAgain
+mod Fronts
 mod LineText

@@ -1,3 +1,5 @@
 pub mod Lines
 pub mod Header
 pub mod Laws
+pub mod Pieces
+pub mod PieceLaws
