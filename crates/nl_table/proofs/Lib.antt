@@ -4,3 +4,4 @@ mod Ends
 mod FoundAgain
 mod Fronts
 mod LineText
+mod Readings

@@ -5,7 +5,9 @@ pub mod headers;
 pub mod laws;
 pub mod lines;
 pub mod pieces;
+pub mod reading;
 
 pub use headers::header;
 pub use lines::{Record, line};
 pub use pieces::piece_end;
+pub use reading::cells;
