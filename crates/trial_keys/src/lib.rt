@@ -8,4 +8,6 @@ mod keys;
 #[cfg(test)]
 mod literals;
 #[cfg(test)]
+mod pieces;
+#[cfg(test)]
 mod tables;

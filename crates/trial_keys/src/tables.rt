@@ -132,7 +132,7 @@ fn a_header_has_six_lines(rt: HostRuntime) {
 }
 
 // A list of so many cells of so many bytes each. None at want of memory.
-fn many_cells(alloc: Global, count: usize, bytes: usize, byte: u8) -> Option<Cells> {
+pub(crate) fn many_cells(alloc: Global, count: usize, bytes: usize, byte: u8) -> Option<Cells> {
     let mut cells = Cells::empty(alloc);
     for _ in 0..count {
         let mut cell = Str::of(alloc, b"").ok()?;
