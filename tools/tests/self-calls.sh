@@ -190,6 +190,15 @@ fn count(list: &[u64]) -> u64 {
     let mut count = list.len();
     told(count)
 }
+
+// A quote between single quotes begins no text, so that the next function is seen.
+fn quoted(byte: u8) -> bool {
+    byte == b'"'
+}
+
+fn unquoted(byte: u8) -> bool {
+    byte != b'"' && quoted(byte)
+}
 END
 cp crates/low/src/*.rt crates/trial_low/src
 
