@@ -18,7 +18,7 @@ fronts_have_no_end cells front rest some same more =
     ap (λ l. slice_get l 0) (fronts_are_open (line_text cells) front rest (line_is_piece cells some) same more)
 
 -- bytes without an end are left over
-open_pieces : (bytes : Bytes) → ends bytes ≡ [] → (pieces bytes ≡ []) × (left_over bytes ≡ bytes)
+pub open_pieces : (bytes : Bytes) → ends bytes ≡ [] → (pieces bytes ≡ []) × (left_over bytes ≡ bytes)
 open_pieces bytes none = (ap (λ l. parts 0 l bytes) none, ap (λ l. drop (last_end 0 l) bytes) none)
 
 abbrev IsCutRight : Bytes → Type 0
@@ -47,11 +47,11 @@ pub pieces_are_the_bytes : PiecesAreTheBytes
 pieces_are_the_bytes bytes = cut_right (length bytes + 1) bytes (omega arith)
 
 -- bytes with the first end at their length are a piece
-has_none : (l : List ℕ) → slice_get l 0 ≡ None → l ≡ []
+pub has_none : (l : List ℕ) → slice_get l 0 ≡ None → l ≡ []
 has_none [] e = refl
 has_none (x ∷ l) e = absurd (cc e)
 
-is_piece : (bytes : Bytes) → first_end bytes ≡ Some (length bytes) → IsPiece bytes
+pub is_piece : (bytes : Bytes) → first_end bytes ≡ Some (length bytes) → IsPiece bytes
 is_piece bytes e = cases (cut bytes)
   where
     cases : Cut bytes → IsPiece bytes

@@ -5,3 +5,5 @@ mod FoundAgain
 mod Fronts
 mod LineText
 mod Readings
+mod Reaching
+mod ReachedOnce

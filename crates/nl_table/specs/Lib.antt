@@ -4,3 +4,6 @@ pub mod Laws
 pub mod Pieces
 pub mod PieceLaws
 pub mod Reading
+pub mod Reach
+pub mod ReachLaws
+pub mod inner

@@ -5,9 +5,11 @@ pub mod headers;
 pub mod laws;
 pub mod lines;
 pub mod pieces;
+pub mod reach;
 pub mod reading;
 
 pub use headers::header;
 pub use lines::{Record, line};
 pub use pieces::piece_end;
+pub use reach::{Reach, reach_of};
 pub use reading::cells;

@@ -67,7 +67,7 @@ fn is_line_of(piece: &[u8], row: &ByteRecord) -> bool
 }
 
 // A reader of records of any lengths, the first of which is one as the others.
-fn reader_of(alloc: Global, bytes: &[u8]) -> Reader<&[u8]>
+pub(crate) fn reader_of(alloc: Global, bytes: &[u8]) -> Reader<&[u8]>
     ensures { StandsBefore result bytes.now }
 {
     ReaderBuilder::new()
@@ -89,7 +89,7 @@ fn next_record(reader: &mut Reader<&[u8]>, row: &mut ByteRecord) -> Result<bool,
 }
 
 // Reads a record, and tells whether the next piece is the line of its fields.
-fn reads_line(
+pub(crate) fn reads_line(
     reader: &mut Reader<&[u8]>,
     row: &mut ByteRecord,
     piece: &[u8],

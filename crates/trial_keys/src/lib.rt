@@ -10,4 +10,6 @@ mod literals;
 #[cfg(test)]
 mod pieces;
 #[cfg(test)]
+mod reach;
+#[cfg(test)]
 mod tables;
