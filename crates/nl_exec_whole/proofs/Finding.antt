@@ -1,5 +1,5 @@
 -- Each node of a text is a construct that finds what it looks for.
-use Rattle.std.proofs.Common.{◌≡◌, ℕ, zero, suc, ◌<◌, ℤ, Bool, true, false, not, ◌||◌, ◌&&◌, IsTrue, IsSome, List, [], ◌∷◌, length, Option, Some, None, slice_get, refl, sym, ap, subst, ◌∙◌, arith}
+use Rattle.std.proofs.Common.{◌≡◌, ℕ, zero, suc, ◌<◌, ℤ, Bool, true, false, not, ◌||◌, ◌&&◌, IsTrue, IsSome, List, [], ◌∷◌, length, Option, Some, None, slice_get, refl, sym, subst, ◌∙◌, arith}
 use Rattle.std.specs.Prelude.{if◌then◌else◌, nat_lt}
 use Rattle.std.specs.List.{list_all}
 use Rattle.std.specs.Cmp.{first_so, second_so}
@@ -8,7 +8,6 @@ use Rattle.std.proofs.lemmas.Option.{slice_get_within}
 use Rattle.nl_fixed.specs.Nouns.{Name}
 use Rattle.nl_words.specs.Row.{Row}
 use Rattle.nl_words.specs.Rows.{rows}
-use Rattle.nl_words.specs.Table.{has_turns}
 use Rattle.nl_words.specs.declared.entry.Kinds.{Kinds}
 use Rattle.nl_words.specs.declared.entry.Role.TheVariants as role
 use Rattle.nl_words.specs.declared.entry.Input.{Input}
@@ -20,7 +19,7 @@ use Rattle.nl_tree.specs.declared.tree.Label.{Label}
 use Rattle.nl_tree.specs.declared.tree.Label.TheVariants as label
 use Rattle.nl_tree.specs.Context.{Kind, Observer, Turtle, Patch, Link, allows, is_variable}
 use Rattle.nl_tree.specs.Term.{Term}
-use Rattle.nl_tree.specs.Tokens.{inputs_of, repeated}
+use Rattle.nl_tree.specs.Tokens.{inputs_of, names_of, repeated}
 use Rattle.nl_tree.specs.Tree as tree
 use Rattle.nl_tree.specs.Tree.{Node, node, Nodes, none, more}
 use Rattle.nl_tree.specs.Vocabulary.{base_term, directed_patterns, global_names, global_term, owned_names, owned_term, procedure_term, term_named, terms, turtle_patterns, undirected_patterns}
@@ -32,7 +31,7 @@ use Rattle.nl_exec_meaning.specs.Cases.{Case, built_case, slot_case, apart_case,
 use Rattle.nl_exec_meaning.specs.Cases as case
 use Rattle.nl_exec_meaning.specs.Meaning.{name_in}
 use Rattle.nl_exec_meaning.specs.Words.{apart_word, built_word}
-use Rattle.nl_exec_whole.specs.Parts.{Each, EachIn, is_local, is_settable, is_reserved, stands_nowhere, IsInput, AreInputs, AreTaken, AreOfWord, IsOne, AreOf}
+use Rattle.nl_exec_whole.specs.Parts.{Each, EachIn, is_local, is_settable, is_reserved, takes_any, IsInput, AreInputs, AreTaken, AreOfWord, IsOne, AreOf}
 use Rattle.nl_exec_whole.specs.Looks.{Look, Part, NewName, Variable, looks_of_built, looks_of, is_variable_case, IsFound, AreFound, has_apart, IsThere, is_nothing, IsWhole, NodesAreWhole}
 use Rattle.nl_exec_whole.proofs.Terms.{each_row, made_term, of_each_breed, pattern_by}
 use Rattle.nl_exec_whole.proofs.TextParts.{nodes_have_their_parts}
@@ -48,7 +47,7 @@ meets Variable input.Variable = true
 meets Variable i = false
 
 abbrev covers : List Look → Bool → List Input → Bool
-covers [] many is = true
+covers [] any is = true
 covers (l ∷ ls) true is = false
 covers (l ∷ ls) false [] = false
 covers (l ∷ ls) false (i ∷ is) = meets l i && covers ls false is
@@ -75,7 +74,7 @@ is_there other = true
 abbrev row_passes : Row → Bool
 row_passes r =
     let it = built_case (base_term r) None r.code in
-    or_not (not (stands_nowhere (base_term r))) (not (is_nothing it) && covers (looks_of it) r.many (inputs_of (base_term r)))
+    or_not (not (is_reserved r.role)) (not (is_nothing it) && covers (looks_of it) (takes_any (base_term r)) (inputs_of (base_term r)))
     && or_not (is_variable r.role) (is_variable_case it) && is_there it
 
 rows_pass : list_all row_passes rows ≡ true
@@ -89,7 +88,7 @@ is_none (Some x) = false
 
 abbrev word_covers : Option Built → Row → Bool
 word_covers None r = is_reserved r.role
-word_covers (Some word) r = covers (looks_of_built word) r.many (inputs_of (base_term r))
+word_covers (Some word) r = covers (looks_of_built word) (takes_any (base_term r)) (inputs_of (base_term r))
 
 abbrev breed_passes : Row → Bool
 breed_passes r = is_none (slot_of_code r.code) && is_none (apart_word r.code) && not (is_variable r.role) && word_covers (built_word r.code) r
@@ -110,15 +109,15 @@ directed_pass = refl
 
 -- as many parts as the inputs have
 abbrev IsThereFor : Declared → Case → Term → Type 0
-IsThereFor d (case.Procedure index) r = (p : Procedure) × ((slice_get d.procedures index ≡ Some p) × (r.many ≡ false) × (inputs_of r ≡ repeated (length p.inputs)))
+IsThereFor d (case.Procedure index) r = (p : Procedure) × ((slice_get d.procedures index ≡ Some p) × (takes_any r ≡ false) × (inputs_of r ≡ repeated (length p.inputs)))
 IsThereFor d (case.Global slot) r = slot < length (global_names d)
 IsThereFor d (case.Owned runs slot) r = slot < slots_count d
 IsThereFor d (case.Aside runs which) r = (kind : Kind) → IsTrue (allows runs kind) → IsTrue (has_apart kind which)
 IsThereFor d other r = Unit {0}
 
 pub record IsMet (d : Declared) (it : Case) (r : Term) : Type 0 where
-  pub something : stands_nowhere r ≡ false → is_nothing it ≡ false
-  pub looks : stands_nowhere r ≡ false → covers (looks_of it) r.many (inputs_of r) ≡ true
+  pub something : is_reserved r.role ≡ false → is_nothing it ≡ false
+  pub looks : is_reserved r.role ≡ false → covers (looks_of it) (takes_any r) (inputs_of r) ≡ true
   pub variable : is_variable r.role ≡ true → is_variable_case it ≡ true
   pub program : IsThereFor d it r
 
@@ -171,12 +170,12 @@ module _ (d : Declared) where
   met_base r h =
       let it = built_case (base_term r) None r.code in
       let x = not (is_nothing it) in
-      let b = covers (looks_of it) r.many (inputs_of (base_term r)) in
-      let a = or_not (not (stands_nowhere (base_term r))) (x && b) in
+      let b = covers (looks_of it) (takes_any (base_term r)) (inputs_of (base_term r)) in
+      let a = or_not (not (is_reserved r.role)) (x && b) in
       let c = or_not (is_variable r.role) (is_variable_case it) in
       let e = is_there it in
       let two = first_so (a && c) e h in
-      let both = λ (here : stands_nowhere (base_term r) ≡ false). follows (not (stands_nowhere (base_term r))) (x && b) (first_so a c two) (not_to (stands_nowhere (base_term r)) here) in
+      let both = λ (here : is_reserved r.role ≡ false). follows (not (is_reserved r.role)) (x && b) (first_so a c two) (not_to (is_reserved r.role) here) in
       record {
         something = λ here. not_false (is_nothing it) (first_so x b (both here));
         looks = λ here. second_so x b (both here);
@@ -187,7 +186,7 @@ module _ (d : Declared) where
   met_word : (n : ℕ) (name : Name) (r : Row) (word : Option Built) → is_variable r.role ≡ false → word_covers word r ≡ true
       → IsMet d (word_case r.runs (Some n) word) (made_term n name r)
   met_word n name r None plain h =
-      record { something = λ here. let bad : true ≡ false = sym (ap (λ b. b || has_turns r.turns) h) ∙ here in cc; looks = λ here. refl; variable = λ is. let bad : true ≡ false = sym is ∙ plain in cc; program = tt }
+      record { something = λ here. let bad : true ≡ false = sym h ∙ here in cc; looks = λ here. refl; variable = λ is. let bad : true ≡ false = sym is ∙ plain in cc; program = tt }
   met_word n name r (Some word) plain h =
       record { something = λ here. refl; looks = λ here. h; variable = λ is. let bad : true ≡ false = sym is ∙ plain in cc; program = tt }
 
@@ -242,39 +241,40 @@ module _ (d : Declared) where
   variable_there name None each h = refl
   variable_there name (Some r) each h = (each r refl).variable h
 
-  found_one : (l : Look) (i : Input) (t : Node) → meets l i ≡ true → IsInput (terms d) i t → IsFound d l t
-  found_one Part i t m h = tt
-  found_one NewName input.Fresh t m (name, s, (is, passes)) =
+  found_one : (l : Look) (n : ℕ) (i : Input) (t : Node) → meets l i ≡ true → IsInput (terms d) n i t → IsFound d l t
+  found_one Part n i t m h = tt
+  found_one NewName n input.Fresh t m (name, s, (is, passes)) =
       subst (λ u. IsSome (name_in (case_of d (tree.label u)))) (sym is) (new_name name (term_named (terms d) name) passes)
-  found_one Variable input.Variable t m (name, s, (is, passes)) =
+  found_one Variable n input.Variable t m (name, s, (is, passes)) =
       subst (λ u. IsTrue (is_variable_case (case_of d (tree.label u)))) (sym is) (variable_there name (term_named (terms d) name) (met name) passes)
-  found_one NewName i t m h = cc
-  found_one Variable i t m h = cc
+  found_one NewName n i t m h = cc
+  found_one Variable n i t m h = cc
 
   no_maybe : (l : Look) (ls : List Look) (is : List Input) → (meets l input.MaybeCommands && covers ls false is) ≡ true → ⊥
   no_maybe Part ls is h = cc
   no_maybe NewName ls is h = cc
   no_maybe Variable ls is h = cc
 
-  found_all : (ls : List Look) (many : Bool) (is : List Input) (ts : List Node) → covers ls many is ≡ true → AreTaken (terms d) many is ts → AreFound d ls ts
-  found_all [] many is ts h k = tt
-  found_all (l ∷ ls) true is ts h k = cc
-  found_all (l ∷ ls) false [] ts h k = cc
-  found_all (l ∷ ls) false (input.MaybeCommands ∷ is) ts h k = absurd (no_maybe l ls is h)
-  found_all (l ∷ ls) false (i ∷ is) [] h k = absurd k
-  found_all (l ∷ ls) false (i ∷ is) (t ∷ ts) h k =
-      (found_one l i t (first_so (meets l i) (covers ls false is) h) k.0, found_all ls false is ts (second_so (meets l i) (covers ls false is) h) k.1)
+  found_all : (ls : List Look) (n : ℕ) (any : Bool) (is : List Input) (ts : List Node) → covers ls any is ≡ true → AreTaken (terms d) n any is ts → AreFound d ls ts
+  found_all [] n any is ts h k = tt
+  found_all (l ∷ ls) n true is ts h k = cc
+  found_all (l ∷ ls) n false [] ts h k = cc
+  found_all (l ∷ ls) n false (input.MaybeCommands ∷ is) ts h k = absurd (no_maybe l ls is h)
+  found_all (l ∷ ls) n false (i ∷ is) [] h k = absurd k
+  found_all (l ∷ ls) n false (i ∷ is) (t ∷ ts) h k =
+      (found_one l n i t (first_so (meets l i) (covers ls false is) h) k.0, found_all ls n false is ts (second_so (meets l i) (covers ls false is) h) k.1)
 
-  count_values : (n : ℕ) (ts : List Node) → AreInputs (terms d) (repeated n) ts → length ts ≡ n
-  count_values zero [] h = refl
-  count_values zero (t ∷ ts) h = absurd h
-  count_values (suc n) [] h = absurd h
-  count_values (suc n) (t ∷ ts) h = omega (arith, count_values n ts h.1)
+  count_values : (n count : ℕ) (ts : List Node) → AreInputs (terms d) n (repeated count) ts → length ts ≡ count
+  count_values n zero [] h = refl
+  count_values n zero (t ∷ ts) h = absurd h
+  count_values n (suc count) [] h = absurd h
+  count_values n (suc count) (t ∷ ts) h = omega (arith, count_values n count ts h.1)
 
-  there_with : (it : Case) (r : Term) (ts : List Node) → IsThereFor d it r → AreTaken (terms d) r.many (inputs_of r) ts → IsThere d it (length ts)
+  there_with : (it : Case) (r : Term) (ts : List Node) → IsThereFor d it r → AreTaken (terms d) (names_of r.turns) (takes_any r) (inputs_of r) ts → IsThere d it (length ts)
   there_with (case.Procedure index) r ts (p, (at, few, these)) h =
-      let values = subst (λ is. AreTaken (terms d) false is ts) these (subst (λ b. AreTaken (terms d) b (inputs_of r) ts) few h) in
-      (p, (at, count_values (length p.inputs) ts values))
+      let n = names_of r.turns in
+      let values = subst (λ is. AreTaken (terms d) n false is ts) these (subst (λ b. AreTaken (terms d) n b (inputs_of r) ts) few h) in
+      (p, (at, count_values n (length p.inputs) ts values))
   there_with (case.Global slot) r ts there h = there
   there_with (case.Owned runs slot) r ts there h = there
   there_with (case.Aside runs which) r ts there h = there
@@ -287,7 +287,7 @@ module _ (d : Declared) where
   word_whole name None ts each h = (refl, tt, tt)
   word_whole name (Some r) ts each h =
       let m = each r refl in
-      (m.something h.0, found_all (looks_of (case_of_what r r.what)) r.many (inputs_of r) ts (m.looks h.0) h.1, there_with (case_of_what r r.what) r ts m.program h.1)
+      (m.something h.0, found_all (looks_of (case_of_what r r.what)) (names_of r.turns) (takes_any r) (inputs_of r) ts (m.looks h.0) h.1, there_with (case_of_what r r.what) r ts m.program h.1)
 
   one_found : (ts : List Node) → IsOne ts → AreFound d (Part ∷ []) ts
   one_found ts (t, is) = subst (AreFound d (Part ∷ [])) (sym is) (tt, tt)

@@ -1,9 +1,10 @@
 -- Each name of a text is known at its place: by induction over the reading of its tokens.
-use Rattle.std.proofs.Common.{◌≡◌, Bool, true, false, IsTrue, List, [], ◌∷◌, ◌++◌, Option, Some, None, refl, sym, ap, subst, ◌∙◌}
-use Rattle.std.specs.Prelude.{if◌then◌else◌}
+use Rattle.std.proofs.Common.{◌≡◌, Bool, true, false, IsTrue, List, [], ◌∷◌, ◌++◌, Option, Some, None, bytes_eq, refl, sym, ap, subst, ◌∙◌}
+use Rattle.std.specs.Prelude.{if◌then◌else◌, ◌||◌}
 use Rattle.nl_fixed.specs.Nouns.{Name, Names}
 use Rattle.nl_tree.specs.declared.declared.Form.{Form}
 use Rattle.nl_tree.specs.declared.declared.Form.TheVariants as form
+use Rattle.nl_tree.specs.declared.tree.Label.{Label}
 use Rattle.nl_tree.specs.declared.tree.Label.TheVariants as label
 use Rattle.nl_tree.specs.Tree.{Node, node, Nodes, none, more}
 use Rattle.nl_tree.specs.Term.{Term}
@@ -11,12 +12,59 @@ use Rattle.nl_tree.specs.Vocabulary.{among, term_named, terms}
 use Rattle.nl_tree.specs.Tokens.{Token, Tok, Class, Unknown, Constant, Plain, Named, Prefix, Many, Closing, Command, Let, With, Near, Of, Binary, class_of, marked}
 use Rattle.nl_tree.specs.Slots.{is_let, made_at, first_name}
 use Rattle.nl_tree.specs.Grammar as grammar
-use Rattle.nl_tree.specs.Grammar.{one, two, leaf, join, and_last, Part, Closed, Chain, Sides, Call, LastCall, Items, AnyItems, Level, Literals, Arg, Args, Statement, Statements, Reads, IsText}
-use Rattle.nl_exec_whole.specs.Scopes.{makes, Beside, Sequence, order_by, IsKnownBy, InScope, InParts, NamesAreKnown}
+use Rattle.nl_tree.specs.Grammar.{one, two, leaf, join, and_last, Part, Closed, Chain, Sides, Call, LastCall, Items, AnyItems, Level, Literals, Arg, Args, Head, HeadNames, Statement, Statements, Reads, IsText}
+use Rattle.nl_exec_whole.specs.Scopes.{makes, head_of, Order, Beside, Sequence, Naming, order_by, order_of, IsKnownBy, IsKnown, InScope, InParts, NamesAreKnown}
 use Rattle.nl_exec_whole.proofs.Marked.{AreMarked, all_marked}
 use Rattle.nl_exec_whole.proofs.Rows.{is_unknown, no_row}
 
+-- ---- more names
+
+abbrev Within : Names → Names → Type 0
+Within e f = (v : Name) → IsTrue (among v e) → IsTrue (among v f)
+
+-- a name in front of both
+in_front : (here e f : Bool) → (IsTrue e → IsTrue f) → IsTrue (here || e) → IsTrue (here || f)
+in_front true e f h k = refl
+in_front false e f h k = h k
+
+within_front : (ns e f : Names) → Within e f → Within (ns ++ e) (ns ++ f)
+within_front [] e f h v k = h v k
+within_front (n ∷ ns) e f h v k = in_front (bytes_eq n v) (among v (ns ++ e)) (among v (ns ++ f)) (within_front ns e f h v) k
+
+-- the first name of a head goes before those behind it
+passed : (first here e f : Bool) → (IsTrue e → IsTrue (first || f)) → IsTrue (here || e) → IsTrue (first || (here || f))
+passed true true e f h k = refl
+passed true false e f h k = refl
+passed false true e f h k = refl
+passed false false e f h k = h k
+
+first_passes : (n : Name) (ns e : Names) → Within (ns ++ (n ∷ e)) (n ∷ (ns ++ e))
+first_passes n [] e v k = k
+first_passes n (m ∷ ns) e v k = passed (bytes_eq n v) (bytes_eq m v) (among v (ns ++ (n ∷ e))) (among v (ns ++ e)) (first_passes n ns e v) k
+
 module _ (table : List Term) where
+  known_within : (e f : Names) (w : Name) (o : Option Term) → Within e f → IsKnownBy o e w → IsKnownBy o f w
+  known_within e f w None wide h = wide w h
+  known_within e f w (Some t) wide h = tt
+
+  label_within : (e f : Names) (l : Label) → Within e f → IsKnown table e l → IsKnown table f l
+  label_within e f (label.Named w) wide h = known_within e f w (term_named table w) wide h
+  label_within e f l wide h = tt
+
+  mutual
+    scope_within : (t : Node) (e f : Names) → Within e f → InScope table e t → InScope table f t
+    scope_within (node l s ts) e f wide h =
+        (label_within e f l wide h.0, parts_within ts (order_of table l) (head_of l ++ e) (head_of l ++ f) (within_front (head_of l) e f wide) h.1)
+
+    parts_within : (ts : Nodes) (order : Order) (e f : Names) → Within e f → InParts table e order ts → InParts table f order ts
+    parts_within none order e f wide h = tt
+    parts_within (more t ts) Beside e f wide h = (scope_within t e f wide h.0, parts_within ts Beside e f wide h.1)
+    parts_within (more t ts) Sequence e f wide h =
+        (scope_within t e f wide h.0, parts_within ts Sequence (makes table t ++ e) (makes table t ++ f) (within_front (makes table t) e f wide) h.1)
+    parts_within (more t ts) Naming e f wide h = parts_within ts Beside e f wide h
+
+  -- ---- the reading
+
   join_scopes : (e : Names) (ts us : Nodes) → InParts table e Beside ts → InParts table e Beside us → InParts table e Beside (join ts us)
   join_scopes e none us h k = k
   join_scopes e (more t ts) us h k = (h.0, join_scopes e ts us h.1 k)
@@ -51,9 +99,11 @@ module _ (table : List Term) where
   first_makes none = []
   first_makes (more t ts) = makes table t
 
-  -- what is known after a statement
+  -- what is known after a statement, and behind a head
   abbrev Then : Part → Names → Nodes → Type 0
   Then (Statement f) e ts = first_makes ts ++ e ≡ f
+  Then (Head n ns f) e ts = Within f (ns ++ e)
+  Then (HeadNames n ns f) e ts = Within f (ns ++ e)
   Then p e ts = Unit {0}
 
   no_name : (e : Names) (w : Name) (ts : Nodes) (c : Class) → c ≡ class_of (term_named table w) → is_let c ≡ false → made_at table (label.Named w) ts ++ e ≡ e
@@ -140,6 +190,22 @@ module _ (table : List Term) where
   read (grammar.arg_whole r) m = read r m
   read (grammar.arg_commands r) m = let x = read r m.1 in (((tt, x.0), tt), x.1, tt)
   read (grammar.arg_reporter r) m = let x = read r m.1 in (((tt, x.0), tt), x.1.1, tt)
+  read (grammar.arg_arrow_commands {e = e} {f = f} {ns = ns} {ts = ts} r q) m =
+      let x = read r m.1 in
+      let y = read q x.1 in
+      (((tt, ((tt, parts_within ts Sequence f (ns ++ e) x.2 y.0), tt)), tt), y.1, tt)
+  read (grammar.arg_arrow_reporter {e = e} {f = f} {ns = ns} {t = t} r q) m =
+      let x = read r m.1 in
+      let y = read q x.1 in
+      (((tt, (scope_within t f (ns ++ e) x.2 y.0.0, tt)), tt), y.1.1, tt)
+  read (grammar.no_head) m = (tt, m, λ v k. k)
+  read (grammar.head_arrow) m = (tt, m.1, λ v k. k)
+  read (grammar.head_name h) m = (tt, m.1.1, λ v k. k)
+  read (grammar.head_names r) m = let x = read r m.1 in (tt, x.1.1, x.2)
+  read (grammar.names_end) m = (tt, m.1, λ v k. k)
+  read (grammar.next_name {e = e} {ns = ns} {w = w} h r) m =
+      let x = read r m.1 in
+      (tt, x.1, λ v k. first_passes w ns e v (x.2 v k))
   read (grammar.arg_variable {e = e} {w = w} {s = s}) m = ((word e w s none Named m.0 refl refl tt, tt), m.1, tt)
   read (grammar.arg_local {e = e} {w = w} {s = s} h) m = ((local e w s h m.0, tt), m.1, tt)
   read (grammar.no_arg) m = (tt, m, tt)

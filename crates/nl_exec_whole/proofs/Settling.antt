@@ -23,7 +23,7 @@ use Rattle.nl_tree.specs.declared.tree.Label.{Label}
 use Rattle.nl_tree.specs.declared.tree.Label.TheVariants as label
 use Rattle.nl_tree.specs.Context.{Piece, Pieces, use_of, block_of, no_piece, a_piece, packed, Sub, text_of, is_block, runs_itself, inner_pieces, parts_pieces, all_pieces, after_first, is_operator, word_pieces, flat, label_at, span_at, pieces, subs, given, Use, with_piece, uses_in, uses_among, uses, block_kinds, kinds_of_subs, manner_by, fixed_by, row_of_what, row_of_term, is_on_patches, is_not_settable, is_variable, IsRight}
 use Rattle.nl_tree.specs.Term.{Term}
-use Rattle.nl_tree.specs.Tokens.{inputs_of, repeated}
+use Rattle.nl_tree.specs.Tokens.{inputs_of, names_of, repeated}
 use Rattle.nl_tree.specs.Tree as tree
 use Rattle.nl_tree.specs.Tree.{Node, node, Nodes, none, more, listed}
 use Rattle.nl_tree.specs.Vocabulary.{base_term, directed_patterns, procedure_term, term_named, terms, turtle_patterns, undirected_patterns}
@@ -36,7 +36,7 @@ use Rattle.nl_exec_meaning.specs.Cases.{Case, built_case, slot_case, apart_case,
 use Rattle.nl_exec_meaning.specs.Cases as case
 use Rattle.nl_exec_meaning.specs.Meaning.{slot_in}
 use Rattle.nl_exec_meaning.specs.Words.{apart_word, built_word}
-use Rattle.nl_exec_whole.specs.Parts.{Each, EachIn, is_local, is_settable, IsName, IsInput, AreInputs, AreTaken, AreOfWord, AreOf}
+use Rattle.nl_exec_whole.specs.Parts.{Each, EachIn, is_local, is_settable, IsName, AreInputs, AreTaken, takes_any, AreOfWord, AreOf}
 use Rattle.nl_exec_whole.specs.Settings.{can_be_set, SetsWhatItMay, TextsSetWhatTheyMay}
 use Rattle.nl_exec_whole.proofs.Terms.{each_row, made_term, of_each_breed, pattern_by}
 use Rattle.nl_exec_whole.proofs.Finding.{each_more}
@@ -118,7 +118,7 @@ is_calm (input.MaybeCommands ∷ is) = not (list_any is_named is)
 is_calm (i ∷ is) = is_calm is
 
 abbrev keeps_places : Term → Bool
-keeps_places t = if t.many then not (list_any is_named (inputs_of t)) else is_calm (inputs_of t)
+keeps_places t = if takes_any t then not (list_any is_named (inputs_of t)) else is_calm (inputs_of t)
 
 not_true : (b : Bool) → not b ≡ true → b ≡ false
 not_true true h = cc
@@ -129,8 +129,8 @@ module _ (table : List Term) where
   abbrev Placed : List Input → List Node → Type 0
   Placed [] ts = Unit {0}
   Placed (i ∷ is) [] = Unit {0}
-  Placed (input.Variable ∷ is) (t ∷ ts) = IsInput table input.Variable t × Placed is ts
-  Placed (input.Fresh ∷ is) (t ∷ ts) = IsInput table input.Fresh t × Placed is ts
+  Placed (input.Variable ∷ is) (t ∷ ts) = IsName table is_settable t × Placed is ts
+  Placed (input.Fresh ∷ is) (t ∷ ts) = IsName table is_local t × Placed is ts
   Placed (i ∷ is) (t ∷ ts) = Placed is ts
 
   no_names : (is : List Input) (ts : List Node) → list_any is_named is ≡ false → Placed is ts
@@ -140,17 +140,17 @@ module _ (table : List Term) where
   no_names (input.Fresh ∷ is) (t ∷ ts) h = cc
   no_names (i ∷ is) (t ∷ ts) h = no_names is ts h
 
-  calm_places : (is : List Input) (ts : List Node) → is_calm is ≡ true → AreInputs table is ts → Placed is ts
-  calm_places [] ts c h = tt
-  calm_places (i ∷ is) [] c h = tt
-  calm_places (input.MaybeCommands ∷ is) (t ∷ ts) c h = no_names is ts (not_true (list_any is_named is) c)
-  calm_places (input.Variable ∷ is) (t ∷ ts) c h = (h.0, calm_places is ts c h.1)
-  calm_places (input.Fresh ∷ is) (t ∷ ts) c h = (h.0, calm_places is ts c h.1)
-  calm_places (i ∷ is) (t ∷ ts) c h = calm_places is ts c h.1
+  calm_places : (n : ℕ) (is : List Input) (ts : List Node) → is_calm is ≡ true → AreInputs table n is ts → Placed is ts
+  calm_places n [] ts c h = tt
+  calm_places n (i ∷ is) [] c h = tt
+  calm_places n (input.MaybeCommands ∷ is) (t ∷ ts) c h = no_names is ts (not_true (list_any is_named is) c)
+  calm_places n (input.Variable ∷ is) (t ∷ ts) c h = (h.0, calm_places n is ts c h.1)
+  calm_places n (input.Fresh ∷ is) (t ∷ ts) c h = (h.0, calm_places n is ts c h.1)
+  calm_places n (i ∷ is) (t ∷ ts) c h = calm_places n is ts c h.1
 
-  places : (many : Bool) (is : List Input) (ts : List Node) → (if many then not (list_any is_named is) else is_calm is) ≡ true → AreTaken table many is ts → Placed is ts
-  places true is ts c h = no_names is ts (not_true (list_any is_named is) c)
-  places false is ts c h = calm_places is ts c h
+  places : (n : ℕ) (any : Bool) (is : List Input) (ts : List Node) → (if any then not (list_any is_named is) else is_calm is) ≡ true → AreTaken table n any is ts → Placed is ts
+  places n true is ts c h = no_names is ts (not_true (list_any is_named is) c)
+  places n false is ts c h = calm_places n is ts c h
 
 -- ---- each variable that a word names is a use
 
@@ -204,7 +204,7 @@ module _ (table : List Term) (Q : Name → Manner → Type 0) (tame : (w : Name)
   word_used None w s (more t ts) fit h k parts = cc
   word_used (Some r) w s ts fit h k parts =
       let first = block_kinds r (kinds_of_subs (subs table ts)) in
-      parts r (inputs_of r) first (places table r.many (inputs_of r) (listed ts) (fit r refl) h.1)
+      parts r (inputs_of r) first (places table (names_of r.turns) (takes_any r) (inputs_of r) (listed ts) (fit r refl) h.1)
       (of_parts Q (is_operator r.role) (use_of w s manner.Run) (parts_pieces r first (inputs_of r) (subs table ts)) k)
 
   mutual

@@ -4,15 +4,16 @@ use Rattle.std.specs.Prelude.{if◌then◌else◌}
 use Rattle.std.specs.List.{list_all, list_any}
 use Rattle.nl_fixed.specs.Nouns.{Name}
 use Rattle.nl_words.specs.Row.{Row}
+use Rattle.nl_words.specs.Table.{is_cases}
 use Rattle.nl_words.specs.Rows.{rows}
 use Rattle.nl_words.specs.declared.entry.Role.TheVariants as role
 use Rattle.nl_tree.specs.declared.declared.Declared.{Declared}
 use Rattle.nl_tree.specs.declared.declared.Procedure.{Procedure}
 use Rattle.nl_tree.specs.Term.{Term}
-use Rattle.nl_tree.specs.Tokens.{inputs_of, repeated}
+use Rattle.nl_tree.specs.Tokens.{repeated}
 use Rattle.nl_tree.specs.Vocabulary.{base_term, directed_patterns, procedure_term, turtle_patterns, undirected_patterns, term_named, terms}
 use Rattle.nl_exec_whole.specs.Parts.{NodesHaveTheirParts}
-use Rattle.nl_exec_whole.proofs.Rows.{is_apart, role_fits, term_fits}
+use Rattle.nl_exec_whole.proofs.Rows.{role_fits, term_fits}
 use Rattle.nl_exec_whole.proofs.Terms.{each_row, of_each_breed, pattern_by}
 use Rattle.nl_exec_whole.proofs.Reading.{text_has_parts}
 
@@ -32,12 +33,12 @@ directed_fit : list_all (pattern_by (λ r. term_fits (base_term r))) directed_pa
 unfolding rows
 directed_fit = refl
 
-values_are_not_apart : (n : ℕ) → list_any is_apart (repeated n) ≡ false
-values_are_not_apart zero = refl
-values_are_not_apart (suc n) = values_are_not_apart n
+values_are_no_cases : (n : ℕ) → list_any is_cases (repeated n) ≡ false
+values_are_no_cases zero = refl
+values_are_no_cases (suc n) = values_are_no_cases n
 
 procedure_fits : (n : ℕ) (p : Procedure) → term_fits (procedure_term n p) ≡ true
-procedure_fits n p = rw (values_are_not_apart (length p.inputs)) (by p.reporter)
+procedure_fits n p = rw (values_are_no_cases (length p.inputs)) (by p.reporter)
   where
     by : (b : Bool) → role_fits (if b then role.Reporter else role.Command) false (repeated (length p.inputs)) ≡ true
     by true = refl

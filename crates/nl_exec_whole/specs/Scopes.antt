@@ -1,5 +1,5 @@
 -- Which locals are known at each place of a text.
-use Rattle.std.specs.Prelude.{Bool, true, false, if◌then◌else◌, IsTrue, [], ◌++◌, List, Option, Some, None}
+use Rattle.std.specs.Prelude.{Bool, true, false, IsTrue, [], ◌++◌, List, Option, Some, None}
 use Rattle.nl_fixed.specs.Nouns.{Name, Names}
 use Rattle.nl_tree.specs.declared.declared.Declared.{Declared}
 use Rattle.nl_tree.specs.declared.declared.Form.{Form}
@@ -12,18 +12,21 @@ use Rattle.nl_tree.specs.Tokens.{Token, class_of, marked}
 use Rattle.nl_tree.specs.Slots.{is_let, made_at}
 use Rattle.nl_tree.specs.Grammar.{IsText}
 
-abbrev pub is_paren : Label → Bool
-is_paren label.Paren = true
-is_paren other = false
-
 -- the name that a statement makes for those after it: that of `let`, in parentheses too
 abbrev mutual
   pub makes : List Term → Node → Names
-  makes table (node l s ts) = if is_paren l then makes_first table ts else made_at table l ts
+  makes table (node (label.Named name) s ts) = made_at table (label.Named name) ts
+  makes table (node label.Paren s ts) = makes_first table ts
+  makes table (node other s ts) = []
 
   pub makes_first : List Term → Nodes → Names
   makes_first table none = []
   makes_first table (more t ts) = makes table t
+
+-- the names of a head, which are known in its block alone
+abbrev pub head_of : Label → Names
+head_of (label.Arrow names) = names
+head_of other = []
 
 -- How parts know names: each as much as the others; or one after another, each with what those before it make; or all but the first, which
 -- is a new name itself.
@@ -53,7 +56,7 @@ IsKnown table known other = Unit {0}
 -- each name in the tree has a row or is known at its place
 abbrev mutual
   pub InScope : List Term → Names → Node → Type 0
-  InScope table known (node l s ts) = IsKnown table known l × InParts table known (order_of table l) ts
+  InScope table known (node l s ts) = IsKnown table known l × InParts table (head_of l ++ known) (order_of table l) ts
 
   pub InParts : List Term → Names → Order → Nodes → Type 0
   InParts table known order none = Unit {0}
@@ -61,7 +64,7 @@ abbrev mutual
   InParts table known Sequence (more t ts) = InScope table known t × InParts table (makes table t ++ known) Sequence ts
   InParts table known Naming (more t ts) = InParts table known Beside ts
 
--- Each name of a text has a row, or is an input, or was made before it in its block, or in a block around it.
+-- Each name of a text has a row, or is an input, or stands in the head of its block or was made before it there, or in a block around it.
 abbrev pub NamesAreKnown : Type 0
 NamesAreKnown =
     (d : Declared) (form : Form) (inputs : Names) (ts : List Token) (t : Node) → IsText form inputs (marked (terms d) ts) t

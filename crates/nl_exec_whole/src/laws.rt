@@ -10,7 +10,8 @@ pub fn nodes_have_their_parts()
     ensures { NodesHaveTheirParts }
 {}
 
-/// Each name of a text has a row, or is an input, or was made by `let` before it in its block or in a block around it.
+/// Each name of a text has a row, or is an input, or was made before it by `let` in its block or in a block around it, or stands in the head of an
+/// arrow block around it.
 pub fn names_are_known()
     ensures { NamesAreKnown }
 {}

@@ -1,20 +1,23 @@
 //! Tokens where an expression begins.
-ghost use Rattle.std.specs.Prelude.{◌∷◌, ℕ};
+ghost use Rattle.std.specs.Prelude.{◌∷◌, ℕ, false, true};
+ghost use Rattle.nl_fixed.specs.declared.span.Span.{Span};
 ghost use Rattle.nl_tree.specs.Vocabulary.{among};
-ghost use Rattle.nl_parse_grammar.specs.Machine.{feed_begin, feed_local, begin_call, begin_many, begin_minus, begin_bracket, end_bracket, end_many, closed, InMany};
+ghost use Rattle.nl_parse_grammar.specs.Machine.{feed_begin, feed_head_name, feed_local, begin_call, begin_many, begin_minus, begin_bracket, end_bracket, end_many, closed, InBracket, InMany};
+ghost use Rattle.nl_parse_reading.specs.inner.Reading.{made_over};
 ghost use Rattle.nl_parse_reading.specs.inner.View.{class_of, mark_of, needs_of};
 ghost use Rattle.nl_parse_stack.specs.inner.Steps.{Follows, Reaches};
 ghost use Rattle.nl_tree.specs.Tokens.{word};
 ghost use Rattle.nl_tree.specs.Grammar.{leaf};
 ghost use Rattle.nl_tree.specs.declared.tree.Label.TheVariants as label;
 
-use nl_fixed::Span;
+use nl_fixed::{Span, Str};
 use nl_parse_grammar::{Last, Shape};
 use nl_parse_reading::frames::{Frame, Mode};
+use nl_parse_reading::known_names::KnownNames;
 use nl_parse_reading::marks::{Class, Head, Inputs, Mark};
 use nl_parse_reading::parts::{Grouped, Grown};
 use nl_parse_stack::reader::{Reader, Refusal, let_go, refuse};
-use nl_tree::Label;
+use nl_tree::{Content, Label};
 
 /// A token where an expression begins.
 pub(crate) fn feed_begin(reader: &mut Reader, mark: Mark) -> Result<(), Refusal>
@@ -74,9 +77,57 @@ fn begin_local(reader: &mut Reader, head: Head) -> Result<(), Refusal>
         (λ e K. feed_local (among head.name e) head.name head.place e K) }
 {
     if !reader.knows(head.name.as_bytes()) {
-        return Err(Refusal::Unexpected);
+        return begin_names(reader, head);
     }
     begin_leaf(reader, head, Shape::Fixed)
+}
+
+// One that nobody knows: the first name of a head where two brackets open an arrow block.
+fn begin_names(reader: &mut Reader, head: Head) -> Result<(), Refusal>
+    ensures { Follows result reader.old reader.new
+        (λ e K. feed_local false head.name head.place e K) }
+{
+    match reader.take() {
+        Some(Frame::Bracket(_)) => first_name(reader, head),
+        other => refuse(other),
+    }
+}
+
+// The first name in brackets, if those begin an arrow block.
+fn first_name(reader: &mut Reader, head: Head) -> Result<(), Refusal>
+    ensures { (r : Span) → Follows result reader.old reader.new
+        (λ e K. feed_local false head.name head.place e (InBracket r ∷ K)) }
+{
+    match reader.take() {
+        Some(Frame::NoHead(bracket, limit)) => {
+            let names = KnownNames::empty(reader.alloc);
+            add_name(reader, Content::Reporter, limit, bracket, names, head.name)
+        }
+        other => refuse(other),
+    }
+}
+
+/// A new name of a head in brackets, of which at most so many may still come, behind these names.
+#[tactic(auto, using(crate::proofs::Stacked::no_room, crate::proofs::Stacked::some_room, nl_parse_reading::proofs::Framed::made_push))]
+pub(crate) fn add_name(
+    reader: &mut Reader,
+    content: Content,
+    limit: u64,
+    bracket: Span,
+    names: KnownNames,
+    name: Str,
+) -> Result<(), Refusal>
+    ensures { Follows result reader.old reader.new
+        (λ e K.
+        feed_head_name true content limit bracket e names name (made_over names e) K) }
+{
+    if limit == 0 {
+        return refuse(name);
+    }
+    let mut names = names;
+    names.push(reader.alloc, name)?;
+    reader.turn(Mode::InHead(content, limit - 1, bracket, names));
+    Ok(())
 }
 
 // A call whose last input is an item.

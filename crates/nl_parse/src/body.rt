@@ -18,7 +18,7 @@ ghost use Rattle.nl_parse_reading.specs.inner.View.{mark_of};
 ghost use Rattle.nl_parse.specs.Outcome.{Refuses};
 ghost use Rattle.nl_parse.specs.inner.Stops.{StopsAt, StopsIn, first_span};
 ghost use Rattle.nl_parse_reading.specs.inner.Reading.{mode_of};
-ghost use Rattle.nl_parse_stack.specs.inner.State.{state_of};
+ghost use Rattle.nl_parse_stack.specs.inner.State.{names_of, state_of};
 ghost use Rattle.nl_parse_stack.specs.inner.Steps.{sees_first};
 ghost use Rattle.std.specs.Result.{IsErrOf};
 ghost use Rattle.nl_parse.specs.declared.body.BodyRefusal.TheVariants as BodyRefusal;
@@ -154,7 +154,7 @@ fn step(reader: &mut Reader, place: usize, mark: Mark) -> Result<(), BodyRefusal
     ensures ok { OnOk result (feed (state_of reader.old) (mark_of mark) ≡ go (state_of reader.new)) }
     ensures allowed { OnOk result (least_depth (state_of reader.new) ≤ deepest) }
     ensures fault { IfErr result (StopsAt (state_of reader.old) (mark_of mark) place) }
-    ensures told { sees_first (mode_of reader.old.mode) ≡ true →
+    ensures told { sees_first (mode_of (names_of reader.old) reader.old.mode) ≡ true →
         feed (state_of reader.old) (mark_of mark) ≡ stop →
         IsErrOf result BodyRefusal.NoMemory → ⊥ }
 {
@@ -178,7 +178,7 @@ fn finish(reader: &mut Reader, end: Span, place: usize) -> Result<Tree, BodyRefu
         × ((feed (state_of reader.old) (T.end end) ≡ go (st (Over (plain tree)) e K))
         × (depth (plain tree) ≤ deepest))) }
     ensures fault { IfErr result (StopsAt (state_of reader.old) (T.end end) place) }
-    ensures told { sees_first (mode_of reader.old.mode) ≡ true →
+    ensures told { sees_first (mode_of (names_of reader.old) reader.old.mode) ≡ true →
         feed (state_of reader.old) (T.end end) ≡ stop →
         IsErrOf result BodyRefusal.NoMemory → ⊥ }
 {
@@ -193,8 +193,8 @@ fn finish(reader: &mut Reader, end: Span, place: usize) -> Result<Tree, BodyRefu
 
 // The tree of the whole text, if it is there.
 fn take_whole(reader: &mut Reader) -> Option<Grown>
-    ensures some { IfSome result (λ tree. mode_of reader.old.mode ≡ Over tree) }
-    ensures none { IfNone result ((t : Node) → mode_of reader.old.mode ≡ Over t → ⊥) }
+    ensures some { IfSome result (λ tree. mode_of (names_of reader.old) reader.old.mode ≡ Over tree) }
+    ensures none { IfNone result ((t : Node) → mode_of (names_of reader.old) reader.old.mode ≡ Over t → ⊥) }
 {
     match reader.take_mode() {
         Mode::Over(tree) => Some(tree),

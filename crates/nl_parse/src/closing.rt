@@ -10,6 +10,7 @@ ghost use Rattle.nl_parse_stack.specs.inner.State.{stack_of, HasRoom};
 ghost use Rattle.nl_parse_stack.specs.inner.Steps.{Follows, Reaches};
 
 use crate::beginning::feed_begin;
+use crate::heads::{feed_arrow_reporter, feed_no_head};
 use nl_fixed::{Span, Str};
 use nl_parse_grammar::Shape;
 use nl_parse_reading::frames::{Frame, Mode};
@@ -136,6 +137,10 @@ pub(crate) fn feed_shut(
         Around::Paren(bracket) => feed_paren(reader, shape, tree, bracket, mark),
         Around::Minus(bracket, place) => feed_minus(reader, tree, bracket, place, mark),
         Around::Reporter(bracket) => feed_reporter(reader, tree, bracket, mark),
+        Around::NoHead(bracket) => feed_no_head(reader, tree, bracket, mark),
+        Around::ArrowReporter(bracket, names) => {
+            feed_arrow_reporter(reader, tree, bracket, names, mark)
+        }
         Around::Bracket(bracket) => feed_bracket(reader, shape, tree, bracket, mark),
         Around::Nothing => feed_whole(reader, tree, mark),
         Around::Else => Err(Refusal::Unexpected),

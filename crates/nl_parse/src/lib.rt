@@ -4,6 +4,7 @@
 mod beginning;
 pub mod body;
 mod closing;
+mod heads;
 mod kinds;
 mod stating;
 mod steps;

@@ -1,6 +1,6 @@
 //! Tokens of statements, of blocks and of names.
 ghost use Rattle.std.specs.Prelude.{◌∷◌};
-ghost use Rattle.nl_parse_grammar.specs.Machine.{supply, feed_opening, feed_choosing, feed_ending, feed_statement, feed_stating, feed_naming, st, Stating, InStatements};
+ghost use Rattle.nl_parse_grammar.specs.Machine.{supply, feed_opening, feed_choosing, feed_ending, feed_arrow_ending, feed_statement, feed_stating, feed_naming, st, Stating, InStatements};
 ghost use Rattle.nl_tree.specs.Tree.{none};
 ghost use Rattle.nl_tree.specs.Grammar.{leaf};
 ghost use Rattle.nl_tree.specs.declared.needs.Ending.TheVariants.{AtBracket};
@@ -9,7 +9,7 @@ ghost use Rattle.nl_parse_reading.specs.inner.View.{class_of, mark_of};
 ghost use Rattle.nl_tree.specs.Tokens.{word};
 ghost use Rattle.nl_parse_stack.specs.inner.Steps.{Follows, Reaches};
 
-use nl_fixed::Span;
+use nl_fixed::{Names, Span};
 use nl_parse_grammar::Last;
 use nl_parse_reading::frames::{Frame, Mode};
 use nl_parse_reading::known_names::KnownNames;
@@ -28,6 +28,7 @@ pub(crate) fn feed_opening(reader: &mut Reader, block: Block, mark: Mark) -> Res
     match block {
         Block::Commands => open_statements(reader, place)?,
         Block::Reporter => reader.enter(Mode::Begin, Frame::Reporter(place))?,
+        Block::Arrow(content, limit) => reader.turn(Mode::Heading(content, limit, place)),
     }
     Ok(())
 }
@@ -96,6 +97,9 @@ pub(crate) fn feed_stating(reader: &mut Reader, mark: Mark) -> Result<(), Refusa
         Some(Frame::Statements(bracket, ending, _names, statements)) => feed_ending(
             reader, ending, bracket, statements, mark,
         ),
+        Some(Frame::ArrowCommands(bracket, names, _known, statements)) => feed_arrow_ending(
+            reader, bracket, names, statements, mark,
+        ),
         other => refuse(other),
     }
 }
@@ -121,6 +125,27 @@ fn feed_ending(
             Ok(())
         }
         _ => Err(Refusal::Unexpected),
+    }
+}
+
+// A token that ends the statements of an arrow block with a head of these names, outside of which the stack is.
+fn feed_arrow_ending(
+    reader: &mut Reader,
+    bracket: Span,
+    names: Names,
+    statements: Grouped,
+    mark: Mark,
+) -> Result<(), Refusal>
+    ensures { Follows result reader.old reader.new
+        (λ e K. feed_arrow_ending bracket e names statements K (mark_of mark)) }
+{
+    match mark {
+        Mark::CloseBracket(_) => {
+            let commands = statements.under(Label::Commands, bracket);
+            let block = Grown::over(reader.alloc, Label::Arrow(names), bracket, commands)?;
+            reader.supply(block)
+        }
+        other => refuse(other),
     }
 }
 

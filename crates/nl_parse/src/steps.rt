@@ -13,6 +13,7 @@ ghost use Rattle.nl_parse.specs.inner.Apart.{feed_missing};
 
 use crate::beginning::feed_begin;
 use crate::closing::{feed_blocked, feed_ended, feed_listing, feed_shut};
+use crate::heads::{feed_behind, feed_heading, feed_in_head};
 use crate::stating::{feed_choosing, feed_naming, feed_opening, feed_stating, open_statements};
 use nl_fixed::Span;
 use nl_parse_grammar::Shape;
@@ -26,7 +27,7 @@ use nl_tree::{Block, Label};
 pub(crate) fn feed(reader: &mut Reader, mark: Mark) -> Result<(), Refusal>
     ensures ok { OnOk result (feed (state_of reader.old) (mark_of mark) ≡ go (state_of reader.new)) }
     ensures fault { IsErrOf result Unexpected → feed (state_of reader.old) (mark_of mark) ≡ stop }
-    ensures told { sees_first (mode_of reader.old.mode) ≡ true →
+    ensures told { sees_first (mode_of (names_of reader.old) reader.old.mode) ≡ true →
         feed (state_of reader.old) (mark_of mark) ≡ stop →
         IsErrOf result Unexpected }
 {
@@ -39,10 +40,11 @@ pub(crate) fn feed(reader: &mut Reader, mark: Mark) -> Result<(), Refusal>
 // A token in this mode, where no chain is at hand.
 fn feed_ready(reader: &mut Reader, mode: Mode, mark: Mark) -> Result<(), Refusal>
     ensures steps { FollowsLate result reader.old reader.new
-        (λ e K. feed_ready (st (mode_of mode) (mode_names mode e) K) (mark_of mark)) }
-    ensures told { sees_first (mode_of mode) ≡ true →
+        (λ e K. feed_ready (st (mode_of e mode) (mode_names mode e) K) (mark_of mark)) }
+    ensures told { sees_first (mode_of (names_of reader.old) mode) ≡ true →
         feed_ready
-        (st (mode_of mode) (mode_names mode (names_of reader.old)) (stack_of reader.old))
+        (st (mode_of (names_of reader.old) mode) (mode_names mode (names_of reader.old))
+        (stack_of reader.old))
         (mark_of mark)
         ≡ stop →
         IsErrOf result Unexpected }
@@ -92,11 +94,20 @@ fn feed_missing(reader: &mut Reader, mark: Mark) -> Result<(), Refusal>
 // A token in this mode, where no chain is at hand and no block may be missing.
 fn feed_plain(reader: &mut Reader, mode: Mode, mark: Mark) -> Result<(), Refusal>
     ensures { Follows result reader.old reader.new
-        (λ e K. feed_plain (st (mode_of mode) (mode_names mode e) K) (mark_of mark)) }
+        (λ e K. feed_plain (st (mode_of e mode) (mode_names mode e) K) (mark_of mark)) }
 {
     match mode {
         Mode::Begin => feed_begin(reader, mark),
         Mode::Opening(block) => feed_opening(reader, block, mark),
+        Mode::Heading(content, limit, bracket) => {
+            feed_heading(reader, content, limit, bracket, mark)
+        }
+        Mode::InHead(content, limit, bracket, names) => {
+            feed_in_head(reader, content, limit, bracket, names, mark)
+        }
+        Mode::Behind(content, bracket, names) => {
+            feed_behind(reader, content, bracket, names, mark)
+        }
         Mode::Choosing => feed_choosing(reader, mark),
         Mode::Blocked(block) => feed_blocked(reader, block, mark),
         Mode::Shut(shape, tree) => feed_shut(reader, shape, tree, mark),

@@ -1,22 +1,24 @@
 -- The machine takes each reading of the grammar, and builds its tree.
-use Rattle.std.proofs.Common.{◌≡◌, ℕ, zero, suc, Bool, true, false, not, List, [], ◌∷◌, refl, sym, ◌∙◌, ap, subst, IsTrue, ◌≤◌, arith}
+use Rattle.std.proofs.Common.{◌≡◌, ℕ, zero, suc, Bool, true, false, not, List, [], ◌∷◌, ◌++◌, append_assoc, append-nil, refl, sym, ◌∙◌, ap, subst, IsTrue, ◌≤◌, arith}
 use Rattle.std.proofs.lemmas.Bool.{leb-true, leb-false, le-leb, lt-leb, lt-ltb}
 use Rattle.nl_fixed.specs.declared.span.Span.{Span}
 use Rattle.nl_tree.specs.declared.tree.Label.{Label}
 use Rattle.nl_tree.specs.declared.tree.Label.TheVariants as label
 use Rattle.nl_tree.specs.Tree.{Node, node, Nodes, none, more}
-use Rattle.nl_tree.specs.Tokens.{Unknown, Command, Let, With, Near, Of, Binary, Tok, word, open_bracket, close_bracket, open_paren, close_paren}
+use Rattle.nl_tree.specs.Tokens.{Unknown, Command, Let, With, Near, Of, Binary, Arrow, Tok, word, open_bracket, close_bracket, open_paren, close_paren}
 use Rattle.nl_tree.specs.declared.needs.Block.TheVariants as blocks
+use Rattle.nl_tree.specs.declared.needs.Content.{Content}
+use Rattle.nl_tree.specs.declared.needs.Content.TheVariants as contents
 use Rattle.nl_tree.specs.declared.needs.Need.{Need}
 use Rattle.nl_tree.specs.declared.needs.Need.TheVariants.{Item, Whole, Within, Maybe, Variable}
-use Rattle.nl_tree.specs.Grammar.{one, two, leaf, join, and_last, opens, top, Part, Closed, Chain, Sides, Call, LastCall, Items, AnyItems, Level, Literals, Arg, Args, Statement, Statements, Reads, closed_number, closed_text, closed_constant, closed_plain, closed_variable, closed_local, closed_list, closed_block, paren, paren_many, paren_minus, chain_closed, chain_with, chain_near, one_side, more_sides, call_prefix, call_many, one_item, more_items, no_item, any_item, last_call, more_last, item_chain, item_call, item_near, item_of, level_up, level_binary, literal_end, literal_number, literal_text, literal_constant, literal_list, arg_item, arg_whole, arg_commands, arg_reporter, arg_variable, arg_local, no_arg, arg, maybe_there, maybe_missing, command, make, statement_paren, at_bracket, at_end, statements}
-use Rattle.nl_tree.specs.declared.needs.Ending.{Ending}
+use Rattle.nl_tree.specs.Grammar.{one, two, leaf, join, and_last, opens, top, Part, Closed, Chain, Sides, Call, LastCall, Items, AnyItems, Level, Literals, Arg, Args, Head, HeadNames, Statement, Statements, Reads, closed_number, closed_text, closed_constant, closed_plain, closed_variable, closed_local, closed_list, closed_block, paren, paren_many, paren_minus, chain_closed, chain_with, chain_near, one_side, more_sides, call_prefix, call_many, one_item, more_items, no_item, any_item, last_call, more_last, item_chain, item_call, item_near, item_of, level_up, level_binary, literal_end, literal_number, literal_text, literal_constant, literal_list, arg_item, arg_whole, arg_commands, arg_reporter, arg_arrow_commands, arg_arrow_reporter, arg_variable, arg_local, no_arg, arg, no_head, head_arrow, head_name, head_names, names_end, next_name, maybe_there, maybe_missing, command, make, statement_paren, at_bracket, at_end, statements}
 use Rattle.nl_tree.specs.declared.needs.Ending.TheVariants.{AtBracket, AtEnd}
-use Rattle.nl_parse_grammar.specs.Machine.{Frame, InBinary, InWith, InNear, InOf, InCall, InLastItem, InLastBlock, InMany, InItems, InParen, InMinus, InReporter, InBracket, InList, InLet, InStatementParen, InStatements, Begin, Opening, Optional, Choosing, Have, Shut, Listing, Stating, Over, State, st, go, Got, got, end_statement, next, closed, supply, accept, end_list, closes, build, built_shape, settle, takes_operator, feed_local, begin_call, begin_many, begin_bracket, feed_begin, feed_variable, feed_paren, feed_statement, begins_statement, feed_stating, feed_fresh, feed_plain, without_maybes, feed_ready, feed_broken, feed_operator, feed_binary, feed, run_from, run}
+use Rattle.nl_parse_grammar.specs.Machine.{Frame, InBinary, InWith, InNear, InOf, InCall, InLastItem, InLastBlock, InMany, InItems, InParen, InMinus, InReporter, InNoHead, InArrowReporter, InArrowCommands, InBracket, InList, InLet, InStatementParen, InStatements, Begin, Opening, Heading, InHead, Behind, Optional, Choosing, Have, Shut, Listing, Stating, Over, st, go, Got, got, end_statement, next, closed, supply, accept, end_list, closes, build, built_shape, settle, takes_operator, feed_local, begin_call, begin_many, begin_bracket, feed_begin, feed_variable, feed_paren, feed_statement, begins_statement, feed_stating, feed_fresh, feed_plain, without_maybes, feed_ready, feed_broken, feed_operator, feed_binary, feed, run_from, run}
 use Rattle.nl_parse_grammar.specs.declared.pending.Last.{Last}
 use Rattle.nl_parse_grammar.specs.declared.pending.Last.TheVariants as lasts
 use Rattle.nl_parse_grammar.specs.declared.pending.Shape.{Shape}
 use Rattle.nl_parse_grammar.specs.declared.pending.Shape.TheVariants.{Literal, Growing, Fixed}
+use Rattle.nl_parse_grammar.proofs.Heads.{Starts, starts, begins_content, states_content, lone_name, first_name, next_one, shut_no_head}
 
 -- a token with which no chain goes on, as it is no operator
 abbrev pub breaks : Tok → Bool
@@ -34,6 +36,7 @@ Breaking (tok ∷ toks) = IsTrue (breaks tok)
 abbrev pub Heads : Part → List Tok → List Tok → Type 0
 Heads (Args is) a c = Breaking c → Breaking a
 Heads AnyItems a c = Breaking c → Breaking a
+Heads (Head n ns f) a c = Breaking c → Breaking a
 Heads p a c = Breaking a
 
 pub heads : {p : Part} {e : List (List ℕ)} {a c : List Tok} {ts : Nodes} → Reads p e a c ts → Heads p a c
@@ -76,10 +79,18 @@ heads (arg_item d) = heads d
 heads (arg_whole d) = heads d
 heads (arg_commands d) = refl
 heads (arg_reporter d) = refl
+heads (arg_arrow_commands d f) = refl
+heads (arg_arrow_reporter d f) = refl
 heads arg_variable = refl
 heads (arg_local m) = refl
 heads no_arg = λ h. h
 heads (arg d f) = λ h. heads d
+heads no_head = λ h. h
+heads head_arrow = λ h. refl
+heads (head_name m) = λ h. refl
+heads (head_names d) = λ h. refl
+heads names_end = refl
+heads (next_name m d) = refl
 heads (maybe_there d f) = λ h. heads d
 heads (maybe_missing m d) = heads d
 heads (command d) = refl
@@ -130,6 +141,7 @@ TakesCall K = Unit {0}
 abbrev pub TakesStatement : List Frame → Type 0
 TakesStatement (InStatements s k before ts ∷ K) = Unit {0}
 TakesStatement (InStatementParen s ∷ K) = Unit {0}
+TakesStatement (InArrowCommands s before ns ts ∷ K) = Unit {0}
 TakesStatement K = ⊥
 
 -- From the stack `S` the tokens of `a` lead to a chain before `c`. For an operator of level `l` it is as if `t` had been read on `K`.
@@ -141,10 +153,14 @@ pub record Comes (l : ℕ) (e : List (List ℕ)) (S K : List Frame) (t : Node) (
   pub runs : run (st Begin e S) a ≡ run (st (Have held tree) e rest) c
   pub settles : settle l held tree rest ≡ settle l shape t K
 
--- the state after statements and what ends them
-abbrev pub end_statements : Ending → Span → Nodes → List (List ℕ) → List Frame → State
-end_statements AtBracket s ts before K = supply (node label.Commands s ts) before K
-end_statements AtEnd s ts before K = st (Over (node label.Commands s ts)) before K
+-- Behind the bracket of an arrow block the head's tokens in `a` lead to an expression before `c`, on a frame that the bracket at its end makes
+-- the block.
+pub record Enters (n : ℕ) (s : Span) (e ns f : List (List ℕ)) (K : List Frame) (a c : List Tok) : Type 0 where
+  pub frame : Frame
+  pub runs : run (st (Heading contents.Reporter n s) e K) a ≡ run (st Begin f (frame ∷ K)) c
+  pub stays : Stays top (frame ∷ K)
+  pub waits : (m : ℕ) → closes m frame ≡ false
+  pub shuts : (x : Shape) (t : Node) (r : Span) (d : List Tok) → run (accept x t f (frame ∷ K)) (close_bracket r ∷ d) ≡ run (supply (node (label.Arrow ns) s (one t)) e K) d
 
 abbrev pub Completes : Part → List (List ℕ) → List Tok → List Tok → Nodes → Type 0
 Completes Closed e a c ts = (K : List Frame) → NoList K → (x : Shape) × (run (st Begin e K) a ≡ run (closed x (first ts) e K) c)
@@ -164,9 +180,18 @@ Completes (Arg (Within b)) e a c ts = (K : List Frame) → run (st (Opening b) e
 Completes (Arg Variable) e a c ts = (K : List Frame) → run (st Choosing e K) a ≡ run (supply (first ts) e K) c
 Completes (Arg Maybe) e a c ts = Unit {0}
 Completes (Arg i) e a c ts = (w : List ℕ) (s : Span) (had : Nodes) (is : List Need) (last : Last) (K : List Frame) → Breaking c → run (st Begin e (InCall w s had i is last ∷ K)) a ≡ run (next w s (and_last had (first ts)) is last e K) c
+Completes (Head n ns f) e a c ts =
+    ((s : Span) (K : List Frame) (d : List Tok) (us : Nodes) → Reads (Statements AtBracket) f c d us → run (st (Heading contents.Commands n s) e K) a ≡ run (st Stating f (InArrowCommands s e ns none ∷ K)) c)
+    × ((s : Span) (K : List Frame) → Starts f c → Enters n s e ns f K a c)
+Completes (HeadNames n ns f) e a c ts =
+    ((k : Content) (s : Span) (before had : List (List ℕ)) (K : List Frame) → run (st (InHead k n s before had) e K) a ≡ run (st (Behind k s before (had ++ ns)) f K) c)
+    × ((q s : Span) (v : List ℕ) (r : Span) (K : List Frame) (d : List Tok) → c ≡ word v Arrow r ∷ d → run (st Begin e (InBracket q ∷ InNoHead s n ∷ K)) a ≡ run (st Begin f (InArrowReporter s e ns ∷ K)) d)
 Completes (Args is) e a c ts = (w : List ℕ) (s : Span) (had : Nodes) (last : Last) (K : List Frame) → Breaking c → run (next w s had is last e K) a ≡ run (next w s (join had ts) [] last e K) c
 Completes (Statement f) e a c ts = (K : List Frame) → TakesStatement K → Breaking c → run (st Stating e K) a ≡ run (end_statement (first ts) f K) c
-Completes (Statements k) e a c ts = (s : Span) (before : List (List ℕ)) (had : Nodes) (K : List Frame) → run (st Stating e (InStatements s k before had ∷ K)) a ≡ run (end_statements k s (join had ts) before K) c
+Completes (Statements AtBracket) e a c ts =
+    ((s : Span) (before : List (List ℕ)) (had : Nodes) (K : List Frame) → run (st Stating e (InStatements s AtBracket before had ∷ K)) a ≡ run (supply (node label.Commands s (join had ts)) before K) c)
+    × ((s : Span) (before ns : List (List ℕ)) (had : Nodes) (K : List Frame) → run (st Stating e (InArrowCommands s before ns had ∷ K)) a ≡ run (supply (node (label.Arrow ns) s (one (node label.Commands s (join had ts)))) before K) c)
+Completes (Statements AtEnd) e a c ts = (s : Span) (before : List (List ℕ)) (had : Nodes) (K : List Frame) → run (st Stating e (InStatements s AtEnd before had ∷ K)) a ≡ run (st (Over (node label.Commands s (join had ts))) before K) c
 
 -- What a tree was handed to is no chain.
 
@@ -394,12 +419,32 @@ missing w s had is last e K [] b h = absurd b
 missing w s had is last e K (open_bracket r ∷ a) b h = cc
 missing w s had is last e K (tok ∷ a) b h = ap (λ x. run_from x a) (missing_at w s had is last e K tok refl)
 
+-- Heads of arrow blocks. Where there is none, the content begins right behind the bracket; the arrow begins it behind any other.
+
+states_head : (n : ℕ) (s : Span) (K : List Frame) {e : List (List ℕ)} {c d : List Tok} {us : Nodes} → Reads (Statements AtBracket) e c d us → run (st (Heading contents.Commands n s) e K) c ≡ run (st Stating e (InArrowCommands s e [] none ∷ K)) c
+states_head n s K {c = []} r = absurd (heads r)
+states_head n s K {c = tok ∷ c} r = ap (λ x. run_from x c) (states_content n s K r)
+
+enters_content : (n : ℕ) (s : Span) (K : List Frame) {e : List (List ℕ)} {c : List Tok} → Starts e c → Enters n s e [] e K c c
+enters_content n s K {c = []} h = absurd h
+enters_content n s K {e = e} {c = tok ∷ c} h = record {
+  frame = InNoHead s n;
+  runs = ap (λ x. run_from x c) (begins_content n s e K tok c h);
+  stays = (refl, refl);
+  waits = λ m. refl;
+  shuts = λ x t r d. ap (λ y. run_from y d) (shut_no_head t s e K r);
+}
+
+behind_head : (n : ℕ) (s : Span) (e ns f : List (List ℕ)) (K : List Frame) (a c : List Tok) → run (st (Heading contents.Reporter n s) e K) a ≡ run (st Begin f (InArrowReporter s e ns ∷ K)) c → Enters n s e ns f K a c
+behind_head n s e ns f K a c q = record { frame = InArrowReporter s e ns; runs = q; stays = (refl, refl); waits = λ m. refl; shuts = λ x t r d. refl }
+
 -- Statements.
 
 pub stating : (e : List (List ℕ)) (K : List Frame) (tok : Tok) → TakesStatement K → begins_statement tok ≡ true → feed_stating e K tok ≡ feed_statement e K tok
 stating e [] tok h b = absurd h
 stating e (InStatements s k before ts ∷ K) tok h b = rw (b, feed_stating) refl
 stating e (InStatementParen s ∷ K) tok h b = refl
+stating e (InArrowCommands s before ns ts ∷ K) tok h b = rw (b, feed_stating) refl
 stating e (f ∷ K) tok h b = absurd h
 
 pub no_maybe : {e : List (List ℕ)} {a c : List Tok} {ts : Nodes} → Reads (Arg Maybe) e a c ts → ⊥
@@ -485,8 +530,13 @@ completes {e} (literal_list {s = r} {d = z} {ts = xs} {us = us} d f) = (
 )
 completes {e} {a} {c} (arg_item {t = t} d) = λ w s ts is last K b. (ended zero t e K a c (InCall w s ts Item is last) (omega arith) (λ m. refl) b (completes d (InCall w s ts Item is last ∷ K) (omega arith) tt)).1
 completes {e} {a} {c} (arg_whole {t = t} d) = λ w s ts is last K b. (ended top t e K a c (InCall w s ts Whole is last) (omega arith) (λ m. refl) b (completes d (InCall w s ts Whole is last ∷ K) (omega arith) (refl, refl))).1
-completes {e} (arg_commands {s = s} d) = λ K. completes d s e none K
+completes {e} (arg_commands {s = s} d) = λ K. (completes d).0 s e none K
 completes {e} (arg_reporter {s = s} {t = t} d) = λ K. (ended top t e K _ _ (InReporter s) (omega arith) (λ m. refl) refl (completes d (InReporter s ∷ K) (omega arith) (refl, refl))).1
+completes {e} (arg_arrow_commands {ns = ns} {s = s} d f) = λ K. (completes d).0 s K _ _ f ∙ (completes f).1 s e ns none K
+completes {e} (arg_arrow_reporter {f = f} {ns = ns} {n = n} {s = s} {r = r} {b = b} {c = c} {d = d} {t = t} g h) = λ K.
+    let m : Enters n s e ns f K b c = (completes g).1 s K (starts h) in
+    let u : (x : Shape) × (run (st Begin f (m.frame ∷ K)) c ≡ run (accept x t f (m.frame ∷ K)) (close_bracket r ∷ d)) = ended top t f K c (close_bracket r ∷ d) m.frame (omega arith) m.waits refl (completes h (m.frame ∷ K) (omega arith) m.stays) in
+    m.runs ∙ u.1 ∙ m.shuts u.0 t r d
 completes arg_variable = λ K. refl
 completes {e} {c} (arg_local {w = w} {s = s} m) = λ K. ap (λ x. run_from (feed_variable x w s e K) c) m
 completes {e} {c} no_arg = λ w s ts last K b. ap (λ us. run (next w s us [] last e K) c) (sym (join_none ts))
@@ -495,11 +545,36 @@ completes {e} {c} (arg {i = Whole} {is = is} {t = t} {ts = us} d f) = λ w s ts 
 completes {e} {c} (arg {i = Within k} {is = is} {t = t} {ts = us} d f) = λ w s ts last K b. completes d (InCall w s ts (Within k) is last ∷ K) ∙ completes f w s (and_last ts t) last K b ∙ ap (λ us. run (next w s us [] last e K) c) (join_last ts t us)
 completes {e} {c} (arg {i = Variable} {is = is} {t = t} {ts = us} d f) = λ w s ts last K b. completes d (InCall w s ts Variable is last ∷ K) ∙ completes f w s (and_last ts t) last K b ∙ ap (λ us. run (next w s us [] last e K) c) (join_last ts t us)
 completes (arg {i = Maybe} d f) = λ w s ts last K b. absurd (no_maybe d)
+completes (no_head {n = n}) = (λ s K d us r. states_head n s K r, λ s K h. enters_content n s K h)
+completes {e} (head_arrow {n = n}) = (λ s K d us r. refl, λ s K h. behind_head n s e [] e K _ _ refl)
+completes {e} (head_name {n = n} {w = w} {v = v} {s = q} {r = r} {c = c} m) = (
+  λ s K d us z. ap (λ x. run_from x (word v Arrow r ∷ c)) (lone_name contents.Commands n s w q e K m),
+  λ s K h. behind_head (suc n) s e (w ∷ []) (w ∷ e) K _ c (ap (λ x. run_from x (word v Arrow r ∷ c)) (lone_name contents.Reporter n s w q e K m)),
+)
+completes {e} (head_names {f = f} {ns = ns} {n = n} {v = v} {s = q} {r = r} {c = c} d) = (
+  λ s K z us y. (completes d).0 contents.Commands s e [] K,
+  λ s K h. behind_head n s e ns f K _ c ((completes d).1 q s v r K c refl),
+)
+completes {e} {c} (names_end {n = n}) = (
+  λ k s before had K. ap (λ ns. run (st (Behind k s before ns) e K) c) (sym (append-nil had)),
+  λ q s v r K d eq. ap (λ x. run (st (Have Literal (node label.List q none)) e (InNoHead s n ∷ K)) x) eq,
+)
+completes {e} {c} (next_name {f = f} {ns = ns} {n = n} {w = w} {s = r} {b = b} m d) = (
+  λ k s before had K. ap (λ x. run_from x b) (next_one k n s before had w r e K m) ∙ (completes d).0 k s before (had ++ w ∷ []) K ∙ ap (λ us. run (st (Behind k s before us) f K) c) (append_assoc had (w ∷ []) ns),
+  λ q s v p K z eq. ap (λ x. run_from x b) (first_name n s q w r e K m) ∙ (completes d).0 contents.Reporter s e (w ∷ []) K ∙ ap (run (st (Behind contents.Reporter s e (w ∷ ns)) f K)) eq,
+)
 completes {e} {c} (maybe_there {is = is} {t = t} {ts = us} d f) = λ w s ts last K b. there d w s ts is last K ∙ completes d (InCall w s ts Maybe is last ∷ K) ∙ completes f w s (and_last ts t) last K b ∙ ap (λ us. run (next w s us [] last e K) c) (join_last ts t us)
 completes {e} {a} (maybe_missing {is = is} m d) = λ w s ts last K b. missing w s ts is last e K a (heads d b) m ∙ completes d w s ts last K b
 completes {e} (command {w = w} {is = is} {s = s} {b = b} d) = λ K h m. ap (λ x. run_from x b) (stating e K (word w (Command is) s) h refl) ∙ completes d w s none lasts.Nothing K m
 completes {e} {c} (make {w = w} {n = n} {s = s} {r = r} {b = b} {t = t} q d) = λ K h m. ap (λ x. run_from x (word n Unknown r ∷ b)) (stating e K (word w Let s) h refl) ∙ ap (λ x. run_from (feed_fresh x w s n r e K) b) q ∙ (ended top t e K b c (InLet w s n r) (omega arith) (λ l. refl) m (completes d (InLet w s n r ∷ K) (omega arith) (refl, refl))).1
 completes {e} (statement_paren {s = s} {b = b} d) = λ K h m. ap (λ x. run_from x b) (stating e K (open_paren s) h refl) ∙ completes d (InStatementParen s ∷ K) tt refl
-completes {c} at_bracket = λ s before ts K. ap (λ us. run (end_statements AtBracket s us before K) c) (sym (join_none ts))
-completes at_end = λ s before ts K. ap (λ us. run (end_statements AtEnd s us before K) []) (sym (join_none ts))
-completes (statements {k = k} {c = c} {t = t} {ts = us} d f) = λ s before ts K. completes d (InStatements s k before ts ∷ K) tt (heads f) ∙ completes f s before (and_last ts t) K ∙ ap (λ us. run (end_statements k s us before K) c) (join_last ts t us)
+completes {c} at_bracket = (
+  λ s before ts K. ap (λ us. run (supply (node label.Commands s us) before K) c) (sym (join_none ts)),
+  λ s before ns ts K. ap (λ us. run (supply (node (label.Arrow ns) s (one (node label.Commands s us))) before K) c) (sym (join_none ts)),
+)
+completes at_end = λ s before ts K. ap (λ us. run (st (Over (node label.Commands s us)) before K) []) (sym (join_none ts))
+completes (statements {k = AtBracket} {c = c} {t = t} {ts = us} d f) = (
+  λ s before ts K. completes d (InStatements s AtBracket before ts ∷ K) tt (heads f) ∙ (completes f).0 s before (and_last ts t) K ∙ ap (λ us. run (supply (node label.Commands s us) before K) c) (join_last ts t us),
+  λ s before ns ts K. completes d (InArrowCommands s before ns ts ∷ K) tt (heads f) ∙ (completes f).1 s before ns (and_last ts t) K ∙ ap (λ us. run (supply (node (label.Arrow ns) s (one (node label.Commands s us))) before K) c) (join_last ts t us),
+)
+completes (statements {k = AtEnd} {c = c} {t = t} {ts = us} d f) = λ s before ts K. completes d (InStatements s AtEnd before ts ∷ K) tt (heads f) ∙ completes f s before (and_last ts t) K ∙ ap (λ us. run (st (Over (node label.Commands s us)) before K) c) (join_last ts t us)

@@ -8,9 +8,9 @@ use Rattle.nl_tree.specs.declared.faults.BodyKind.{BodyKind}
 use Rattle.nl_tree.specs.declared.faults.BodyKind.TheVariants.{UnknownName, Unexpected}
 use Rattle.nl_parse_grammar.specs.Machine.{Step, go, stop, run, start}
 use Rattle.nl_parse_grammar.specs.Depth.{least_depth}
-use Rattle.nl_parse_grammar.specs.Completion.{Piece, AValue, AVariable, AStatement, AnOf, AName, ABracket, ItsBracket, ItsParen, ItsEnd, pieces}
+use Rattle.nl_parse_grammar.specs.Completion.{Piece, AValue, AVariable, AStatement, AnOf, AnArrow, AName, ABracket, ItsBracket, ItsParen, ItsEnd, pieces}
 use Rattle.nl_parse_grammar.specs.Fault.{kind_at}
-use Rattle.nl_parse_grammar.proofs.MachineExamples.{at, w, n}
+use Rattle.nl_parse_grammar.proofs.MachineExamples.{at, w, n, mapping, reducing, counting, each, local, variable, arrow, left, right}
 
 abbrev pieces_of : Step → List Piece
 pieces_of (go s) = pieces s
@@ -78,6 +78,34 @@ name_and_value = refl
 statement_in_parentheses : pieces_of (commands (open_paren (at 0) ∷ [])) ≡ AStatement ∷ ItsParen ∷ ItsEnd ∷ []
 statement_in_parentheses = refl
 
+-- an arrow block needs no head, and a head that has begun needs its bracket and the arrow
+block_without_a_head : pieces_of (expression (mapping 0 ∷ [])) ≡ ABracket ∷ AValue ∷ ItsBracket ∷ AValue ∷ ItsEnd ∷ []
+block_without_a_head = refl
+
+block_of_commands_without : pieces_of (commands (each 0 ∷ variable 1 ∷ [])) ≡ ABracket ∷ ItsBracket ∷ ItsEnd ∷ []
+block_of_commands_without = refl
+
+no_head_yet : pieces_of (expression (mapping 0 ∷ left 1 ∷ [])) ≡ AValue ∷ ItsBracket ∷ AValue ∷ ItsEnd ∷ []
+no_head_yet = refl
+
+list_or_head : pieces_of (expression (mapping 0 ∷ left 1 ∷ left 2 ∷ [])) ≡ ItsBracket ∷ ItsBracket ∷ AValue ∷ ItsEnd ∷ []
+list_or_head = refl
+
+head_of_one_name : pieces_of (expression (reducing 0 ∷ left 1 ∷ left 2 ∷ local "a" 3 ∷ [])) ≡ ItsBracket ∷ AnArrow ∷ AValue ∷ ItsBracket ∷ AValue ∷ ItsEnd ∷ []
+head_of_one_name = refl
+
+arrow_is_missing : pieces_of (expression (counting 0 ∷ n 2 1 ∷ left 2 ∷ local "i" 3 ∷ [])) ≡ AnArrow ∷ AValue ∷ ItsBracket ∷ ItsEnd ∷ []
+arrow_is_missing = refl
+
+behind_an_arrow : pieces_of (expression (mapping 0 ∷ left 1 ∷ local "x" 2 ∷ arrow 3 ∷ [])) ≡ AValue ∷ ItsBracket ∷ AValue ∷ ItsEnd ∷ []
+behind_an_arrow = refl
+
+no_head_of_commands_yet : pieces_of (commands (each 0 ∷ variable 1 ∷ left 2 ∷ [])) ≡ ItsBracket ∷ ItsEnd ∷ []
+no_head_of_commands_yet = refl
+
+head_of_commands : pieces_of (commands (each 0 ∷ variable 1 ∷ left 2 ∷ left 3 ∷ [])) ≡ ItsBracket ∷ AnArrow ∷ ItsBracket ∷ ItsEnd ∷ []
+head_of_commands = refl
+
 -- Depth.
 
 abbrev opening : ℕ → List Tok
@@ -86,6 +114,12 @@ opening (suc k) = open_paren (at 0) ∷ opening k
 
 depth_of_a_missing_block : depth_of (commands (w "while" (Command (Within blocks.Reporter ∷ Within blocks.Commands ∷ [])) 0 ∷ [])) ≡ 4
 depth_of_a_missing_block = refl
+
+depth_of_an_arrow_block : depth_of (expression (mapping 0 ∷ [])) ≡ 3
+depth_of_an_arrow_block = refl
+
+depth_of_a_block_of_commands : depth_of (commands (each 0 ∷ variable 1 ∷ left 2 ∷ local "a" 3 ∷ arrow 4 ∷ [])) ≡ 4
+depth_of_a_block_of_commands = refl
 
 list_is_allowed : depth_of (expression (opening 198 ++ open_bracket (at 1) ∷ [])) ≡ 199
 list_is_allowed = refl
@@ -122,3 +156,18 @@ behind_its_block = refl
 
 number_is_unexpected : kind_of (expression (n 1 0 ∷ [])) (n 2 1) ≡ Unexpected
 number_is_unexpected = refl
+
+name_of_a_head : kind_of (expression (mapping 0 ∷ left 1 ∷ local "x" 2 ∷ arrow 3 ∷ [])) (local "y" 4) ≡ UnknownName
+name_of_a_head = refl
+
+behind_a_head : kind_of (expression (mapping 0 ∷ left 1 ∷ local "x" 2 ∷ arrow 3 ∷ local "x" 4 ∷ [])) (local "x" 5) ≡ Unexpected
+behind_a_head = refl
+
+behind_its_arrow_block : kind_of (expression (mapping 0 ∷ left 1 ∷ local "x" 2 ∷ arrow 3 ∷ local "x" 4 ∷ right 5 ∷ [])) (local "x" 6) ≡ UnknownName
+behind_its_arrow_block = refl
+
+name_that_is_too_many : kind_of (expression (mapping 0 ∷ left 1 ∷ left 2 ∷ local "x" 3 ∷ [])) (local "y" 4) ≡ UnknownName
+name_that_is_too_many = refl
+
+same_name_in_a_head : kind_of (expression (reducing 0 ∷ left 1 ∷ left 2 ∷ local "x" 3 ∷ [])) (local "x" 4) ≡ Unexpected
+same_name_in_a_head = refl

@@ -5,15 +5,17 @@ use Rattle.nl_tree.specs.declared.tree.Label.TheVariants as label
 use Rattle.nl_tree.specs.declared.declared.Form.{Form}
 use Rattle.nl_tree.specs.Tree.{Node, node, Nodes, none, more, depth, depths}
 use Rattle.nl_tree.specs.Vocabulary.{among}
-use Rattle.nl_tree.specs.Tokens.{Unknown, Constant, Plain, Named, Prefix, Many, Closing, Command, Let, With, Near, Of, Binary, Tok, number, text, word, open_bracket, close_bracket, open_paren, close_paren, end}
+use Rattle.nl_tree.specs.Tokens.{Unknown, Constant, Plain, Named, Prefix, Many, Closing, Command, Let, With, Near, Of, Binary, Arrow, Tok, number, text, word, open_bracket, close_bracket, open_paren, close_paren, end}
 use Rattle.nl_tree.specs.declared.needs.Block.{Block}
 use Rattle.nl_tree.specs.declared.needs.Block.TheVariants as blocks
+use Rattle.nl_tree.specs.declared.needs.Content.TheVariants as contents
+use Rattle.nl_tree.specs.declared.needs.Content.{Content}
 use Rattle.nl_tree.specs.declared.needs.Need.{Need}
 use Rattle.nl_tree.specs.declared.needs.Need.TheVariants.{Item, Whole, Within, Maybe, Variable}
 use Rattle.nl_tree.specs.Grammar.{one, two, leaf, and_last, opens, top, Reads}
 use Rattle.nl_tree.specs.declared.needs.Ending.{Ending}
 use Rattle.nl_tree.specs.declared.needs.Ending.TheVariants.{AtBracket, AtEnd}
-use Rattle.nl_parse_grammar.specs.Machine.{Frame, InBinary, InWith, InNear, InOf, InCall, InLastItem, InLastBlock, InMany, InItems, InParen, InMinus, InReporter, InBracket, InList, InLet, InStatementParen, InStatements, Begin, Opening, Optional, Choosing, Have, Blocked, Shut, Listing, Stating, Naming, Ended, Over, Dead, State, st, Step, go, stop, Got, got, end_statement, next, closed, supply, accept, closes, build, built_shape, settle, feed_local, begin_call, begin_many, begin_minus, begin_bracket, end_many, feed_begin, feed_opening, feed_variable, feed_choosing, feed_blocked, feed_items, feed_listing, feed_bracket, feed_paren, feed_shut, feed_ending, feed_statement, feed_stating, feed_fresh, feed_naming, feed_ended, feed_plain, without_maybes, feed_optional, feed_ready, feed_broken, feed_operator, got_takes, feed_binary, feed_have, feed}
+use Rattle.nl_parse_grammar.specs.Machine.{Frame, InBinary, InWith, InNear, InOf, InCall, InLastItem, InLastBlock, InMany, InItems, InParen, InMinus, InReporter, InNoHead, InArrowReporter, InArrowCommands, InBracket, InList, InLet, InStatementParen, InStatements, Begin, Opening, Heading, InHead, Behind, Optional, Choosing, Have, Blocked, Shut, Listing, Stating, Naming, Ended, Over, Dead, State, st, Step, go, stop, Got, got, end_statement, next, closed, supply, accept, closes, build, built_shape, settle, begin_content, feed_head_name, feed_lone_name, feed_local, begin_call, begin_many, begin_minus, begin_bracket, end_many, feed_begin, feed_opening, feed_variable, feed_choosing, feed_blocked, feed_items, feed_listing, feed_bracket, feed_paren, feed_no_head, feed_shut, feed_ending, feed_arrow_ending, feed_statement, feed_stating, feed_fresh, feed_naming, feed_ended, feed_first, feed_heading, feed_in_head, feed_behind, feed_plain, without_maybes, feed_optional, feed_ready, feed_broken, feed_operator, got_takes, feed_binary, feed_have, feed}
 use Rattle.nl_parse_grammar.specs.declared.pending.Last.{Last}
 use Rattle.nl_parse_grammar.specs.declared.pending.Last.TheVariants as lasts
 use Rattle.nl_parse_grammar.specs.declared.pending.Shape.{Shape}
@@ -21,7 +23,7 @@ use Rattle.nl_parse_grammar.specs.declared.pending.Shape.TheVariants.{Literal, G
 use Rattle.nl_parse_grammar.specs.Depth.{least_block, least_inputs, least_values, is_literal, frame_depth, stays_literal, whole_depth, begin_depth, optional_depth, statement_depth, least_depth}
 use Rattle.nl_tree.specs.Grammar.{Chain, item_chain}
 use Rattle.nl_parse_grammar.proofs.Complete.{settle_on, settle_stop}
-use Rattle.nl_parse_grammar.proofs.Sound.{Expr, Begins, MaybeTop, VariableTop, StatementTop, Under, Fits, Opens, Reached, Settled, reached_settle, reached_accept, reached_missing}
+use Rattle.nl_parse_grammar.proofs.Sound.{Expr, Begins, BlockTop, MaybeTop, VariableTop, StatementTop, Under, Fits, Opens, Reached, Settled, reached_settle, reached_accept, reached_missing}
 use Rattle.nl_parse_grammar.proofs.Stack.{Fine, FineState, fine, fine_state}
 use Rattle.nl_parse_grammar.proofs.Live.{depths_join, Supplied, block_supplied, variable_supplied}
 
@@ -73,6 +75,7 @@ values_low (suc n) = omega arith
 need_end : (t : Node) (e : List (List ℕ)) (K : List Frame) → StatementTop K → least_depth (end_statement t e K) ≡ whole_depth false (depth t) K
 need_end t e [] u = absurd u
 need_end t e (InStatements s k before ts ∷ K) u = same K false _ _ (omega (arith, depths_join ts (one t)))
+need_end t e (InArrowCommands s before ns ts ∷ K) u = same K false _ _ (omega (arith, depths_join ts (one t)))
 need_end t e (InStatementParen s ∷ K) u = refl
 need_end t e (f ∷ K) u = absurd u
 
@@ -197,6 +200,26 @@ grows_open s e [] = omega arith
 grows_open s e (InNear t r us n ∷ K) = rises (InNear t r us n ∷ K) true true 1 (suc 0) tt (omega arith)
 grows_open s e (f ∷ K) = begin_low (f ∷ K) true 1 (omega arith)
 
+-- in an arrow block: in it stands a node of commands, or an expression
+grows_content : (k : Content) (s : Span) (before ns e : List (List ℕ)) (K : List Frame) → whole_depth false 2 K ≤ least_depth (begin_content k s before ns e K)
+grows_content contents.Commands s before ns e K = omega arith
+grows_content contents.Reporter s before ns e K = omega arith
+
+grows_head_name : (b : Bool) (k : Content) (n : ℕ) (s : Span) (before ns : List (List ℕ)) (v : List ℕ) (e : List (List ℕ)) (K : List Frame) → Grows (whole_depth false 2 K) (feed_head_name b k n s before ns v e K)
+grows_head_name true k (suc n) s before ns v e K = omega arith
+grows_head_name true k zero s before ns v e K = tt
+grows_head_name false k n s before ns v e K = tt
+
+grows_lone_name : (b : Bool) (k : Content) (n : ℕ) (s : Span) (v : List ℕ) (e : List (List ℕ)) (K : List Frame) → Grows (whole_depth false 2 K) (feed_lone_name b k n s v e K)
+grows_lone_name true k (suc n) s v e K = omega arith
+grows_lone_name true k zero s v e K = tt
+grows_lone_name false k n s v e K = tt
+
+-- a word that has no row and isn't known
+grows_new : (v : List ℕ) (s : Span) (e : List (List ℕ)) (K : List Frame) → Grows (begin_depth K) (feed_local false v s e K)
+grows_new v s e (InBracket r ∷ InNoHead p n ∷ K) = grows_head_name true contents.Reporter n p e [] v e K
+grows_new v s e K = tt
+
 grows_begin : (e : List (List ℕ)) (K : List Frame) (tok : Tok) → Begins K → Grows (begin_depth K) (feed_begin e K tok)
 grows_begin e K (number n s) u = by (begin_depth K) _ _ (begin_low K true 1 (omega arith)) (need_closed Literal (leaf (label.Number n) s) e K)
 grows_begin e K (text n s) u = by (begin_depth K) _ _ (begin_low K true 1 (omega arith)) (need_closed Literal (leaf (label.Text n) s) e K)
@@ -204,7 +227,7 @@ grows_begin e K (word v Unknown s) u = at (among v e)
   where
     at : (b : Bool) → Grows (begin_depth K) (feed_local b v s e K)
     at true = by (begin_depth K) _ _ (begin_low K false 1 (omega arith)) (need_closed Fixed (leaf (label.Named v) s) e K)
-    at false = tt
+    at false = grows_new v s e K
 grows_begin e K (word v Constant s) u = by (begin_depth K) _ _ (begin_low K true 1 (omega arith)) (need_closed Literal (leaf (label.Named v) s) e K)
 grows_begin e K (word v Plain s) u = by (begin_depth K) _ _ (begin_low K false 1 (omega arith)) (need_closed Fixed (leaf (label.Named v) s) e K)
 grows_begin e K (word v Named s) u = by (begin_depth K) _ _ (begin_low K false 1 (omega arith)) (need_closed Fixed (leaf (label.Named v) s) e K)
@@ -223,8 +246,10 @@ grows_begin e K tok u = tt
 grows_opening : (b : Block) (e : List (List ℕ)) (K : List Frame) (tok : Tok) → Grows (whole_depth false (least_block b) K) (feed_opening b e K tok)
 grows_opening blocks.Commands e K (open_bracket s) = rises K false false 1 (suc (max 0 0)) tt (omega arith)
 grows_opening blocks.Reporter e K (open_bracket s) = rises K false false 2 (suc 1) tt (omega arith)
+grows_opening (blocks.Arrow k n) e K (open_bracket s) = omega arith
 grows_opening blocks.Commands e K tok = tt
 grows_opening blocks.Reporter e K tok = tt
+grows_opening (blocks.Arrow k n) e K tok = tt
 
 grows_choosing : (e : List (List ℕ)) (K : List Frame) (tok : Tok) → VariableTop K → Fine K → Grows (whole_depth false 1 K) (feed_choosing e K tok)
 grows_choosing e K (word v Named s) u h = by (whole_depth false 1 K) _ _ (rises K false false 1 (suc 0) tt (omega arith)) (need_supply (leaf (label.Named v) s) e K (variable_supplied K u) h)
@@ -257,12 +282,20 @@ grows_paren Growing (node l s ts) p e K tok = grows_begin e (InItems p l s ts �
 grows_paren Literal t p e K tok = tt
 grows_paren Fixed t p e K tok = tt
 
+grows_no_head : (x : Shape) (t : Node) (s : Span) (n : ℕ) (e : List (List ℕ)) (K : List Frame) (tok : Tok) → Fine (InNoHead s n ∷ K) → Grows (whole_depth (is_literal x) (depth t) (InNoHead s n ∷ K)) (feed_no_head t s e K tok)
+grows_no_head x (node label.List r none) s n e K (word v Arrow q) h = grows_content contents.Reporter s e [] e K
+grows_no_head x t s n e K (close_bracket r) h = by _ _ _ (rises K false false (suc (depth t)) (suc (max (depth t) 0)) tt (omega arith)) (need_supply (node (label.Arrow []) s (one t)) e K (block_supplied (blocks.Arrow contents.Reporter n) K h.0) h.1)
+grows_no_head x t s n e K tok h = tt
+
 grows_shut : (x : Shape) (t : Node) (e : List (List ℕ)) (K : List Frame) (tok : Tok) → Fine K → Grows (whole_depth (is_literal x) (depth t) K) (feed_shut x t e K tok)
 grows_shut x t e (InParen p ∷ K) tok h = grows_paren x t p e K tok
 grows_shut x t e (InMinus p s ∷ K) (close_paren r) h = by _ _ _ (rises K false false (suc (suc (depth t))) (suc (max (suc (max (depth t) 0)) 0)) tt (omega arith)) (need_closed Fixed (node label.Paren p (one (node label.Negate s (one t)))) e K)
 grows_shut x t e (InMinus p s ∷ K) tok h = tt
 grows_shut x t e (InReporter s ∷ K) (close_bracket r) h = by _ _ _ (rises K false false (suc (depth t)) (suc (max (depth t) 0)) tt (omega arith)) (need_supply (node label.Reporter s (one t)) e K (block_supplied blocks.Reporter K h.0) h.1)
 grows_shut x t e (InReporter s ∷ K) tok h = tt
+grows_shut x t e (InNoHead s n ∷ K) tok h = grows_no_head x t s n e K tok h
+grows_shut x t e (InArrowReporter s before ns ∷ K) (close_bracket r) h = by _ _ _ (rises K false false (suc (depth t)) (suc (max (depth t) 0)) tt (omega arith)) (need_supply (node (label.Arrow ns) s (one t)) before K (block_supplied (blocks.Arrow contents.Reporter h.0) K h.1) h.2)
+grows_shut x t e (InArrowReporter s before ns ∷ K) tok h = tt
 grows_shut x t e (InBracket s ∷ K) tok h = grows_bracket x t s e K tok
 grows_shut x t e [] (end r) h = omega arith
 grows_shut x t e [] tok h = tt
@@ -275,6 +308,10 @@ grows_ending AtEnd s ts before [] (end r) h = omega arith
 grows_ending AtEnd s ts before (f ∷ K) tok h = absurd h
 grows_ending AtEnd s ts before [] tok h = tt
 
+grows_arrow_ending : (s : Span) (before ns : List (List ℕ)) (ts : Nodes) (K : List Frame) (tok : Tok) → Fine (InArrowCommands s before ns ts ∷ K) → Grows (whole_depth false 0 (InArrowCommands s before ns ts ∷ K)) (feed_arrow_ending s before ns ts K tok)
+grows_arrow_ending s before ns ts K (close_bracket r) h = by _ _ _ (rises K false false (suc (suc (max (depths ts) 0))) (suc (max (suc (depths ts)) 0)) tt (omega arith)) (need_supply (node (label.Arrow ns) s (one (node label.Commands s ts))) before K (block_supplied (blocks.Arrow contents.Commands h.0) K h.1) h.2)
+grows_arrow_ending s before ns ts K tok h = tt
+
 grows_statement : (e : List (List ℕ)) (K : List Frame) (tok : Tok) (n : ℕ) → StatementTop K → n ≤ whole_depth false 1 K → Grows n (feed_statement e K tok)
 grows_statement e K (word v (Command is) s) n u h = by _ _ _ (omega (arith, h, rises K false false 1 (suc (max 0 (least_inputs is lasts.Nothing))) tt (omega arith))) (need_next v s none is lasts.Nothing e K u)
 grows_statement e K (word v Let s) n u h = omega (arith, h, rises K false false 1 2 tt (omega arith))
@@ -284,6 +321,9 @@ grows_statement e K tok n u h = tt
 grows_stating : (e : List (List ℕ)) (K : List Frame) (tok : Tok) → StatementTop K → Fine K → Grows (statement_depth K) (feed_stating e K tok)
 grows_stating e [] tok u h = absurd u
 grows_stating e (InStatementParen s ∷ K) tok u h = grows_statement e (InStatementParen s ∷ K) tok (whole_depth false 1 (InStatementParen s ∷ K)) u (omega arith)
+grows_stating e (InArrowCommands s before ns ts ∷ K) (word v c r) u h = grows_statement e (InArrowCommands s before ns ts ∷ K) (word v c r) (whole_depth false 0 (InArrowCommands s before ns ts ∷ K)) u (rises (InArrowCommands s before ns ts ∷ K) false false 0 1 tt (omega arith))
+grows_stating e (InArrowCommands s before ns ts ∷ K) (open_paren r) u h = grows_statement e (InArrowCommands s before ns ts ∷ K) (open_paren r) (whole_depth false 0 (InArrowCommands s before ns ts ∷ K)) u (rises (InArrowCommands s before ns ts ∷ K) false false 0 1 tt (omega arith))
+grows_stating e (InArrowCommands s before ns ts ∷ K) tok u h = grows_arrow_ending s before ns ts K tok h
 grows_stating e (InStatements s k before ts ∷ K) (word v c r) u h = grows_statement e (InStatements s k before ts ∷ K) (word v c r) (whole_depth false 0 (InStatements s k before ts ∷ K)) u (rises (InStatements s k before ts ∷ K) false false 0 1 tt (omega arith))
 grows_stating e (InStatements s k before ts ∷ K) (open_paren r) u h = grows_statement e (InStatements s k before ts ∷ K) (open_paren r) (whole_depth false 0 (InStatements s k before ts ∷ K)) u (rises (InStatements s k before ts ∷ K) false false 0 1 tt (omega arith))
 grows_stating e (InStatements s k before ts ∷ K) tok u h = grows_ending k s ts before K tok h
@@ -303,9 +343,35 @@ grows_ended t e (InStatementParen s ∷ K) (close_paren r) h = by _ _ _ (rises K
 grows_ended t e (InStatementParen s ∷ K) tok h = tt
 grows_ended t e (f ∷ K) tok h = tt
 
+-- right behind the bracket of an arrow block, and in its head
+grows_heading : (k : Content) (n : ℕ) (s : Span) (e : List (List ℕ)) (K : List Frame) (tok : Tok) → BlockTop (blocks.Arrow k n) K → Fine K → Grows (whole_depth false 2 K) (feed_heading k n s e K tok)
+grows_heading contents.Commands n s e K (word v Arrow r) u h = grows_content contents.Commands s e [] e K
+grows_heading contents.Commands n s e K (word v Unknown r) u h = grows_lone_name (not (among v e)) contents.Commands n s v e K
+grows_heading contents.Commands n s e K (open_bracket r) u h = omega arith
+grows_heading contents.Commands n s e K tok u h = grows_stating e (InArrowCommands s e [] none ∷ K) tok tt (n, u, h)
+grows_heading contents.Reporter n s e K (word v Arrow r) u h = grows_content contents.Reporter s e [] e K
+grows_heading contents.Reporter n s e K (word v Unknown r) u h = at (among v e)
+  where
+    at : (b : Bool) → Grows (whole_depth false 2 K) (feed_first b n s v r e K)
+    at true = by _ _ _ (omega arith) (need_closed Fixed (leaf (label.Named v) r) e (InNoHead s n ∷ K))
+    at false = grows_lone_name true contents.Reporter n s v e K
+grows_heading contents.Reporter n s e K tok u h = grows_begin e (InNoHead s n ∷ K) tok tt
+
+grows_in_head : (k : Content) (n : ℕ) (s : Span) (before ns e : List (List ℕ)) (K : List Frame) (tok : Tok) → Grows (whole_depth false 2 K) (feed_in_head k n s before ns e K tok)
+grows_in_head k n s before ns e K (word v Unknown r) = grows_head_name (not (among v e)) k n s before ns v e K
+grows_in_head k n s before ns e K (close_bracket r) = omega arith
+grows_in_head k n s before ns e K tok = tt
+
+grows_behind : (k : Content) (s : Span) (before ns e : List (List ℕ)) (K : List Frame) (tok : Tok) → Grows (whole_depth false 2 K) (feed_behind k s before ns e K tok)
+grows_behind k s before ns e K (word v Arrow r) = grows_content k s before ns e K
+grows_behind k s before ns e K tok = tt
+
 grows_plain : (s : State) (tok : Tok) → FineState s → Grows (least_depth s) (feed_plain s tok)
 grows_plain (st Begin e K) tok h = grows_begin e K tok h.0
 grows_plain (st (Opening b) e K) tok h = grows_opening b e K tok
+grows_plain (st (Heading k n s) e K) tok h = grows_heading k n s e K tok h.0 h.1
+grows_plain (st (InHead k n s before ns) e K) tok h = grows_in_head k n s before ns e K tok
+grows_plain (st (Behind k s before ns) e K) tok h = grows_behind k s before ns e K tok
 grows_plain (st Optional e K) tok h = tt
 grows_plain (st Choosing e K) tok h = grows_choosing e K tok h.0 h.1
 grows_plain (st (Have x t) e K) tok h = tt

@@ -4,16 +4,18 @@ use Rattle.std.proofs.lemmas.Bool.{leb-true, leb-false}
 use Rattle.nl_fixed.specs.declared.span.Span.{Span}
 use Rattle.nl_tree.specs.declared.declared.Form.{Form}
 use Rattle.nl_tree.specs.declared.declared.Form.TheVariants as form
-use Rattle.nl_tree.specs.Tree.{Node, node}
+use Rattle.nl_tree.specs.declared.tree.Label.TheVariants as label
+use Rattle.nl_tree.specs.Tree.{Node, node, none}
 use Rattle.nl_tree.specs.Term.{Term}
 use Rattle.nl_tree.specs.Tokens.{Token, IsToken, Tok, end, mark, marked}
 use Rattle.nl_tree.specs.declared.needs.Block.TheVariants as blocks
+use Rattle.nl_tree.specs.declared.needs.Content.TheVariants as contents
 use Rattle.nl_tree.specs.Grammar.{top, span_of_first}
 use Rattle.nl_tree.specs.declared.needs.Ending.TheVariants.{AtBracket, AtEnd}
 use Rattle.nl_tree.specs.BodyFault.{IsReadable, IsGood, IsFaultPlace, IsOfKind, IsTextFault, deepest, ends_at}
 use Rattle.nl_tree.specs.declared.faults.BodyKind.{BodyKind}
 use Rattle.nl_tree.specs.declared.faults.BodyKind.TheVariants.{UnknownName, Unexpected, TooDeep}
-use Rattle.nl_parse_grammar.specs.Machine.{Frame, InCall, InParen, InMinus, InReporter, InBracket, InList, InStatementParen, InStatements, Begin, Opening, Optional, Choosing, Have, Blocked, Shut, Listing, Stating, Naming, Ended, Over, Dead, State, st, Step, go, stop, Got, got, next, accept, settle, feed_begin, feed_bracket, feed_paren, feed_shut, feed_plain, without_maybes, feed_ready, feed_broken, feed, run, start}
+use Rattle.nl_parse_grammar.specs.Machine.{Frame, InCall, InParen, InMinus, InReporter, InNoHead, InArrowReporter, InArrowCommands, InBracket, InList, InStatementParen, InStatements, Begin, Opening, Heading, InHead, Behind, Optional, Choosing, Have, Blocked, Shut, Listing, Stating, Naming, Ended, Over, Dead, State, st, Step, go, stop, Got, got, next, accept, settle, feed_begin, feed_bracket, feed_paren, feed_no_head, feed_shut, feed_plain, without_maybes, feed_ready, feed_broken, feed, run, start}
 use Rattle.nl_parse_grammar.specs.declared.pending.Shape.{Shape}
 use Rattle.nl_parse_grammar.specs.declared.pending.Shape.TheVariants.{Literal, Growing, Fixed}
 use Rattle.nl_parse_grammar.specs.Depth.{least_depth}
@@ -44,11 +46,17 @@ end_paren_token Literal t p e K r = tt
 end_paren_token Growing (node l s ts) p e K r = tt
 end_paren_token Fixed t p e K r = tt
 
+end_no_head : (t : Node) (s : Span) (e : List (List ℕ)) (K : List Frame) (r : Span) → EndStep (feed_no_head t s e K (end r))
+end_no_head (node label.List q none) s e K r = tt
+end_no_head t s e K r = tt
+
 end_shut : (x : Shape) (t : Node) (e : List (List ℕ)) (K : List Frame) (r : Span) → EndStep (feed_shut x t e K (end r))
 end_shut x t e [] r = tt
 end_shut x t e (InParen p ∷ K) r = end_paren_token x t p e K r
 end_shut x t e (InMinus p s ∷ K) r = tt
 end_shut x t e (InReporter s ∷ K) r = tt
+end_shut x t e (InNoHead s n ∷ K) r = end_no_head t s e K r
+end_shut x t e (InArrowReporter s before ns ∷ K) r = tt
 end_shut x t e (InBracket s ∷ K) r = end_bracket_token x t s e K r
 end_shut x t e (f ∷ K) r = tt
 
@@ -56,6 +64,11 @@ end_plain : (s : State) (r : Span) → EndStep (feed_plain s (end r))
 end_plain (st Begin e K) r = tt
 end_plain (st (Opening blocks.Commands) e K) r = tt
 end_plain (st (Opening blocks.Reporter) e K) r = tt
+end_plain (st (Opening (blocks.Arrow k n)) e K) r = tt
+end_plain (st (Heading contents.Commands n s) e K) r = tt
+end_plain (st (Heading contents.Reporter n s) e K) r = tt
+end_plain (st (InHead k m s before ns) e K) r = tt
+end_plain (st (Behind k s before ns) e K) r = tt
 end_plain (st Optional e K) r = tt
 end_plain (st Choosing e K) r = tt
 end_plain (st (Have x t) e K) r = tt
@@ -67,6 +80,7 @@ end_plain (st Listing e (f ∷ K)) r = tt
 end_plain (st Stating e []) r = tt
 end_plain (st Stating e (InStatements s AtBracket before ts ∷ K)) r = tt
 end_plain (st Stating e (InStatements s AtEnd before ts ∷ K)) r = tt
+end_plain (st Stating e (InArrowCommands s before ns ts ∷ K)) r = tt
 end_plain (st Stating e (InStatementParen s ∷ K)) r = tt
 end_plain (st Stating e (f ∷ K)) r = tt
 end_plain (st (Naming w s) e K) r = tt

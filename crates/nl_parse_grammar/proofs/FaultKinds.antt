@@ -2,7 +2,6 @@
 use Rattle.std.proofs.Common.{◌≡◌, ℕ, zero, suc, ◌+◌, ◌-◌, ◌==◌, ◌&&◌, if◌then◌else◌, nat_le, bytes_eq, codes, Bool, true, false, List, [], ◌∷◌, ◌++◌, map, length, take, All, Option, Some, None, refl, sym, ◌∙◌, ap, subst, IsTrue, arith, slice_get}
 use Rattle.std.specs.List.{list_any}
 use Rattle.nl_fixed.specs.declared.span.Span.{Span}
-use Rattle.nl_words.specs.Table.{has_turns}
 use Rattle.nl_words.specs.declared.entry.Role.{Role}
 use Rattle.nl_words.specs.declared.entry.Role.TheVariants as role
 use Rattle.nl_words.specs.declared.entry.Input.{Input}
@@ -12,7 +11,7 @@ use Rattle.nl_tree.specs.declared.declared.Form.TheVariants as form
 use Rattle.nl_tree.specs.Tree.{Node}
 use Rattle.nl_tree.specs.Term.{Term}
 use Rattle.nl_tree.specs.Vocabulary.{among, term_named}
-use Rattle.nl_tree.specs.Tokens.{inputs_of, Lexeme, Number, Text, Word, Open, Close, OpenParen, CloseParen, End, Token, IsToken, Class, Unknown, Prefix, Many, Closing, Command, Of, Binary, Nowhere, Tok, word, class_of, class_of_term, class_by, before, last_need, is_new, reporter_of, reporter_class, one_more, many_class, command_class, near_class, operator_class, need_of_command, need_of_reporter, mark, marked_as, marked}
+use Rattle.nl_tree.specs.Tokens.{names_of, inputs_of, Lexeme, Number, Text, Word, Open, Close, OpenParen, CloseParen, End, Token, IsToken, Class, Unknown, Prefix, Many, Closing, Command, Of, Binary, Nowhere, Tok, word, class_of, class_of_term, class_by, before, last_need, is_new, reporter_of, reporter_class, one_more, many_class, command_class, reserved_class, near_class, operator_class, need_of_command, need_of_reporter, mark, marked_as, marked}
 use Rattle.nl_tree.specs.declared.needs.Need.{Need}
 use Rattle.nl_tree.specs.declared.needs.Need.TheVariants.{Item, Within}
 use Rattle.nl_tree.specs.Grammar.{IsText, knows_in, span_of_first}
@@ -116,13 +115,13 @@ before_known i (Prefix is) = refl
 before_known i (Closing is b) = refl
 before_known i c = refl
 
-listed_known : (is : List Input) → is_unknown (reporter_of is) ≡ false
-listed_known [] = refl
-listed_known (i ∷ []) = last_known (need_of_reporter i)
-listed_known (i ∷ j ∷ is) = before_known (need_of_reporter i) (reporter_of (j ∷ is))
+listed_known : (n : ℕ) (is : List Input) → is_unknown (reporter_of n is) ≡ false
+listed_known n [] = refl
+listed_known n (i ∷ []) = last_known (need_of_reporter n i)
+listed_known n (i ∷ j ∷ is) = before_known (need_of_reporter n i) (reporter_of n (j ∷ is))
 
-reporter_known : (is : List Input) → is_unknown (reporter_class is) ≡ false
-reporter_known is = either (list_any is_new is) Nowhere (reporter_of is) refl (listed_known is)
+reporter_known : (n : ℕ) (is : List Input) → is_unknown (reporter_class n is) ≡ false
+reporter_known n is = either (list_any is_new is) Nowhere (reporter_of n is) refl (listed_known n is)
 
 more_known : (c : Class) → is_unknown (one_more c) ≡ false
 more_known (Many n) = refl
@@ -133,9 +132,9 @@ many_known (input.Value ∷ []) = refl
 many_known (input.Value ∷ i ∷ is) = more_known (many_class (i ∷ is))
 many_known is = refl
 
-command_known : (is : List Input) → is_unknown (command_class is) ≡ false
-command_known (input.Fresh ∷ input.Value ∷ []) = refl
-command_known is = either (list_any is_new is) Nowhere (Command (map need_of_command is)) refl refl
+command_known : (n : ℕ) (is : List Input) → is_unknown (command_class n is) ≡ false
+command_known n (input.Fresh ∷ input.Value ∷ []) = refl
+command_known n is = either (list_any is_new is) Nowhere (Command (map (need_of_command n) is)) refl refl
 
 near_known : (is : List Input) → is_unknown (near_class is) ≡ false
 near_known (input.Value ∷ input.Reporter ∷ []) = refl
@@ -146,17 +145,22 @@ near_known is = refl
 operator_known : (level : ℕ) (minus : Bool) (is : List Input) → is_unknown (operator_class level minus is) ≡ false
 operator_known level minus is = either (level == 1) (near_class is) _ (near_known is) (either (level == 2) Of _ refl (either (nat_le 4 level && nat_le level 9) (Binary (level - 4) minus) Nowhere refl refl))
 
-class_known : (r : Role) (many minus : Bool) (is : List Input) → is_unknown (class_by r many minus is) ≡ false
-class_known role.Command many minus is = command_known is
-class_known role.Reporter true minus is = many_known is
-class_known role.Reporter false minus is = reporter_known is
-class_known (role.Operator level) many minus is = operator_known level minus is
-class_known role.Constant many minus is = refl
-class_known role.Variable many minus is = refl
-class_known role.Reserved many minus is = refl
+reserved_known : (arrow : Bool) → is_unknown (reserved_class arrow) ≡ false
+reserved_known true = refl
+reserved_known false = refl
+
+class_known : (name : List ℕ) (r : Role) (many : Bool) (n : ℕ) (is : List Input) → is_unknown (class_by name r many n is) ≡ false
+class_known name role.Command many n is = command_known n is
+class_known name role.Reporter true zero is = many_known is
+class_known name role.Reporter true (suc n) is = reporter_known (suc n) is
+class_known name role.Reporter false n is = reporter_known n is
+class_known name (role.Operator level) many n is = operator_known level (bytes_eq name (codes "-")) is
+class_known name role.Constant many n is = refl
+class_known name role.Variable many n is = refl
+class_known name role.Reserved many n is = reserved_known (bytes_eq name (codes "->"))
 
 term_known : (t : Term) → is_unknown (class_of_term t) ≡ false
-term_known t = either (has_turns t.turns) Nowhere _ refl (class_known t.role t.many (bytes_eq t.name (codes "-")) (inputs_of t))
+term_known t = class_known t.name t.role t.many (names_of t.turns) (inputs_of t)
 
 kind_known : (s : State) (w : List ℕ) (c : Class) (r : Span) → is_unknown c ≡ false → kind_at s (word w c r) ≡ Unexpected
 kind_known s w Unknown r h = cc h

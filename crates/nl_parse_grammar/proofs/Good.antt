@@ -17,7 +17,7 @@ use Rattle.nl_tree.specs.Grammar.{IsText, span_of_first}
 use Rattle.nl_tree.specs.BodyFault.{IsReadable, BeginsReadable, BeginsGood, deepest}
 use Rattle.nl_parse_grammar.specs.Machine.{State, st, Over, Step, go, stop, feed, run_from, run, start}
 use Rattle.nl_parse_grammar.specs.Depth.{least_depth}
-use Rattle.nl_parse_grammar.specs.Completion.{Piece, AValue, AVariable, AStatement, AnOf, AName, ABracket, ItsBracket, ItsParen, ItsEnd, pieces, letters, lengths, unused, token_of, nowhere, HasWords, reading, completion_of}
+use Rattle.nl_parse_grammar.specs.Completion.{Piece, AValue, AVariable, AStatement, AnOf, AnArrow, AName, ABracket, ItsBracket, ItsParen, ItsEnd, pieces, letters, lengths, unused, token_of, nowhere, HasWords, reading, completion_of}
 use Rattle.nl_parse_grammar.specs.Laws.{CompletionsAreLeast, BeginningsAreTaken, ModelsHaveWords}
 use Rattle.nl_parse_grammar.proofs.Sound.{Reached, ReachedStep, reached_feed}
 use Rattle.nl_parse_grammar.proofs.Stack.{fine_state}
@@ -112,6 +112,7 @@ piece_token table AValue = refl
 piece_token table AVariable = refl
 piece_token table AStatement = refl
 piece_token table AnOf = refl
+piece_token table AnArrow = refl
 piece_token table (AName e) = letters_are_name (lengths e + lengths (map (λ (t : Term). t.name) table))
 piece_token table ABracket = tt
 piece_token table ItsBracket = tt
@@ -129,6 +130,7 @@ module _ (table : List Term) (has : HasWords table) where
   piece_marked AVariable = ap (λ c. word (codes "color") c nowhere) has.variable
   piece_marked AStatement = ap (λ c. word (codes "stop") c nowhere) has.statement
   piece_marked AnOf = ap (λ c. word (codes "of") c nowhere) has.of
+  piece_marked AnArrow = ap (λ c. word (codes "->") c nowhere) has.arrow
   piece_marked (AName e) = ap (λ t. word (unused table e) (class_of t) nowhere) (unused_unnamed table e)
   piece_marked ABracket = refl
   piece_marked ItsBracket = refl
@@ -230,4 +232,4 @@ beginnings_are_taken form names table [] has =
 
 pub models_have_words : ModelsHaveWords
 unfolding rows
-models_have_words d = record { value = refl; variable = refl; statement = refl; of = refl }
+models_have_words d = record { value = refl; variable = refl; statement = refl; of = refl; arrow = refl }

@@ -6,6 +6,7 @@ pub mod Deep
 pub mod Ends
 pub mod FaultKinds
 pub mod Good
+pub mod Heads
 pub mod Known
 pub mod Live
 pub mod MachineExamples

@@ -5,20 +5,23 @@ use Rattle.nl_fixed.specs.declared.span.Span.{Span}
 use Rattle.nl_tree.specs.declared.tree.Label.TheVariants as label
 use Rattle.nl_tree.specs.Tree.{Node, node, Nodes, none, more, depth, depths}
 use Rattle.nl_tree.specs.Vocabulary.{among}
-use Rattle.nl_tree.specs.Tokens.{Unknown, Constant, Named, Command, With, Near, Of, Binary, Tok, word, open_bracket, close_bracket, close_paren, end}
+use Rattle.nl_tree.specs.Tokens.{Unknown, Constant, Named, Command, With, Near, Of, Binary, Arrow, Tok, word, open_bracket, close_bracket, close_paren, end}
 use Rattle.nl_tree.specs.declared.needs.Block.{Block}
 use Rattle.nl_tree.specs.declared.needs.Block.TheVariants as blocks
+use Rattle.nl_tree.specs.declared.needs.Content.TheVariants as contents
+use Rattle.nl_tree.specs.declared.needs.Content.{Content}
 use Rattle.nl_tree.specs.declared.needs.Need.{Need}
 use Rattle.nl_tree.specs.declared.needs.Need.TheVariants.{Item, Whole, Within, Maybe, Variable}
 use Rattle.nl_tree.specs.Grammar.{one, two, leaf, join, and_last, opens, top}
 use Rattle.nl_tree.specs.declared.needs.Ending.TheVariants.{AtBracket, AtEnd}
-use Rattle.nl_parse_grammar.specs.Machine.{Frame, InBinary, InWith, InNear, InOf, InCall, InLastItem, InLastBlock, InMany, InItems, InParen, InMinus, InReporter, InBracket, InList, InLet, InStatementParen, InStatements, Begin, Opening, Optional, Choosing, Have, Blocked, Shut, Listing, Stating, Naming, Ended, Over, Dead, State, st, Step, go, end_statement, next, closed, supply, accept, end_list, closes, build, built_shape, feed_fresh, feed_broken, run_from, run}
+use Rattle.nl_parse_grammar.specs.Machine.{Frame, InBinary, InWith, InNear, InOf, InCall, InLastItem, InLastBlock, InMany, InItems, InParen, InMinus, InReporter, InNoHead, InArrowReporter, InArrowCommands, InBracket, InList, InLet, InStatementParen, InStatements, Begin, Opening, Heading, InHead, Behind, Optional, Choosing, Have, Blocked, Shut, Listing, Stating, Naming, Ended, Over, Dead, State, st, Step, go, end_statement, next, closed, supply, accept, end_list, closes, build, built_shape, begin_content, feed_fresh, feed_broken, run_from, run}
 use Rattle.nl_parse_grammar.specs.declared.pending.Last.{Last}
 use Rattle.nl_parse_grammar.specs.declared.pending.Last.TheVariants as lasts
 use Rattle.nl_parse_grammar.specs.declared.pending.Shape.{Shape}
 use Rattle.nl_parse_grammar.specs.declared.pending.Shape.TheVariants.{Literal, Growing, Fixed}
 use Rattle.nl_parse_grammar.specs.Depth.{least_block, least_inputs, least_values, is_literal, whole_depth, begin_depth, optional_depth, statement_depth, least_depth}
-use Rattle.nl_parse_grammar.specs.Completion.{Piece, AValue, AVariable, AStatement, AnOf, AName, ABracket, ItsBracket, ItsParen, ItsEnd, block_pieces, needs_bracket, maybe_pieces, input_pieces, values, bracket_pieces, items_pieces, rest_pieces, begin_pieces, optional_pieces, statement_pieces, pieces, nowhere}
+use Rattle.nl_parse_grammar.specs.Completion.{Piece, AValue, AVariable, AStatement, AnOf, AnArrow, AName, ABracket, ItsBracket, ItsParen, ItsEnd, content_pieces, block_pieces, needs_bracket, maybe_pieces, input_pieces, values, bracket_pieces, items_pieces, rest_pieces, begin_pieces, optional_pieces, statement_pieces, pieces, nowhere}
+use Rattle.nl_parse_grammar.proofs.Heads.{shut_no_head}
 use Rattle.nl_parse_grammar.proofs.Complete.{settle_on, settle_stop, Breaking, break, missing}
 use Rattle.nl_parse_grammar.proofs.Sound.{Expr, Begins, Callable, BlockTop, MaybeTop, VariableTop, ShutTop, ListTop, StatementTop, EndedTop, ListUnder, Under, expr_under, expr_begins}
 use Rattle.nl_parse_grammar.proofs.Stack.{Fine, FineState, expr_callable}
@@ -33,11 +36,13 @@ bracket_deep (Item ∷ is) last h = cc
 bracket_deep (Whole ∷ is) last h = cc
 bracket_deep (Within blocks.Commands ∷ is) last h = omega arith
 bracket_deep (Within blocks.Reporter ∷ is) last h = omega arith
+bracket_deep (Within (blocks.Arrow k n) ∷ is) last h = omega arith
 bracket_deep (Maybe ∷ is) last h = omega (arith, bracket_deep is last h)
 bracket_deep (Variable ∷ is) last h = cc
 bracket_deep [] lasts.Item h = cc
 bracket_deep [] (lasts.Block blocks.Commands) h = omega arith
 bracket_deep [] (lasts.Block blocks.Reporter) h = omega arith
+bracket_deep [] (lasts.Block (blocks.Arrow k n)) h = omega arith
 bracket_deep [] lasts.Nothing h = cc
 
 -- what waits for a block or a variable
@@ -85,6 +90,7 @@ module _ (fresh : List (List ℕ) → List ℕ) (is_fresh : (e : List (List ℕ)
   tok_of AVariable = word (codes "color") Named nowhere
   tok_of AStatement = word (codes "stop") (Command []) nowhere
   tok_of AnOf = word (codes "of") Of nowhere
+  tok_of AnArrow = word (codes "->") Arrow nowhere
   tok_of (AName e) = word (fresh e) Unknown nowhere
   tok_of ABracket = open_bracket nowhere
   tok_of ItsBracket = close_bracket nowhere
@@ -101,6 +107,7 @@ module _ (fresh : List (List ℕ) → List ℕ) (is_fresh : (e : List (List ℕ)
   input_breaks (Whole ∷ is) last ps h = refl
   input_breaks (Within blocks.Commands ∷ is) last ps h = refl
   input_breaks (Within blocks.Reporter ∷ is) last ps h = refl
+  input_breaks (Within (blocks.Arrow k n) ∷ is) last ps h = refl
   input_breaks (Maybe ∷ is) last ps h = at (needs_bracket is last) (input_breaks is last ps h)
     where
       at : (b : Bool) → Breaking (toks (input_pieces is last ++ ps)) → Breaking (toks ((maybe_pieces b ++ input_pieces is last) ++ ps))
@@ -110,6 +117,7 @@ module _ (fresh : List (List ℕ) → List ℕ) (is_fresh : (e : List (List ℕ)
   input_breaks [] lasts.Item ps h = refl
   input_breaks [] (lasts.Block blocks.Commands) ps h = refl
   input_breaks [] (lasts.Block blocks.Reporter) ps h = refl
+  input_breaks [] (lasts.Block (blocks.Arrow k n)) ps h = refl
   input_breaks [] lasts.Nothing ps h = h
 
   values_break : (n : ℕ) (ps : List Piece) → Breaking (toks ps) → Breaking (toks (values n ++ ps))
@@ -136,6 +144,9 @@ module _ (fresh : List (List ℕ) → List ℕ) (is_fresh : (e : List (List ℕ)
   rest_breaks b (InParen s ∷ K) = refl
   rest_breaks b (InMinus p s ∷ K) = refl
   rest_breaks b (InReporter s ∷ K) = refl
+  rest_breaks b (InNoHead s n ∷ K) = refl
+  rest_breaks b (InArrowReporter s before ns ∷ K) = refl
+  rest_breaks b (InArrowCommands s before ns ts ∷ K) = refl
   rest_breaks true (InBracket s ∷ K) = refl
   rest_breaks false (InBracket s ∷ K) = refl
   rest_breaks b (InList s ts ∷ K) = refl
@@ -154,6 +165,7 @@ module _ (fresh : List (List ℕ) → List ℕ) (is_fresh : (e : List (List ℕ)
   opens_none [] lasts.Item K u h = refl
   opens_none [] (lasts.Block b) K u h = cc
   opens_none [] lasts.Nothing (InStatementParen s ∷ K) u h = refl
+  opens_none [] lasts.Nothing (InArrowCommands s before ns ts ∷ K) u h = refl
   opens_none [] lasts.Nothing (InStatements s AtBracket before ts ∷ K) u h = refl
   opens_none [] lasts.Nothing (InStatements s AtEnd before ts ∷ K) u h = refl
   opens_none [] lasts.Nothing [] u h = absurd u
@@ -177,6 +189,13 @@ module _ (fresh : List (List ℕ) → List ℕ) (is_fresh : (e : List (List ℕ)
   abbrev true_leaf : Node
   true_leaf = leaf (label.Named (codes "true")) nowhere
 
+  -- the least arrow blocks
+  abbrev empty_arrow : Node
+  empty_arrow = node (label.Arrow []) nowhere (one (node label.Commands nowhere none))
+
+  abbrev true_arrow : Node
+  true_arrow = node (label.Arrow []) nowhere (one true_leaf)
+
   -- where a token ends what is open
   through : (f : Frame) (K : List Frame) → Callable K → closes top f ≡ true → is_literal (built_shape f) ≡ false → Hands K → (e : List (List ℕ)) (x : Shape) (t : Node) → Finishes (st (Have x t) e (f ∷ K)) (toks (rest_pieces false K)) (whole_depth false (depth (build f t)) K)
   through f K u q z h e x t =
@@ -196,6 +215,8 @@ module _ (fresh : List (List ℕ) → List ℕ) (is_fresh : (e : List (List ℕ)
       onto (InCall w s ts Whole is last) K (input_pieces is last ++ rest_pieces false K) _ refl (input_breaks is last (rest_pieces false K) (rest_breaks false K)) e Literal true_leaf g
   inputs (Within blocks.Commands ∷ is) last K u h w s ts e = after (inputs is last K u h w s (and_last ts (node label.Commands nowhere none)) e) refl (deeper false _ _ K (omega (arith, depths_join ts (one (node label.Commands nowhere none)))))
   inputs (Within blocks.Reporter ∷ is) last K u h w s ts e = after (inputs is last K u h w s (and_last ts (node label.Reporter nowhere (one true_leaf))) e) refl (deeper false _ _ K (omega (arith, depths_join ts (one (node label.Reporter nowhere (one true_leaf))))))
+  inputs (Within (blocks.Arrow contents.Commands n) ∷ is) last K u h w s ts e = after (inputs is last K u h w s (and_last ts empty_arrow) e) refl (deeper false _ _ K (omega (arith, depths_join ts (one empty_arrow))))
+  inputs (Within (blocks.Arrow contents.Reporter n) ∷ is) last K u h w s ts e = after (inputs is last K u h w s (and_last ts true_arrow) e) refl (deeper false _ _ K (omega (arith, depths_join ts (one true_arrow))))
   inputs (Maybe ∷ is) last K u h w s ts e = at (needs_bracket is last) refl (inputs is last K u h w s (and_last ts (node label.Commands nowhere none)) e) (inputs is last K u h w s ts e)
     where
       at : (b : Bool) → needs_bracket is last ≡ b → Finishes (next w s (and_last ts (node label.Commands nowhere none)) is last e K) (toks (input_pieces is last ++ rest_pieces false K)) (whole_depth false (suc (max (depths (and_last ts (node label.Commands nowhere none))) (least_inputs is last))) K) → Finishes (next w s ts is last e K) (toks (input_pieces is last ++ rest_pieces false K)) (whole_depth false (suc (max (depths ts) (least_inputs is last))) K) → Finishes (next w s ts (Maybe ∷ is) last e K) (toks ((maybe_pieces b ++ input_pieces is last) ++ rest_pieces false K)) (whole_depth false (suc (max (depths ts) (max 0 (least_inputs is last)))) K)
@@ -205,6 +226,8 @@ module _ (fresh : List (List ℕ) → List ℕ) (is_fresh : (e : List (List ℕ)
   inputs [] lasts.Item K u h w s ts e = after (through (InLastItem w s ts) K u refl refl h e Literal true_leaf) refl (deeper false _ _ K (omega (arith, depths_join ts (one true_leaf))))
   inputs [] (lasts.Block blocks.Commands) K u h w s ts e = after (h.closing u e Fixed (node (label.Named w) s (and_last ts (node label.Commands nowhere none)))) refl (deeper false _ _ K (omega (arith, depths_join ts (one (node label.Commands nowhere none)))))
   inputs [] (lasts.Block blocks.Reporter) K u h w s ts e = after (h.closing u e Fixed (node (label.Named w) s (and_last ts (node label.Reporter nowhere (one true_leaf))))) refl (deeper false _ _ K (omega (arith, depths_join ts (one (node label.Reporter nowhere (one true_leaf))))))
+  inputs [] (lasts.Block (blocks.Arrow contents.Commands n)) K u h w s ts e = after (h.closing u e Fixed (node (label.Named w) s (and_last ts empty_arrow))) refl (deeper false _ _ K (omega (arith, depths_join ts (one empty_arrow))))
+  inputs [] (lasts.Block (blocks.Arrow contents.Reporter n)) K u h w s ts e = after (h.closing u e Fixed (node (label.Named w) s (and_last ts true_arrow))) refl (deeper false _ _ K (omega (arith, depths_join ts (one true_arrow))))
   inputs [] lasts.Nothing K u h w s ts e = after (h.stated u e (node (label.Named w) s ts)) refl (deeper false _ _ K (omega arith))
 
   -- right sides of level 1
@@ -237,6 +260,10 @@ module _ (fresh : List (List ℕ) → List ℕ) (is_fresh : (e : List (List ℕ)
   bracket_breaks : (b : Bool) (ps : List Piece) → Breaking (toks (bracket_pieces b ++ ps))
   bracket_breaks true ps = refl
   bracket_breaks false ps = refl
+
+  -- an arrow block without a head
+  headless : (s : Span) (n : ℕ) (K : List Frame) → BlockTop (blocks.Arrow contents.Reporter n) K → Hands K → (e : List (List ℕ)) (x : Shape) (t : Node) → Finishes (st (Shut x t) e (InNoHead s n ∷ K)) (toks (ItsBracket ∷ rest_pieces false K)) (whole_depth false (suc (depth t)) K)
+  headless s n K u h e x t = after (h.supplying (block_supplied (blocks.Arrow contents.Reporter n) K u) e (node (label.Arrow []) s (one t))) (ap (λ z. run_from z (toks (rest_pieces false K))) (shut_no_head t s e K nowhere)) (deeper false _ _ K (omega arith))
 
   -- many items in parentheses may end with those that are there
   fewer : (n : ℕ) (w : List ℕ) (s : Span) (ts : Nodes) (p : Span) (K : List Frame) → Begins K → Hands K → (e : List (List ℕ)) (x : Shape) (t : Node) → Finishes (st (Have x t) e (InMany w s ts (suc n) ∷ InParen p ∷ K)) (toks (ItsParen ∷ rest_pieces false K)) (whole_depth false (suc (suc (max (max (depths ts) (depth t)) 1))) K)
@@ -295,6 +322,15 @@ module _ (fresh : List (List ℕ) → List ℕ) (is_fresh : (e : List (List ℕ)
   hands (InParen p ∷ K) h = expression (InParen p) K (λ e x t. refl) (λ e t. refl) (λ u. u) (λ e t u. absurd u) (λ e x t. onto (InParen p) K (ItsParen ∷ rest_pieces false K) _ refl refl e x t (after ((hands K h.1).closing h.0 e Fixed (node label.Paren p (one t))) refl (deeper false _ _ K (omega arith))))
   hands (InMinus p s ∷ K) h = expression (InMinus p s) K (λ e x t. refl) (λ e t. refl) (λ u. u) (λ e t u. absurd u) (λ e x t. onto (InMinus p s) K (ItsParen ∷ rest_pieces false K) _ refl refl e x t (after ((hands K h.1).closing h.0 e Fixed (node label.Paren p (one (node label.Negate s (one t))))) refl (deeper false _ _ K (omega arith))))
   hands (InReporter s ∷ K) h = expression (InReporter s) K (λ e x t. refl) (λ e t. refl) (λ u. u) (λ e t u. absurd u) (λ e x t. onto (InReporter s) K (ItsBracket ∷ rest_pieces false K) _ refl refl e x t (after ((hands K h.1).supplying (block_supplied blocks.Reporter K h.0) e (node label.Reporter s (one t))) refl (deeper false _ _ K (omega arith))))
+  hands (InNoHead s n ∷ K) h = expression (InNoHead s n) K (λ e x t. refl) (λ e t. refl) (λ u. u) (λ e t u. absurd u) (λ e x t. onto (InNoHead s n) K (ItsBracket ∷ rest_pieces false K) _ refl refl e x t (headless s n K h.0 (hands K h.1) e x t))
+  hands (InArrowReporter s before ns ∷ K) h = expression (InArrowReporter s before ns) K (λ e x t. refl) (λ e t. refl) (λ u. u) (λ e t u. absurd u) (λ e x t. onto (InArrowReporter s before ns) K (ItsBracket ∷ rest_pieces false K) _ refl refl e x t (after ((hands K h.2).supplying (block_supplied (blocks.Arrow contents.Reporter h.0) K h.1) before (node (label.Arrow ns) s (one t))) refl (deeper false _ _ K (omega arith))))
+  hands (InArrowCommands s before ns ts ∷ K) h = record {
+    have = λ u e x t. absurd u;
+    closing = λ u e x t. absurd u;
+    supplying = λ u e t. absurd u;
+    stated = λ u e t. after ((hands K h.2).supplying (block_supplied (blocks.Arrow contents.Commands h.0) K h.1) before (node (label.Arrow ns) s (one (node label.Commands s (and_last ts t))))) refl (deeper false _ _ K (omega (arith, depths_join ts (one t))));
+    listing = λ u e t. absurd u;
+  }
   hands (InBracket s ∷ K) h = expression (InBracket s) K (λ e x t. refl) (λ e t. refl) (λ u. u) (λ e t u. absurd u) (λ e x t. onto (InBracket s) K (bracket_pieces (is_literal x) ++ rest_pieces (is_literal x) K) _ refl (bracket_breaks (is_literal x) (rest_pieces (is_literal x) K)) e x t (bracketed x s K h.0 (hands K h.1) e t))
   hands (InList s ts ∷ K) h = record {
     have = λ u e x t. absurd u;
@@ -344,6 +380,17 @@ module _ (fresh : List (List ℕ) → List ℕ) (is_fresh : (e : List (List ℕ)
   finish_opening : (b : Block) (e : List (List ℕ)) (K : List Frame) → BlockTop b K → Fine K → Finishes (st (Opening b) e K) (toks (block_pieces b ++ rest_pieces false K)) (whole_depth false (least_block b) K)
   finish_opening blocks.Commands e K u h = (hands K h).supplying (block_supplied blocks.Commands K u) e (node label.Commands nowhere none)
   finish_opening blocks.Reporter e K u h = (hands K h).supplying (block_supplied blocks.Reporter K u) e (node label.Reporter nowhere (one true_leaf))
+  finish_opening (blocks.Arrow contents.Commands n) e K u h = (hands K h).supplying (block_supplied (blocks.Arrow contents.Commands n) K u) e empty_arrow
+  finish_opening (blocks.Arrow contents.Reporter n) e K u h = (hands K h).supplying (block_supplied (blocks.Arrow contents.Reporter n) K u) e true_arrow
+
+  -- in an arrow block: right behind its bracket, and behind its head
+  finish_heading : (k : Content) (n : ℕ) (s : Span) (e : List (List ℕ)) (K : List Frame) → BlockTop (blocks.Arrow k n) K → Fine K → Finishes (st (Heading k n s) e K) (toks (content_pieces k ++ rest_pieces false K)) (whole_depth false 2 K)
+  finish_heading contents.Commands n s e K u h = (hands K h).supplying (block_supplied (blocks.Arrow contents.Commands n) K u) e (node (label.Arrow []) s (one (node label.Commands s none)))
+  finish_heading contents.Reporter n s e K u h = (hands K h).supplying (block_supplied (blocks.Arrow contents.Reporter n) K u) e (node (label.Arrow []) s (one true_leaf))
+
+  finish_content : (k : Content) (n : ℕ) (s : Span) (before ns e : List (List ℕ)) (K : List Frame) → BlockTop (blocks.Arrow k n) K → Fine K → Finishes (begin_content k s before ns e K) (toks (content_pieces k ++ rest_pieces false K)) (whole_depth false 2 K)
+  finish_content contents.Commands n s before ns e K u h = (hands K h).supplying (block_supplied (blocks.Arrow contents.Commands n) K u) before (node (label.Arrow ns) s (one (node label.Commands s none)))
+  finish_content contents.Reporter n s before ns e K u h = (hands K h).supplying (block_supplied (blocks.Arrow contents.Reporter n) K u) before (node (label.Arrow ns) s (one true_leaf))
 
   finish_optional : (e : List (List ℕ)) (K : List Frame) → MaybeTop K → Fine K → Finishes (st Optional e K) (toks (optional_pieces K)) (optional_depth K)
   finish_optional e (InCall w s ts Maybe is last ∷ K) u h = after (inputs (Maybe ∷ is) last K h.0 (hands K h.1) w s ts e) refl (deeper false _ _ K (omega arith))
@@ -354,6 +401,8 @@ module _ (fresh : List (List ℕ) → List ℕ) (is_fresh : (e : List (List ℕ)
   finish_shut x t e (InParen p ∷ K) u h = after ((hands K h.1).closing h.0 e Fixed (node label.Paren p (one t))) refl (deeper false _ _ K (omega arith))
   finish_shut x t e (InMinus p s ∷ K) u h = after ((hands K h.1).closing h.0 e Fixed (node label.Paren p (one (node label.Negate s (one t))))) refl (deeper false _ _ K (omega arith))
   finish_shut x t e (InReporter s ∷ K) u h = after ((hands K h.1).supplying (block_supplied blocks.Reporter K h.0) e (node label.Reporter s (one t))) refl (deeper false _ _ K (omega arith))
+  finish_shut x t e (InNoHead s n ∷ K) u h = headless s n K h.0 (hands K h.1) e x t
+  finish_shut x t e (InArrowReporter s before ns ∷ K) u h = after ((hands K h.2).supplying (block_supplied (blocks.Arrow contents.Reporter h.0) K h.1) before (node (label.Arrow ns) s (one t))) refl (deeper false _ _ K (omega arith))
   finish_shut x t e (InBracket s ∷ K) u h = bracketed x s K h.0 (hands K h.1) e t
   finish_shut x t e (f ∷ K) u h = absurd u
 
@@ -364,6 +413,7 @@ module _ (fresh : List (List ℕ) → List ℕ) (is_fresh : (e : List (List ℕ)
 
   finish_stating : (e : List (List ℕ)) (K : List Frame) → StatementTop K → Fine K → Finishes (st Stating e K) (toks (statement_pieces K)) (statement_depth K)
   finish_stating e (InStatementParen s ∷ K) u h = after ((hands K h.1).stated h.0 e (node label.Paren s (one (node (label.Named (codes "stop")) nowhere none)))) refl (deeper false _ _ K (omega arith))
+  finish_stating e (InArrowCommands s before ns ts ∷ K) u h = after ((hands K h.2).supplying (block_supplied (blocks.Arrow contents.Commands h.0) K h.1) before (node (label.Arrow ns) s (one (node label.Commands s ts)))) refl (deeper false _ _ K (omega arith))
   finish_stating e (InStatements s AtBracket before ts ∷ K) u h = after ((hands K h.1).supplying (block_supplied blocks.Commands K h.0) before (node label.Commands s ts)) refl (deeper false _ _ K (omega arith))
   finish_stating e (InStatements s AtEnd before ts ∷ []) u h = record { tree = node label.Commands s ts; names = before; stack = []; over = refl; deep = omega arith }
   finish_stating e (InStatements s AtEnd before ts ∷ f ∷ K) u h = absurd h
@@ -383,6 +433,9 @@ module _ (fresh : List (List ℕ) → List ℕ) (is_fresh : (e : List (List ℕ)
   pub finishes : (s : State) → FineState s → Finishes s (toks (pieces s)) (least_depth s)
   finishes (st Begin e K) h = finish_begin e K h.0 h.1
   finishes (st (Opening b) e K) h = finish_opening b e K h.0 h.1
+  finishes (st (Heading k n s) e K) h = finish_heading k n s e K h.0 h.1
+  finishes (st (InHead k m s before ns) e K) h = finish_content k h.0 s before ns e K h.1 h.2
+  finishes (st (Behind k s before ns) e K) h = finish_content k h.0 s before ns e K h.1 h.2
   finishes (st Optional e K) h = finish_optional e K h.0 h.1
   finishes (st Choosing e K) h = (hands K h.1).supplying (variable_supplied K h.0) e (leaf (label.Named (codes "color")) nowhere)
   finishes (st (Have x t) e K) h = (hands K h.1).have (expr_callable K h.0) e x t

@@ -1,13 +1,15 @@
 -- What ends a text leads the machine only to where it has the whole text.
 use Rattle.std.proofs.Common.{◌≡◌, ℕ, List, ◌∷◌, subst, refl}
 use Rattle.nl_fixed.specs.declared.span.Span.{Span}
-use Rattle.nl_tree.specs.Tree.{Node, node}
+use Rattle.nl_tree.specs.declared.tree.Label.TheVariants as label
+use Rattle.nl_tree.specs.Tree.{Node, node, none}
 use Rattle.nl_tree.specs.Tokens.{end}
 use Rattle.nl_tree.specs.declared.needs.Block.TheVariants as blocks
+use Rattle.nl_tree.specs.declared.needs.Content.TheVariants as contents
 use Rattle.nl_tree.specs.Grammar.{top}
 use Rattle.nl_tree.specs.declared.needs.Ending.TheVariants.{AtBracket, AtEnd}
 use Rattle.nl_parse_grammar.specs.Machine as M
-use Rattle.nl_parse_grammar.specs.Machine.{Frame, InBinary, InWith, InNear, InOf, InCall, InLastItem, InLastBlock, InMany, InItems, InParen, InMinus, InReporter, InBracket, InList, InLet, InStatementParen, InStatements, Begin, Opening, Optional, Choosing, Have, Blocked, Shut, Listing, Stating, Naming, Ended, Over, Dead, State, st, Step, go, stop, Got, got, next, accept, settle, without_maybes, feed_paren, feed_bracket, feed_shut, feed_stating, feed_listing, feed_ended, feed_plain, feed_optional, feed_ready, feed_broken, feed}
+use Rattle.nl_parse_grammar.specs.Machine.{Frame, InBinary, InWith, InNear, InOf, InCall, InLastItem, InLastBlock, InMany, InItems, InParen, InMinus, InReporter, InNoHead, InArrowReporter, InArrowCommands, InBracket, InList, InLet, InStatementParen, InStatements, Begin, Opening, Heading, InHead, Behind, Optional, Choosing, Have, Blocked, Shut, Listing, Stating, Naming, Ended, Over, Dead, State, st, Step, go, stop, Got, got, next, accept, settle, without_maybes, feed_paren, feed_bracket, feed_no_head, feed_shut, feed_stating, feed_listing, feed_ended, feed_plain, feed_optional, feed_ready, feed_broken, feed}
 use Rattle.nl_parse_grammar.specs.declared.pending.Shape.{Shape}
 use Rattle.nl_parse_grammar.specs.declared.pending.Shape.TheVariants.{Literal, Growing, Fixed}
 
@@ -29,14 +31,20 @@ ends_bracket Literal t p e K s = tt
 ends_bracket Growing t p e K s = tt
 ends_bracket Fixed t p e K s = tt
 
+ends_no_head : (t : Node) (p : Span) (e : List (List ℕ)) (K : List Frame) (s : Span) → Ends (feed_no_head t p e K (end s))
+ends_no_head (node label.List r none) p e K s = tt
+ends_no_head t p e K s = tt
+
 ends_shut : (x : Shape) (t : Node) (e : List (List ℕ)) (K : List Frame) (s : Span) → Ends (feed_shut x t e K (end s))
 ends_shut x t e (InParen p ∷ K) s = ends_paren x t p e K s
 ends_shut x t e (InBracket p ∷ K) s = ends_bracket x t p e K s
+ends_shut x t e (InNoHead p n ∷ K) s = ends_no_head t p e K s
 ends_shut x t e K s = tt
 
 ends_stating : (e : List (List ℕ)) (K : List Frame) (s : Span) → Ends (feed_stating e K (end s))
 ends_stating e (InStatements r AtBracket before ts ∷ K) s = tt
 ends_stating e (InStatements r AtEnd before ts ∷ K) s = tt
+ends_stating e (InArrowCommands r before ns ts ∷ K) s = tt
 ends_stating e K s = tt
 
 ends_listing : (e : List (List ℕ)) (K : List Frame) (s : Span) → Ends (feed_listing e K (end s))
@@ -51,6 +59,11 @@ ends_plain : (z : State) (s : Span) → Ends (feed_plain z (end s))
 ends_plain (st Begin e K) s = tt
 ends_plain (st (Opening blocks.Commands) e K) s = tt
 ends_plain (st (Opening blocks.Reporter) e K) s = tt
+ends_plain (st (Opening (blocks.Arrow k n)) e K) s = tt
+ends_plain (st (Heading contents.Commands n r) e K) s = tt
+ends_plain (st (Heading contents.Reporter n r) e K) s = tt
+ends_plain (st (InHead k m r before ns) e K) s = tt
+ends_plain (st (Behind k r before ns) e K) s = tt
 ends_plain (st Optional e K) s = tt
 ends_plain (st Choosing e K) s = tt
 ends_plain (st (Have x t) e K) s = tt
@@ -71,6 +84,9 @@ ends_ready : (z : State) (s : Span) → Ends (feed_ready z (end s))
 ends_ready (st Optional e K) s = ends_optional e K s
 ends_ready (st Begin e K) s = ends_plain (st Begin e K) s
 ends_ready (st (Opening b) e K) s = ends_plain (st (Opening b) e K) s
+ends_ready (st (Heading k n r) e K) s = ends_plain (st (Heading k n r) e K) s
+ends_ready (st (InHead k m r before ns) e K) s = ends_plain (st (InHead k m r before ns) e K) s
+ends_ready (st (Behind k r before ns) e K) s = ends_plain (st (Behind k r before ns) e K) s
 ends_ready (st Choosing e K) s = ends_plain (st Choosing e K) s
 ends_ready (st (Have x t) e K) s = ends_plain (st (Have x t) e K) s
 ends_ready (st (Blocked b) e K) s = ends_plain (st (Blocked b) e K) s

@@ -1,24 +1,28 @@
 -- The names that a reading of the grammar knows at a token are those of the machine's state before it.
-use Rattle.std.proofs.Common.{◌≡◌, ℕ, zero, suc, ◌+◌, ◌==◌, Bool, true, false, not, ◌&&◌, ◌||◌, List, [], ◌∷◌, length, refl, sym, ◌∙◌, ap, subst, IsTrue, nat_lt, nat_le, ◌≤◌, arith, bytes_eq}
+use Rattle.std.proofs.Common.{◌≡◌, ℕ, zero, suc, ◌+◌, ◌==◌, Bool, true, false, not, ◌&&◌, ◌||◌, List, [], ◌∷◌, ◌++◌, length, append_assoc, append-nil, refl, sym, ◌∙◌, ap, subst, IsTrue, nat_lt, nat_le, ◌≤◌, arith, bytes_eq}
 use Rattle.std.proofs.lemmas.Bool.{le-leb, lt-leb, lt-ltb, ltb-true, ltb-false, eq-eqb, ne_eqb, and_from, or_left, or_right}
 use Rattle.nl_fixed.specs.declared.span.Span.{Span}
 use Rattle.nl_tree.specs.declared.tree.Label.{Label}
 use Rattle.nl_tree.specs.declared.tree.Label.TheVariants as label
 use Rattle.nl_tree.specs.Tree.{Node, node, Nodes, none, more}
 use Rattle.nl_tree.specs.Vocabulary.{among}
-use Rattle.nl_tree.specs.Tokens.{Unknown, Constant, Plain, Named, Prefix, Many, Closing, Command, Let, With, Near, Of, Binary, Tok, number, text, word, open_bracket, close_bracket, open_paren, close_paren}
+use Rattle.nl_tree.specs.Tokens.{Unknown, Constant, Plain, Named, Prefix, Many, Closing, Command, Let, With, Near, Of, Binary, Arrow, Tok, number, text, word, open_bracket, close_bracket, open_paren, close_paren}
 use Rattle.nl_tree.specs.declared.needs.Block.TheVariants as blocks
+use Rattle.nl_tree.specs.declared.needs.Content.{Content}
+use Rattle.nl_tree.specs.declared.needs.Content.TheVariants as contents
 use Rattle.nl_tree.specs.declared.needs.Need.{Need}
 use Rattle.nl_tree.specs.declared.needs.Need.TheVariants.{Item, Whole, Within, Maybe, Variable}
-use Rattle.nl_tree.specs.Grammar.{one, two, leaf, join, and_last, opens, top, Part, Closed, Chain, Sides, Call, LastCall, Items, AnyItems, Level, Literals, Arg, Args, Statement, Statements, Reads, closed_number, closed_text, closed_constant, closed_plain, closed_variable, closed_local, closed_list, closed_block, paren, paren_many, paren_minus, chain_closed, chain_with, chain_near, one_side, more_sides, call_prefix, call_many, one_item, more_items, no_item, any_item, last_call, more_last, item_chain, item_call, item_near, item_of, level_up, level_binary, literal_end, literal_number, literal_text, literal_constant, literal_list, arg_item, arg_whole, arg_commands, arg_reporter, arg_variable, arg_local, no_arg, arg, maybe_there, maybe_missing, command, make, statement_paren, at_bracket, at_end, statements, knows}
+use Rattle.nl_tree.specs.Grammar.{one, two, leaf, join, and_last, opens, top, Part, Closed, Chain, Sides, Call, LastCall, Items, AnyItems, Level, Literals, Arg, Args, Head, HeadNames, Statement, Statements, Reads, closed_number, closed_text, closed_constant, closed_plain, closed_variable, closed_local, closed_list, closed_block, paren, paren_many, paren_minus, chain_closed, chain_with, chain_near, one_side, more_sides, call_prefix, call_many, one_item, more_items, no_item, any_item, last_call, more_last, item_chain, item_call, item_near, item_of, level_up, level_binary, literal_end, literal_number, literal_text, literal_constant, literal_list, arg_item, arg_whole, arg_commands, arg_reporter, arg_arrow_commands, arg_arrow_reporter, arg_variable, arg_local, no_head, head_arrow, head_name, head_names, names_end, next_name, no_arg, arg, maybe_there, maybe_missing, command, make, statement_paren, at_bracket, at_end, statements, knows}
 use Rattle.nl_tree.specs.declared.needs.Ending.{Ending}
-use Rattle.nl_parse_grammar.specs.Machine.{Frame, InBinary, InWith, InNear, InOf, InCall, InLastItem, InLastBlock, InMany, InItems, InParen, InMinus, InReporter, InBracket, InList, InLet, InStatementParen, InStatements, Begin, Opening, Optional, Choosing, Have, Blocked, Shut, Listing, Stating, Naming, State, st, Step, go, stop, Got, got, end_statement, next, closed, supply, accept, end_list, closes, settle, feed_local, begin_bracket, feed_variable, feed_fresh, feed_plain, without_maybes, feed_ready, feed_broken, feed_operator, feed_binary, feed}
+use Rattle.nl_tree.specs.declared.needs.Ending.TheVariants.{AtBracket, AtEnd}
+use Rattle.nl_parse_grammar.specs.Machine.{Frame, InBinary, InWith, InNear, InOf, InCall, InLastItem, InLastBlock, InMany, InItems, InParen, InMinus, InReporter, InNoHead, InArrowReporter, InArrowCommands, InBracket, InList, InLet, InStatementParen, InStatements, Begin, Opening, Heading, InHead, Behind, Optional, Choosing, Have, Blocked, Shut, Listing, Stating, Naming, Over, State, st, Step, go, stop, Got, got, end_statement, next, closed, supply, accept, end_list, closes, settle, begin_content, feed_local, begin_bracket, feed_variable, feed_fresh, feed_plain, without_maybes, feed_ready, feed_broken, feed_operator, feed_binary, feed}
 use Rattle.nl_parse_grammar.specs.declared.pending.Last.{Last}
 use Rattle.nl_parse_grammar.specs.declared.pending.Last.TheVariants as lasts
 use Rattle.nl_parse_grammar.specs.declared.pending.Shape.{Shape}
 use Rattle.nl_parse_grammar.specs.declared.pending.Shape.TheVariants.{Literal, Growing, Fixed}
 use Rattle.nl_parse_grammar.specs.Fault.{known_got}
-use Rattle.nl_parse_grammar.proofs.Complete.{breaks, Breaking, heads, first, join_none, join_last, Stays, NoList, TakesCall, TakesStatement, end_statements, ready, settle_on, settle_stop, settle_got, settle_more, stays_settle, stays_down, stays_binary, takes, end_list_closed, closed_have, stays_no_list, stays_takes_call, begin_bracket_open, begin_many_next, begin_call_next, grow_paren, missing_at, stating, no_maybe}
+use Rattle.nl_parse_grammar.proofs.Complete.{breaks, Breaking, heads, first, join_none, join_last, Stays, NoList, TakesCall, TakesStatement, ready, settle_on, settle_stop, settle_got, settle_more, stays_settle, stays_down, stays_binary, takes, end_list_closed, closed_have, stays_no_list, stays_takes_call, begin_bracket_open, begin_many_next, begin_call_next, grow_paren, missing_at, stating, no_maybe}
+use Rattle.nl_parse_grammar.proofs.Heads.{Starts, starts, begins_content, states_content, lone_name, first_name, next_one, shut_no_head}
 use Rattle.nl_tree.proofs.Suffix.{Suffix, same, longer, beyond, shorter, suffix}
 
 -- Names at a token.
@@ -35,11 +39,11 @@ abbrev pub names_at : State → Tok → List (List ℕ)
 names_at (st (Have x t) e K) tok = chain_names (breaks tok) e (settle top x t K)
 names_at (st m e K) tok = e
 
-names_end : (t : Node) (e : List (List ℕ)) (K : List Frame) (tok : Tok) → names_at (end_statement t e K) tok ≡ e
-names_end t e [] tok = refl
-names_end t e (InStatements s k before ts ∷ K) tok = refl
-names_end t e (InStatementParen s ∷ K) tok = refl
-names_end t e (f ∷ K) tok = refl
+names_ended : (t : Node) (e : List (List ℕ)) (K : List Frame) (tok : Tok) → names_at (end_statement t e K) tok ≡ e
+names_ended t e [] tok = refl
+names_ended t e (InStatements s k before ts ∷ K) tok = refl
+names_ended t e (InStatementParen s ∷ K) tok = refl
+names_ended t e (f ∷ K) tok = refl
 
 names_next : (w : List ℕ) (s : Span) (had : Nodes) (is : List Need) (last : Last) (e : List (List ℕ)) (K : List Frame) (tok : Tok) → names_at (next w s had is last e K) tok ≡ e
 names_next w s had (Item ∷ is) last e K tok = refl
@@ -49,7 +53,7 @@ names_next w s had (Maybe ∷ is) last e K tok = refl
 names_next w s had (Variable ∷ is) last e K tok = refl
 names_next w s had [] lasts.Item e K tok = refl
 names_next w s had [] (lasts.Block b) e K tok = refl
-names_next w s had [] lasts.Nothing e K tok = names_end (node (label.Named w) s had) e K tok
+names_next w s had [] lasts.Nothing e K tok = names_ended (node (label.Named w) s had) e K tok
 
 names_accept : (x : Shape) (t : Node) (e : List (List ℕ)) (K : List Frame) (tok : Tok) → names_at (accept x t e K) tok ≡ known_got e (got x t K)
 names_accept x t e [] tok = refl
@@ -57,7 +61,7 @@ names_accept x t e (InCall w s ts i is last ∷ K) tok = names_next w s (and_las
 names_accept x t e (InMany w s ts zero ∷ K) tok = refl
 names_accept x t e (InMany w s ts (suc n) ∷ K) tok = refl
 names_accept x t e (InItems p l s ts ∷ K) tok = refl
-names_accept x t e (InLet w s n r ∷ K) tok = names_end (node (label.Named w) s (two (leaf (label.Named n) r) t)) (n ∷ e) K tok
+names_accept x t e (InLet w s n r ∷ K) tok = names_ended (node (label.Named w) s (two (leaf (label.Named n) r) t)) (n ∷ e) K tok
 names_accept x t e (f ∷ K) tok = refl
 
 pub or_false : (x : Bool) → (x || false) ≡ x
@@ -206,6 +210,17 @@ module _ (n : List ℕ) (left : ℕ) where
       either false y h = h
   still_known (statement_paren d) h = still_known d h
 
+  -- and the names of a head with what is known before it
+  names_known : {m : ℕ} {ns f e : List (List ℕ)} {a c : List Tok} {ts : Nodes} → Reads (HeadNames m ns f) e a c ts → among n e ≡ true → among n f ≡ true
+  names_known names_end h = h
+  names_known {e = e} (next_name {w = w} m d) h = names_known d (or_right (bytes_eq w n) (among n e) h)
+
+  head_known : {m : ℕ} {ns f e : List (List ℕ)} {a c : List Tok} {ts : Nodes} → Reads (Head m ns f) e a c ts → among n e ≡ true → among n f ≡ true
+  head_known no_head h = h
+  head_known head_arrow h = h
+  head_known {e = e} (head_name {w = w} m) h = or_right (bytes_eq w n) (among n e) h
+  head_known (head_names d) h = names_known d h
+
   lies_split : (A B C : Bool) → (C && not A) ≡ true → (B && not A) ≡ false → (C && not B) ≡ true
   lies_split true B true h k = cc
   lies_split true B false h k = cc
@@ -249,6 +264,15 @@ module _ (n : List ℕ) (left : ℕ) where
       at true q i = or_left (inner || knows n left d) (knows n left f) (or_left inner (knows n left d) (and_from _ _ (sym (lies_is a b) ∙ q) g))
       at false q i = or_right (inner || knows n left d) (knows n left f) (i (lies_split n left (past' a) (past' b) (past' c) h q))
 
+  -- and in the brackets of a head
+  names_inside : {m : ℕ} {ns f e : List (List ℕ)} {a c : List Tok} {ts : Nodes} (d : Reads (HeadNames m ns f) e a c ts) → lies n left a c ≡ true → among n e ≡ true → knows n left d ≡ true
+  names_inside (names_end {c = c}) h g = and_from _ _ (sym (here (length c) left) ∙ h) g
+  names_inside {e = e} {a = a} {c = c} (next_name {w = w} {s = r} {b = b} m d) h g = at (lies n left a b) refl (λ k. names_inside d k (or_right (bytes_eq w n) (among n e) g))
+    where
+      at : (x : Bool) → lies n left a b ≡ x → (lies n left b c ≡ true → knows n left d ≡ true) → knows n left (next_name {s = r} m d) ≡ true
+      at true q i = or_left ((left == length b + 1) && among n e) (knows n left d) (and_from _ _ (sym (here (length b) left) ∙ q) g)
+      at false q i = or_right ((left == length b + 1) && among n e) (knows n left d) (i (lies_split n left (past' a) (past' b) (past' c) h q))
+
 -- What the machine sees over a reading is what the reading knows.
 
 beside : (x y z : Bool) → (x || (y || z)) ≡ ((x || y) || z)
@@ -281,6 +305,45 @@ parens false false true false true false Z f g h = refl
 parens false false true false false k Z f g h = refl
 parens false false false E F k Z f g h = refl
 
+-- an expression behind what is before `B`, where `F` is known
+widen : (A B C E F k l Z : Bool) → (A ≡ true → B ≡ true) → (B ≡ true → C ≡ true) → (E ≡ true → F ≡ true) → ((((B && not A) && E) || k) || ((((C && not B) && F) || l) || Z)) ≡ ((((C && not A) && E) || ((k || ((C && not B) && F)) || l)) || Z)
+widen true false C E F k l Z f g h = cc (f refl)
+widen A true false E F k l Z f g h = cc (g refl)
+widen true true true E F true l Z f g h = refl
+widen true true true E F false l Z f g h = refl
+widen false true true true F k l Z f g h = refl
+widen false true true false F true l Z f g h = refl
+widen false true true false F false l Z f g h = refl
+widen false false false E F true l Z f g h = refl
+widen false false false E F false l Z f g h = refl
+widen false false true true F true l Z f g h = refl
+widen false false true false F true l Z f g h = refl
+widen false false true true true false l Z f g h = refl
+widen false false true true false false l Z f g h = cc (h refl)
+widen false false true false true false l Z f g h = refl
+widen false false true false false false l Z f g h = refl
+
+-- and statements
+widen_block : (A B C E k l Z : Bool) → (A ≡ true → B ≡ true) → (B ≡ true → C ≡ true) → ((C && not B) ≡ true → E ≡ true → l ≡ true) → ((((B && not A) && E) || k) || (l || Z)) ≡ ((((C && not A) && E) || (k || l)) || Z)
+widen_block true false C E k l Z f g h = cc (f refl)
+widen_block A true false E k l Z f g h = cc (g refl)
+widen_block true true true E true l Z f g h = refl
+widen_block true true true E false l Z f g h = refl
+widen_block false true true true k l Z f g h = refl
+widen_block false true true false true l Z f g h = refl
+widen_block false true true false false l Z f g h = refl
+widen_block false false false E true l Z f g h = refl
+widen_block false false false E false l Z f g h = refl
+widen_block false false true true true l Z f g h = refl
+widen_block false false true false true l Z f g h = refl
+widen_block false false true true false true Z f g h = refl
+widen_block false false true true false false Z f g h = cc (h refl refl)
+widen_block false false true false false l Z f g h = refl
+
+-- the state after the statements of an arrow block and its bracket
+abbrev end_commands : Span → Nodes → List (List ℕ) → List (List ℕ) → List Frame → State
+end_commands s ts before ns K = supply (node (label.Arrow ns) s (one (node label.Commands s ts))) before K
+
 module _ (n : List ℕ) (left : ℕ) where
   abbrev pub Looks : {p : Part} {e : List (List ℕ)} {a c : List Tok} {ts : Nodes} → Reads p e a c ts → Type 0
   Looks {p = Closed} {e = e} {a = a} {c = c} {ts = ts} d = (K : List Frame) → NoList K → (x : Shape) × Shows n left e a c (knows n left d) (sees n left (st Begin e K) a) (sees n left (closed x (first ts) e K) c)
@@ -301,8 +364,60 @@ module _ (n : List ℕ) (left : ℕ) where
   Looks {p = Arg Maybe} d = Unit {0}
   Looks {p = Arg i} {e = e} {a = a} {c = c} {ts = ts} d = (w : List ℕ) (s : Span) (had : Nodes) (is : List Need) (last : Last) (K : List Frame) → Breaking c → Shows n left e a c (knows n left d) (sees n left (st Begin e (InCall w s had i is last ∷ K)) a) (sees n left (next w s (and_last had (first ts)) is last e K) c)
   Looks {p = Args is} {e = e} {a = a} {c = c} {ts = ts} d = (w : List ℕ) (s : Span) (had : Nodes) (last : Last) (K : List Frame) → Breaking c → Shows n left e a c (knows n left d) (sees n left (next w s had is last e K) a) (sees n left (next w s (join had ts) [] last e K) c)
+  Looks {p = Head m ns f} d = Unit {0}
+  Looks {p = HeadNames m ns f} {e = e} {a = a} {c = c} d = (k : Content) (s : Span) (before had : List (List ℕ)) (K : List Frame) → sees n left (st (InHead k m s before had) e K) a ≡ (knows n left d || sees n left (st (Behind k s before (had ++ ns)) f K) c)
   Looks {p = Statement f} {e = e} {a = a} {c = c} {ts = ts} d = (K : List Frame) → TakesStatement K → Breaking c → Shows n left e a c (knows n left d) (sees n left (st Stating e K) a) (sees n left (end_statement (first ts) f K) c)
-  Looks {p = Statements k} {e = e} {a = a} {c = c} {ts = ts} d = (s : Span) (before : List (List ℕ)) (had : Nodes) (K : List Frame) → sees n left (st Stating e (InStatements s k before had ∷ K)) a ≡ (knows n left d || sees n left (end_statements k s (join had ts) before K) c)
+  Looks {p = Statements AtBracket} {e = e} {a = a} {c = c} {ts = ts} d =
+      ((s : Span) (before : List (List ℕ)) (had : Nodes) (K : List Frame) → sees n left (st Stating e (InStatements s AtBracket before had ∷ K)) a ≡ (knows n left d || sees n left (supply (node label.Commands s (join had ts)) before K) c))
+      × ((s : Span) (before ns : List (List ℕ)) (had : Nodes) (K : List Frame) → sees n left (st Stating e (InArrowCommands s before ns had ∷ K)) a ≡ (knows n left d || sees n left (end_commands s (join had ts) before ns K) c))
+  Looks {p = Statements AtEnd} {e = e} {a = a} {c = c} {ts = ts} d = (s : Span) (before : List (List ℕ)) (had : Nodes) (K : List Frame) → sees n left (st Stating e (InStatements s AtEnd before had ∷ K)) a ≡ (knows n left d || sees n left (st (Over (node label.Commands s (join had ts))) before K) c)
+
+  -- one more statement
+  stated_more : {k : Ending} {e f : List (List ℕ)} {a b c : List Tok} {t : Node} {ts : Nodes} {X Y : Bool} (Z : Bool) (d : Reads (Statement f) e a b (one t)) (g : Reads (Statements k) f b c ts) → Shows n left e a b (knows n left d) X Y → Y ≡ (knows n left g || Z) → X ≡ (knows n left (statements d g) || Z)
+  stated_more {e = e} {a = a} {b = b} Z d g p q =
+      p.is
+      ∙ ap (λ y. ((lies n left a b && among n e) || knows n left d) || y) q
+      ∙ beside ((lies n left a b && among n e) || knows n left d) (knows n left g) Z
+      ∙ ap (λ y. (((y && among n e) || knows n left d) || knows n left g) || Z) (lies_is n left a b)
+
+  -- the arrow of a head, where its names are known
+  arrow_after : {e : List (List ℕ)} (f : List (List ℕ)) {a c : List Tok} {w : List ℕ} {r : Span} {k X Y Z : Bool} → Suffix (word w Arrow r ∷ c) a → (among n e ≡ true → among n f ≡ true) → Shows n left e a (word w Arrow r ∷ c) k X Y → Y ≡ ((lies n left (word w Arrow r ∷ c) c && among n f) || Z) → Shows n left e a c (((left == length c + 1) && among n f) || k) X Z
+  arrow_after {e} f {a} {c} {w} {r} {k} {Z = Z} t g p q = record {
+    is =
+        p.is
+        ∙ ap (λ y. ((lies n left a (word w Arrow r ∷ c) && among n e) || k) || y) q
+        ∙ parens (past n left a) (past n left (word w Arrow r ∷ c)) (past n left c) (among n e) (among n f) k Z (past_rest n left t) (past_rest n left (longer {t = word w Arrow r} same)) g
+        ∙ ap (λ y. ((lies n left a c && among n e) || ((y && among n f) || k)) || Z) (here (length c) left);
+  }
+
+  -- names in brackets, and the arrow
+  bracketed : {e f ns : List (List ℕ)} {m : ℕ} {b c : List Tok} {w : List ℕ} {q r : Span} {X Y Z : Bool} (d : Reads (HeadNames m ns f) e b (word w Arrow r ∷ c) none) → X ≡ ((lies n left (open_bracket q ∷ b) b && among n e) || Y) → Y ≡ (knows n left d || ((lies n left (word w Arrow r ∷ c) c && among n f) || Z)) → Shows n left e (open_bracket q ∷ b) c (knows n left (head_names {s = q} d)) X Z
+  bracketed {e} {f} {b = b} {c = c} {w = w} {q = q} {r = r} {Z = Z} d x y =
+      let Y' = (lies n left (word w Arrow r ∷ c) c && among n f) || Z in
+      arrow_after f {Y = Y'} (longer (suffix d)) (names_known n left d) (record {
+        is =
+            x
+            ∙ ap (λ v. (lies n left (open_bracket q ∷ b) b && among n e) || v) y
+            ∙ block (past n left (open_bracket q ∷ b)) (past n left b) (past n left (word w Arrow r ∷ c)) (among n e) (knows n left d) Y' (past_rest n left (longer {t = open_bracket q} same)) (past_rest n left (suffix d)) (names_inside n left d);
+      }) refl
+
+  -- the content of an arrow block behind its head, or behind its bracket
+  expressed : {e f : List (List ℕ)} {a b c : List Tok} {k l X Y Z : Bool} → Suffix b a → Suffix c b → (among n e ≡ true → among n f ≡ true) → Shows n left e a b k X Y → Shows n left f b c l Y Z → Shows n left e a c ((k || ((nat_lt (length c) left && nat_le left (length b)) && among n f)) || l) X Z
+  expressed {e} {f} {a} {b} {c} {k} {l} {Z = Z} r t g p q = record {
+    is =
+        p.is
+        ∙ ap (λ y. ((lies n left a b && among n e) || k) || y) q.is
+        ∙ widen (past n left a) (past n left b) (past n left c) (among n e) (among n f) k l Z (past_rest n left r) (past_rest n left t) g
+        ∙ ap (λ y. ((lies n left a c && among n e) || ((k || (y && among n f)) || l)) || Z) (lies_is n left b c);
+  }
+
+  commanded : {e f : List (List ℕ)} {a b c : List Tok} {ts : Nodes} {k X Y Z : Bool} (d : Reads (Statements AtBracket) f b c ts) → Suffix b a → (among n e ≡ true → among n f ≡ true) → Shows n left e a b k X Y → Y ≡ (knows n left d || Z) → Shows n left e a c (k || knows n left d) X Z
+  commanded {e} {f} {a} {b} {c} {k = k} {Z = Z} d r g p q = record {
+    is =
+        p.is
+        ∙ ap (λ y. ((lies n left a b && among n e) || k) || y) q
+        ∙ widen_block (past n left a) (past n left b) (past n left c) (among n e) k (knows n left d) Z (past_rest n left r) (past_rest n left (suffix d)) (λ h i. inside_known n left d h (g i));
+  }
 
   many_step : (m : ℕ) (w : List ℕ) (s : Span) (had : Nodes) (p : Span) (K : List Frame) (q : Span) (z : List Tok) (e : List (List ℕ)) (a b c : List Tok) (t : Node) (us : Nodes) (f : Reads AnyItems e b c us) → Suffix b a → Breaking b → c ≡ close_paren q ∷ z → (known : Bool) → ((K : List Frame) → Stays zero K → Arrives n left zero e K K t a b known) → Looks f → Shows n left e a z (known || knows n left f) (sees n left (st Begin e (InMany w s had m ∷ InParen p ∷ K)) a) (sees n left (closed Fixed (node label.Paren p (one (node (label.Named w) s (join had (more t us))))) e K) z)
   many_step (suc m) w s had p K q z e a b c t us f r h eq known g k =
@@ -320,6 +435,50 @@ module _ (n : List ℕ) (left : ℕ) where
       let end : Suffix z c = subst (λ x. Suffix z x) (sym eq) (longer same) in
       alike n left (then n left r (beyond (suffix f) end) grown (ends n left (suffix f) end rest last))
       (ap (λ ts. sees n left (closed Fixed (node label.Paren p (one (node (label.Named w) s ts))) e K) z) (join_last had t us))
+
+  -- the step from the bracket of an arrow block to its head
+  opened : (k : Content) (m : ℕ) (s : Span) (e : List (List ℕ)) (K : List Frame) (b : List Tok) → Shows n left e (open_bracket s ∷ b) b false (sees n left (st (Opening (blocks.Arrow k m)) e K) (open_bracket s ∷ b)) (sees n left (st (Heading k m s) e K) b)
+  opened k m s e K b = token n left (st (Opening (blocks.Arrow k m)) e K) (open_bracket s) b refl
+
+  -- where there is no head
+  headless : (m : ℕ) (s : Span) (e : List (List ℕ)) (K : List Frame) (b : List Tok) → Starts e b → sees n left (st (Heading contents.Reporter m s) e K) b ≡ sees n left (st Begin e (InNoHead s m ∷ K)) b
+  headless m s e K [] h = absurd h
+  headless m s e K (tok ∷ b) h = ap (λ x. (lies n left (tok ∷ b) b && among n e) || sees_from n left x b) (begins_content m s e K tok b h)
+
+  headless_block : (m : ℕ) (s : Span) (K : List Frame) {e : List (List ℕ)} {b c : List Tok} {ts : Nodes} → Reads (Statements AtBracket) e b c ts → sees n left (st (Heading contents.Commands m s) e K) b ≡ sees n left (st Stating e (InArrowCommands s e [] none ∷ K)) b
+  headless_block m s K {b = []} d = refl
+  headless_block m s K {e} {b = tok ∷ b} d = ap (λ x. (lies n left (tok ∷ b) b && among n e) || sees_from n left x b) (states_content m s K d)
+
+  -- a head, up to the content
+  abbrev Headed : Content → {m : ℕ} {ns f e : List (List ℕ)} {a c : List Tok} → Reads (Head m ns f) e a c none → Type 0
+  Headed k {m} {ns} {f} {e} {a} {c} d = (s : Span) (K : List Frame) → Shows n left e a c (knows n left d) (sees n left (st (Heading k m s) e K) a) (sees n left (begin_content k s e ns f K) c)
+
+  headed_arrow : (k : Content) (m : ℕ) {e : List (List ℕ)} {w : List ℕ} {r : Span} {c : List Tok} → Headed k (head_arrow {e = e} {n = m} {w = w} {s = r} {c = c})
+  headed_arrow contents.Commands m {e} {w} {r} {c} = λ s K. token n left (st (Heading contents.Commands m s) e K) (word w Arrow r) c refl
+  headed_arrow contents.Reporter m {e} {w} {r} {c} = λ s K. token n left (st (Heading contents.Reporter m s) e K) (word w Arrow r) c refl
+
+  headed_name : (k : Content) (m : ℕ) {e : List (List ℕ)} {w v : List ℕ} {q r : Span} {c : List Tok} (h : IsTrue (not (among w e))) → Headed k {e = e} (head_name {n = m} {w = w} {v = v} {s = q} {r = r} {c = c} h)
+  headed_name k m {e} {w} {v} {q} {r} {c} h = λ s K.
+      let first = alike n left (token n left (st (Heading k (suc m) s) e K) (word w Unknown q) (word v Arrow r ∷ c) refl) (ap (λ x. sees_from n left x (word v Arrow r ∷ c)) (lone_name k m s w q e K h)) in
+      subst (λ y. Shows n left e (word w Unknown q ∷ word v Arrow r ∷ c) c y (sees n left (st (Heading k (suc m) s) e K) (word w Unknown q ∷ word v Arrow r ∷ c)) (sees n left (begin_content k s e (w ∷ []) (w ∷ e) K) c)) (or_false ((left == length c + 1) && among n (w ∷ e))) (arrow_after (w ∷ e) (longer same) (or_right (bytes_eq w n) (among n e)) first refl)
+
+  -- in a reporter's block the bracket of an expression becomes that of the head
+  into_head : (s q : Span) (K : List Frame) {m : ℕ} {ns f e : List (List ℕ)} {b c : List Tok} {w : List ℕ} {r : Span} → Reads (HeadNames m ns f) e b (word w Arrow r ∷ c) none → sees n left (st Begin e (InBracket q ∷ InNoHead s m ∷ K)) b ≡ sees n left (st (InHead contents.Reporter m s e []) e K) b
+  into_head s q K names_end = refl
+  into_head s q K {e = e} (next_name {n = m} {w = w} {s = r} {b = b} h d) = ap (λ x. (lies n left (word w Unknown r ∷ b) b && among n e) || sees_from n left x b) (first_name m s q w r e K h ∙ sym (next_one contents.Reporter m s e [] w r e K h))
+
+  headed_names : (k : Content) {m : ℕ} {ns f e : List (List ℕ)} {b c : List Tok} {w : List ℕ} {q r : Span} (d : Reads (HeadNames m ns f) e b (word w Arrow r ∷ c) none) → Looks d → Headed k (head_names {s = q} d)
+  headed_names contents.Commands {e = e} d l = λ s K. bracketed d refl (l contents.Commands s e [] K)
+  headed_names contents.Reporter {e = e} {q = q} d l = λ s K. bracketed d refl (into_head s q K d ∙ l contents.Reporter s e [] K)
+
+  -- an arrow block with a head
+  commands_block : {m : ℕ} {ns f e : List (List ℕ)} {s : Span} {b c z : List Tok} {ts : Nodes} (h : Reads (Head m ns f) e b c none) → Headed contents.Commands h → (d : Reads (Statements AtBracket) f c z ts) → Looks d → Looks (arg_arrow_commands {s = s} h d)
+  commands_block {m} {ns} {e = e} {s = s} {b = b} h g d l = λ K. commanded d (longer (suffix h)) (head_known n left h) (chain n left (longer same) (suffix h) (opened contents.Commands m s e K b) (g s K)) (l.1 s e ns none K)
+
+  reporter_block : {m : ℕ} {ns f e : List (List ℕ)} {s r : Span} {b c z : List Tok} {t : Node} (h : Reads (Head m ns f) e b c none) → Headed contents.Reporter h → (d : Reads (Level top) f c (close_bracket r ∷ z) (one t)) → Looks d → Looks (arg_arrow_reporter {s = s} {r = r} {t = t} h d)
+  reporter_block {m} {ns} {f} {e} {s} {r} {b} {c} {z} {t} h g d l = λ K.
+      let x = ended n left top t f K c (close_bracket r ∷ z) (InArrowReporter s e ns) (knows n left d) (omega arith) (λ l. refl) refl (l (InArrowReporter s e ns ∷ K) (omega arith) (refl, refl)) in
+      expressed (longer (suffix h)) (beyond (suffix d) (longer same)) (head_known n left h) (chain n left (longer same) (suffix h) (opened contents.Reporter m s e K b) (g s K)) (ends n left (suffix d) (longer same) x.1 (token n left (st (Shut x.0 t) f (InArrowReporter s e ns ∷ K)) (close_bracket r) z refl))
 
   pub looks : {p : Part} {e : List (List ℕ)} {a c : List Tok} {ts : Nodes} (d : Reads p e a c ts) → Looks d
   looks {e = e} {c = c} (closed_number {n = v} {s = s}) = λ K g. (Literal, token n left (st Begin e K) (number v s) c refl)
@@ -422,12 +581,34 @@ module _ (n : List ℕ) (left : ℕ) where
   )
   looks {e = e} {a = a} {c = c} (arg_item {t = t} d) = λ w s ts is last K b. (ended n left zero t e K a c (InCall w s ts Item is last) (knows n left d) (omega arith) (λ m. refl) b (looks d (InCall w s ts Item is last ∷ K) (omega arith) tt)).1
   looks {e = e} {a = a} {c = c} (arg_whole {t = t} d) = λ w s ts is last K b. (ended n left top t e K a c (InCall w s ts Whole is last) (knows n left d) (omega arith) (λ m. refl) b (looks d (InCall w s ts Whole is last ∷ K) (omega arith) (refl, refl))).1
-  looks {e = e} {c = c} (arg_commands {s = s} {b = b} {ts = ts} d) = λ K. record { is = ap (λ y. (lies n left (open_bracket s ∷ b) b && among n e) || y) (looks d s e none K) ∙ block (past n left (open_bracket s ∷ b)) (past n left b) (past n left c) (among n e) (knows n left d) (sees n left (supply (node label.Commands s ts) e K) c) (past_rest n left (longer {t = open_bracket s} same)) (past_rest n left (suffix d)) (inside_known n left d) }
+  looks {e = e} {c = c} (arg_commands {s = s} {b = b} {ts = ts} d) = λ K. record { is = ap (λ y. (lies n left (open_bracket s ∷ b) b && among n e) || y) ((looks d).0 s e none K) ∙ block (past n left (open_bracket s ∷ b)) (past n left b) (past n left c) (among n e) (knows n left d) (sees n left (supply (node label.Commands s ts) e K) c) (past_rest n left (longer {t = open_bracket s} same)) (past_rest n left (suffix d)) (inside_known n left d) }
   looks {e = e} (arg_reporter {s = s} {r = r} {b = b} {c = c} {t = t} d) = λ K.
       let m = ended n left top t e K b (close_bracket r ∷ c) (InReporter s) (knows n left d) (omega arith) (λ m. refl) refl (looks d (InReporter s ∷ K) (omega arith) (refl, refl)) in
       chain n left (longer same) (beyond (suffix d) (longer same)) (token n left (st (Opening blocks.Reporter) e K) (open_bracket s) b refl) (ends n left (suffix d) (longer same) m.1 (token n left (st (Shut m.0 t) e (InReporter s ∷ K)) (close_bracket r) c refl))
+  looks {e = e} (arg_arrow_commands {n = m} {s = s} {b = b} no_head d) = λ K. commanded d (longer same) (λ h. h) (alike n left (opened contents.Commands m s e K b) (headless_block m s K d)) ((looks d).1 s e [] none K)
+  looks (arg_arrow_commands {n = m} (head_arrow {w = w} {s = r}) d) = commands_block {m = m} (head_arrow {w = w} {s = r}) (headed_arrow contents.Commands m) d (looks d)
+  looks (arg_arrow_commands (head_name {n = m} {w = w} {v = v} {s = q} {r = r} h) d) = commands_block (head_name {w = w} {v = v} {s = q} {r = r} h) (headed_name contents.Commands m h) d (looks d)
+  looks (arg_arrow_commands (head_names {s = q} h) d) = commands_block (head_names {s = q} h) (headed_names contents.Commands h (looks h)) d (looks d)
+  looks {e = e} (arg_arrow_reporter {n = m} {s = s} {r = r} {b = b} {d = z} {t = t} no_head d) = λ K.
+      let x = ended n left top t e K b (close_bracket r ∷ z) (InNoHead s m) (knows n left d) (omega arith) (λ l. refl) refl (looks d (InNoHead s m ∷ K) (omega arith) (refl, refl)) in
+      expressed (longer same) (beyond (suffix d) (longer same)) (λ h. h) (alike n left (opened contents.Reporter m s e K b) (headless m s e K b (starts d)))
+      (ends n left (suffix d) (longer same) x.1 (alike n left (token n left (st (Shut x.0 t) e (InNoHead s m ∷ K)) (close_bracket r) z refl) (ap (λ y. sees_from n left y z) (shut_no_head t s e K r))))
+  looks (arg_arrow_reporter {n = m} {s = s} (head_arrow {w = w} {s = r}) d) = reporter_block {m = m} (head_arrow {w = w} {s = r}) (headed_arrow contents.Reporter m) d (looks d)
+  looks (arg_arrow_reporter (head_name {n = m} {w = w} {v = v} {s = q} {r = r} h) d) = reporter_block (head_name {w = w} {v = v} {s = q} {r = r} h) (headed_name contents.Reporter m h) d (looks d)
+  looks (arg_arrow_reporter (head_names {s = q} h) d) = reporter_block (head_names {s = q} h) (headed_names contents.Reporter h (looks h)) d (looks d)
   looks {e = e} {c = c} (arg_variable {w = w} {s = s}) = λ K. token n left (st Choosing e K) (word w Named s) c refl
   looks {e = e} {c = c} (arg_local {w = w} {s = s} m) = λ K. alike n left (token n left (st Choosing e K) (word w Unknown s) c refl) (ap (λ x. sees_from n left (feed_variable x w s e K) c) m)
+  looks no_head = tt
+  looks head_arrow = tt
+  looks (head_name h) = tt
+  looks (head_names d) = tt
+  looks {e = e} {c = c} names_end = λ k s before had K. ap (λ y. (y && among n e) || sees n left (st (Behind k s before had) e K) c) (here (length c) left) ∙ ap (λ ns. ((left == length c + 1) && among n e) || sees n left (st (Behind k s before ns) e K) c) (sym (append-nil had))
+  looks {e = e} {c = c} (next_name {f = f} {ns = ns} {n = m} {w = w} {s = r} {b = b} h d) = λ k s before had K.
+      ap (λ x. (lies n left (word w Unknown r ∷ b) b && among n e) || sees_from n left x b) (next_one k m s before had w r e K h)
+      ∙ ap (λ y. (y && among n e) || sees n left (st (InHead k m s before (had ++ w ∷ [])) (w ∷ e) K) b) (here (length b) left)
+      ∙ ap (λ y. ((left == length b + 1) && among n e) || y) (looks d k s before (had ++ w ∷ []) K)
+      ∙ beside ((left == length b + 1) && among n e) (knows n left d) (sees n left (st (Behind k s before ((had ++ w ∷ []) ++ ns)) f K) c)
+      ∙ ap (λ all. (((left == length b + 1) && among n e) || knows n left d) || sees n left (st (Behind k s before all) f K) c) (append_assoc had (w ∷ []) ns)
   looks {e = e} {c = c} no_arg = λ w s ts last K b. idle n left (ap (λ us. sees n left (next w s us [] last e K) c) (sym (join_none ts)))
   looks {e = e} {c = c} (arg {i = Item} {is = is} {t = t} {ts = us} d f) = λ w s ts last K g. alike n left (then n left (suffix d) (suffix f) (looks d w s ts is last K (heads f g)) (looks f w s (and_last ts t) last K g)) (ap (λ us. sees n left (next w s us [] last e K) c) (join_last ts t us))
   looks {e = e} {c = c} (arg {i = Whole} {is = is} {t = t} {ts = us} d f) = λ w s ts last K g. alike n left (then n left (suffix d) (suffix f) (looks d w s ts is last K (heads f g)) (looks f w s (and_last ts t) last K g)) (ap (λ us. sees n left (next w s us [] last e K) c) (join_last ts t us))
@@ -443,11 +624,13 @@ module _ (n : List ℕ) (left : ℕ) where
   looks {e = e} (statement_paren {f = f} {s = s} {r = r} {b = b} {c = c} {t = t} d) = λ K g m.
       let p = chain n left (longer same) (suffix d) (alike n left (token n left (st Stating e K) (open_paren s) b refl) (ap (λ x. sees_from n left x b) (stating e K (open_paren s) g refl))) (looks d (InStatementParen s ∷ K) tt refl) in
       record { is = p.is ∙ parens (past n left (open_paren s ∷ b)) (past n left (close_paren r ∷ c)) (past n left c) (among n e) (among n f) (knows n left d) (sees n left (end_statement (node label.Paren s (one t)) f K) c) (past_rest n left (longer {t = open_paren s} (suffix d))) (past_rest n left (longer {t = close_paren r} same)) (still_known n left d) ∙ ap (λ y. ((lies n left (open_paren s ∷ b) c && among n e) || ((y && among n f) || knows n left d)) || sees n left (end_statement (node label.Paren s (one t)) f K) c) (here (length c) left) }
-  looks {e = e} {c = c} (at_bracket {s = q}) = λ s before ts K. ap (λ y. (y && among n e) || sees n left (supply (node label.Commands s ts) before K) c) (here (length c) left) ∙ ap (λ us. ((left == length c + 1) && among n e) || sees n left (supply (node label.Commands s us) before K) c) (sym (join_none ts))
+  looks {e = e} {c = c} (at_bracket {s = q}) = (
+    (λ s before ts K. ap (λ y. (y && among n e) || sees n left (supply (node label.Commands s ts) before K) c) (here (length c) left) ∙ ap (λ us. ((left == length c + 1) && among n e) || sees n left (supply (node label.Commands s us) before K) c) (sym (join_none ts))),
+    λ s before ns ts K. ap (λ y. (y && among n e) || sees n left (end_commands s ts before ns K) c) (here (length c) left) ∙ ap (λ us. ((left == length c + 1) && among n e) || sees n left (end_commands s us before ns K) c) (sym (join_none ts)),
+  )
   looks {e = e} (at_end {s = q}) = λ s before ts K. ap (λ y. (y && among n e) || false) (here 0 left)
-  looks {e = e} {a = a} {c = c} (statements {k = k} {b = b} {t = t} {ts = us} d f) = λ s before ts K.
-      (looks d (InStatements s k before ts ∷ K) tt (heads f)).is
-      ∙ ap (λ y. ((lies n left a b && among n e) || knows n left d) || y) (looks f s before (and_last ts t) K)
-      ∙ beside ((lies n left a b && among n e) || knows n left d) (knows n left f) (sees n left (end_statements k s (join (and_last ts t) us) before K) c)
-      ∙ ap (λ y. (((y && among n e) || knows n left d) || knows n left f) || sees n left (end_statements k s (join (and_last ts t) us) before K) c) (lies_is n left a b)
-      ∙ ap (λ us. (((((nat_lt (length b) left && nat_le left (length a)) && among n e) || knows n left d)) || knows n left f) || sees n left (end_statements k s us before K) c) (join_last ts t us)
+  looks {c = c} (statements {k = AtBracket} {t = t} {ts = us} d f) = (
+    (λ s before ts K. stated_more _ d f (looks d (InStatements s AtBracket before ts ∷ K) tt (heads f)) ((looks f).0 s before (and_last ts t) K) ∙ ap (λ vs. knows n left (statements d f) || sees n left (supply (node label.Commands s vs) before K) c) (join_last ts t us)),
+    λ s before ns ts K. stated_more _ d f (looks d (InArrowCommands s before ns ts ∷ K) tt (heads f)) ((looks f).1 s before ns (and_last ts t) K) ∙ ap (λ vs. knows n left (statements d f) || sees n left (end_commands s vs before ns K) c) (join_last ts t us),
+  )
+  looks {c = c} (statements {k = AtEnd} {t = t} {ts = us} d f) = λ s before ts K. stated_more _ d f (looks d (InStatements s AtEnd before ts ∷ K) tt (heads f)) (looks f s before (and_last ts t) K) ∙ ap (λ vs. knows n left (statements d f) || sees n left (st (Over (node label.Commands s vs)) before K) c) (join_last ts t us)

@@ -1,5 +1,5 @@
 -- What the machine takes is a reading of the grammar.
-use Rattle.std.proofs.Common.{◌≡◌, ℕ, zero, suc, Bool, true, false, not, List, [], ◌∷◌, ◌++◌, refl, sym, ap, subst, IsTrue, nat_lt, nat_le, ◌≤◌, arith}
+use Rattle.std.proofs.Common.{◌≡◌, ℕ, zero, suc, Bool, true, false, not, List, [], ◌∷◌, ◌++◌, refl, sym, ap, subst, append_assoc, append-nil, IsTrue, nat_lt, nat_le, ◌≤◌, arith}
 use Rattle.std.proofs.lemmas.Bool.{leb-true, leb-false, ltb-true}
 use Rattle.nl_fixed.specs.declared.span.Span.{Span}
 use Rattle.nl_tree.specs.declared.tree.Label.TheVariants as label
@@ -7,15 +7,17 @@ use Rattle.nl_tree.specs.declared.declared.Form.{Form}
 use Rattle.nl_tree.specs.declared.declared.Form.TheVariants as form
 use Rattle.nl_tree.specs.Tree.{Node, node, Nodes, none, more}
 use Rattle.nl_tree.specs.Vocabulary.{among}
-use Rattle.nl_tree.specs.Tokens.{Class, Unknown, Constant, Plain, Named, Prefix, Many, Closing, Command, Let, With, Near, Of, Binary, Tok, number, text, word, open_bracket, close_bracket, open_paren, close_paren, end}
+use Rattle.nl_tree.specs.Tokens.{Class, Unknown, Constant, Plain, Named, Prefix, Many, Closing, Command, Let, With, Near, Of, Binary, Arrow, Tok, number, text, word, open_bracket, close_bracket, open_paren, close_paren, end}
 use Rattle.nl_tree.specs.declared.needs.Block.{Block}
 use Rattle.nl_tree.specs.declared.needs.Block.TheVariants as blocks
+use Rattle.nl_tree.specs.declared.needs.Content.{Content}
+use Rattle.nl_tree.specs.declared.needs.Content.TheVariants as contents
 use Rattle.nl_tree.specs.declared.needs.Need.{Need}
 use Rattle.nl_tree.specs.declared.needs.Need.TheVariants.{Item, Whole, Within, Maybe, Variable}
-use Rattle.nl_tree.specs.Grammar.{one, two, leaf, join, and_last, opens, top, Part, Closed, Chain, Sides, LastCall, Items, AnyItems, Level, Literals, Arg, Args, Statement, Statements, Reads, closed_number, closed_text, closed_constant, closed_plain, closed_variable, closed_local, closed_list, closed_block, paren, paren_many, paren_minus, chain_closed, chain_with, chain_near, one_side, more_sides, call_prefix, call_many, one_item, more_items, no_item, any_item, last_call, more_last, item_chain, item_call, item_near, item_of, level_up, level_binary, literal_end, literal_number, literal_text, literal_constant, literal_list, arg_item, arg_whole, arg_commands, arg_reporter, arg_variable, arg_local, no_arg, arg, maybe_there, maybe_missing, command, make, statement_paren, at_bracket, at_end, statements, span_of_first, IsText}
+use Rattle.nl_tree.specs.Grammar.{one, two, leaf, join, and_last, opens, top, Part, Closed, Chain, Sides, LastCall, Items, AnyItems, Level, Literals, Arg, Args, Head, HeadNames, Statement, Statements, Reads, closed_number, closed_text, closed_constant, closed_plain, closed_variable, closed_local, closed_list, closed_block, paren, paren_many, paren_minus, chain_closed, chain_with, chain_near, one_side, more_sides, call_prefix, call_many, one_item, more_items, no_item, any_item, last_call, more_last, item_chain, item_call, item_near, item_of, level_up, level_binary, literal_end, literal_number, literal_text, literal_constant, literal_list, arg_item, arg_whole, arg_commands, arg_reporter, arg_arrow_commands, arg_arrow_reporter, arg_variable, arg_local, no_arg, arg, no_head, head_arrow, head_name, head_names, names_end, next_name, maybe_there, maybe_missing, command, make, statement_paren, at_bracket, at_end, statements, span_of_first, IsText}
 use Rattle.nl_tree.specs.declared.needs.Ending.{Ending}
 use Rattle.nl_tree.specs.declared.needs.Ending.TheVariants.{AtBracket, AtEnd}
-use Rattle.nl_parse_grammar.specs.Machine.{Frame, InBinary, InWith, InNear, InOf, InCall, InLastItem, InLastBlock, InMany, InItems, InParen, InMinus, InReporter, InBracket, InList, InLet, InStatementParen, InStatements, Begin, Opening, Optional, Choosing, Have, Blocked, Shut, Listing, Stating, Naming, Ended, Over, Dead, State, st, Step, go, stop, Got, got, end_statement, next, closed, supply, accept, closes, settle, takes_operator, feed_local, begin_call, begin_many, begin_minus, begin_bracket, end_bracket, end_many, feed_begin, feed_opening, feed_variable, feed_choosing, feed_blocked, feed_items, feed_listing, feed_bracket, feed_paren, feed_minus, feed_reporter, feed_whole, feed_shut, feed_ending, feed_statement, feed_stating, feed_fresh, feed_naming, feed_ended, feed_plain, without_maybes, feed_optional, feed_ready, feed_broken, feed_operator, got_takes, feed_binary, feed_of, feed_have, feed, run_from}
+use Rattle.nl_parse_grammar.specs.Machine.{Frame, InBinary, InWith, InNear, InOf, InCall, InLastItem, InLastBlock, InMany, InItems, InParen, InMinus, InReporter, InNoHead, InArrowReporter, InArrowCommands, InBracket, InList, InLet, InStatementParen, InStatements, Begin, Opening, Heading, InHead, Behind, Optional, Choosing, Have, Blocked, Shut, Listing, Stating, Naming, Ended, Over, Dead, State, st, Step, go, stop, Got, got, end_statement, next, closed, supply, accept, closes, settle, takes_operator, begin_content, feed_head_name, feed_lone_name, feed_local, begin_call, begin_many, begin_minus, begin_bracket, end_bracket, end_many, feed_begin, feed_opening, feed_variable, feed_choosing, feed_blocked, feed_items, feed_listing, feed_bracket, feed_paren, feed_minus, feed_reporter, feed_whole, feed_no_head, feed_arrow_reporter, feed_shut, feed_ending, feed_arrow_ending, feed_statement, feed_stating, feed_fresh, feed_naming, feed_ended, feed_heading_commands, feed_first, feed_heading_reporter, feed_heading, feed_in_head, feed_behind, feed_plain, without_maybes, feed_optional, feed_ready, feed_broken, feed_operator, got_takes, feed_binary, feed_of, feed_have, feed, run_from}
 use Rattle.nl_parse_grammar.specs.declared.pending.Last.{Last}
 use Rattle.nl_parse_grammar.specs.declared.pending.Last.TheVariants as lasts
 use Rattle.nl_parse_grammar.specs.declared.pending.Shape.{Shape}
@@ -37,6 +39,8 @@ Expr (InItems p l s ts ∷ K) = Unit {0}
 Expr (InParen s ∷ K) = Unit {0}
 Expr (InMinus p s ∷ K) = Unit {0}
 Expr (InReporter s ∷ K) = Unit {0}
+Expr (InNoHead s n ∷ K) = Unit {0}
+Expr (InArrowReporter s before ns ∷ K) = Unit {0}
 Expr (InBracket s ∷ K) = Unit {0}
 Expr (InLet w s n r ∷ K) = Unit {0}
 Expr K = ⊥
@@ -51,17 +55,12 @@ abbrev pub Callable : List Frame → Type 0
 Callable (InNear w s ts zero ∷ K) = Unit {0}
 Callable K = Expr K
 
-abbrev pub Same : Block → Block → Type 0
-Same blocks.Commands blocks.Commands = Unit {0}
-Same blocks.Reporter blocks.Reporter = Unit {0}
-Same a b = ⊥
-
 -- a block
 abbrev pub BlockTop : Block → List Frame → Type 0
-BlockTop b (InCall w s ts (Within k) is last ∷ K) = Same b k
-BlockTop b (InCall w s ts Maybe is last ∷ K) = Same b blocks.Commands
-BlockTop b (InLastBlock w s ts k ∷ K) = Same b k
-BlockTop b (InWith w s t ∷ K) = Same b blocks.Reporter
+BlockTop b (InCall w s ts (Within k) is last ∷ K) = b ≡ k
+BlockTop b (InCall w s ts Maybe is last ∷ K) = b ≡ blocks.Commands
+BlockTop b (InLastBlock w s ts k ∷ K) = b ≡ k
+BlockTop b (InWith w s t ∷ K) = b ≡ blocks.Reporter
 BlockTop b K = ⊥
 
 -- a block that may be missing
@@ -80,6 +79,8 @@ ShutTop [] = Unit {0}
 ShutTop (InParen s ∷ K) = Unit {0}
 ShutTop (InMinus p s ∷ K) = Unit {0}
 ShutTop (InReporter s ∷ K) = Unit {0}
+ShutTop (InNoHead s n ∷ K) = Unit {0}
+ShutTop (InArrowReporter s before ns ∷ K) = Unit {0}
 ShutTop (InBracket s ∷ K) = Unit {0}
 ShutTop K = ⊥
 
@@ -96,6 +97,7 @@ ListTop K = ⊥
 -- a statement
 abbrev pub StatementTop : List Frame → Type 0
 StatementTop (InStatements s k before ts ∷ K) = Unit {0}
+StatementTop (InArrowCommands s before ns ts ∷ K) = Unit {0}
 StatementTop (InStatementParen s ∷ K) = Unit {0}
 StatementTop K = ⊥
 
@@ -154,6 +156,18 @@ block_of (chain_closed d) = inside d
     inside : {e : List (List ℕ)} {a c : List Tok} {s : Span} {t : Node} → Reads Closed e a c (one (node label.List s (one t))) → Reads (Arg (Within blocks.Reporter)) e a c (one (node label.Reporter s (one t)))
     inside (closed_list d) = let (q, f) = literals_closed d in arg_reporter (raise top zero (omega arith) (item_chain (chain_closed f)))
 
+-- a literal list in which nothing is
+list_none : {m : ℕ} {e : List (List ℕ)} {a c : List Tok} {r : Span} → Reads (Level m) e a c (one (node label.List r none)) → (q : Span) × (a ≡ open_bracket r ∷ close_bracket q ∷ c)
+list_none (level_up d) = list_none d
+list_none (item_call d) = elim d [ ]
+list_none (item_chain d) = chain d
+  where
+    inside : {e : List (List ℕ)} {a c : List Tok} {r : Span} → Reads Closed e a c (one (node label.List r none)) → (q : Span) × (a ≡ open_bracket r ∷ close_bracket q ∷ c)
+    inside (closed_list {s = s} d) = let (q, same) = literals_none d in (q, ap (λ b. open_bracket s ∷ b) same)
+
+    chain : {e : List (List ℕ)} {a c : List Tok} {r : Span} → Reads Chain e a c (one (node label.List r none)) → (q : Span) × (a ≡ open_bracket r ∷ close_bracket q ∷ c)
+    chain (chain_closed d) = inside d
+
 abbrev IsList : Frame → Type 0
 IsList (InList s ts) = Unit {0}
 IsList f = ⊥
@@ -186,6 +200,9 @@ module _ (kind : Form) (e0 : List (List ℕ)) (w : List Tok) where
   Opens e (InParen s ∷ K) x = Begins K × Opens e K (open_paren s ∷ x)
   Opens e (InMinus p s ∷ K) x = (v : List ℕ) × (l : ℕ) × Begins K × Opens e K (open_paren p ∷ word v (Binary l true) s ∷ x)
   Opens e (InReporter s ∷ K) x = BlockTop blocks.Reporter K × Opens e K (open_bracket s ∷ x)
+  Opens e (InNoHead s n ∷ K) x = BlockTop (blocks.Arrow contents.Reporter n) K × Opens e K (open_bracket s ∷ x)
+  Opens e (InArrowReporter s before ns ∷ K) x = (y : List Tok) × (n : ℕ) × Reads (Head n ns e) before y x none × BlockTop (blocks.Arrow contents.Reporter n) K × Opens before K (open_bracket s ∷ y)
+  Opens e (InArrowCommands s before ns ts ∷ K) x = (y : List Tok) × (n : ℕ) × (z : List Tok) × (f : List (List ℕ)) × Reads (Head n ns f) before y z none × Extends (Statements AtBracket) e x (Statements AtBracket) f z ts × BlockTop (blocks.Arrow contents.Commands n) K × Opens before K (open_bracket s ∷ y)
   Opens e (InBracket s ∷ K) x = Expr K × Opens e K (open_bracket s ∷ x)
   Opens e (InList s ts ∷ K) x = (y : List Tok) × Extends Literals e x Literals e y ts × ListUnder K × Opens e K (open_bracket s ∷ y)
   Opens e (InLet v s n r ∷ K) x = StatementTop K × IsTrue (not (among n e)) × Opens e K (word v Let s ∷ word n Unknown r ∷ x)
@@ -198,6 +215,9 @@ module _ (kind : Form) (e0 : List (List ℕ)) (w : List Tok) where
   abbrev pub Reached : State → List Tok → Type 0
   Reached (st Begin e K) c = Begins K × Opens e K c
   Reached (st (Opening b) e K) c = BlockTop b K × Opens e K c
+  Reached (st (Heading k n s) e K) c = BlockTop (blocks.Arrow k n) K × Opens e K (open_bracket s ∷ c)
+  Reached (st (InHead k m s before ns) e K) c = (y : List Tok) × (n : ℕ) × (r : Span) × ((d : List Tok) (ms f : List (List ℕ)) → Reads (HeadNames m ms f) e c d none → Reads (HeadNames n (ns ++ ms) f) before y d none) × BlockTop (blocks.Arrow k n) K × Opens before K (open_bracket s ∷ open_bracket r ∷ y)
+  Reached (st (Behind k s before ns) e K) c = (y : List Tok) × (n : ℕ) × ((v : List ℕ) (r : Span) (d : List Tok) → c ≡ word v Arrow r ∷ d → Reads (Head n ns e) before y d none) × BlockTop (blocks.Arrow k n) K × Opens before K (open_bracket s ∷ y)
   Reached (st Optional e K) c = MaybeTop K × Opens e K c
   Reached (st Choosing e K) c = VariableTop K × Opens e K c
   Reached (st (Have x t) e K) c = (a : List Tok) × Reads Chain e a c (one t) × Fits x e a c t × Expr K × Opens e K a
@@ -217,6 +237,7 @@ module _ (kind : Form) (e0 : List (List ℕ)) (w : List Tok) where
   pub reached_end : (t : Node) (e f : List (List ℕ)) (K : List Frame) (a c : List Tok) → Reads (Statement f) e a c (one t) → StatementTop K → Opens e K a → Reached (end_statement t f K) c
   reached_end t e f [] a c d u o = absurd u
   reached_end t e f (InStatementParen s ∷ K) a c d u o = (e, a, d, tt, o)
+  reached_end t e f (InArrowCommands s before ns ts ∷ K) a c d u o = (tt, (o.0, o.1, o.2, o.3, o.4, (λ z us g. subst (λ vs. Reads (Statements AtBracket) o.3 o.2 z vs) (sym (join_last ts t us)) (o.5 z (more t us) (statements d g))), o.6, o.7))
   reached_end t e f (InStatements s AtBracket before ts ∷ K) a c d u o = (tt, (o.0, (λ z us g. subst (λ vs. Reads (Statements AtBracket) before o.0 z vs) (sym (join_last ts t us)) (o.1 z (more t us) (statements d g))), o.2, o.3))
   reached_end t e f (InStatements s AtEnd before ts ∷ []) a c d u o = (tt, ((λ z us g. subst (λ vs. Reads (Statements AtEnd) e0 w z vs) (sym (join_last ts t us)) (o.0 z (more t us) (statements d g))), o.1, o.2))
   reached_end t e f (InStatements s AtEnd before ts ∷ g ∷ K) a c d u o = absurd o
@@ -225,13 +246,11 @@ module _ (kind : Form) (e0 : List (List ℕ)) (w : List Tok) where
   pub reached_next : (v : List ℕ) (s : Span) (ts : Nodes) (is : List Need) (last : Last) (e : List (List ℕ)) (K : List Frame) (c y : List Tok) (js : List Need) → Extends (Args is) e c (Args js) e y ts → Under last K → Opens e K (word v (class_with last js) s ∷ y) → Reached (next v s ts is last e K) c
   reached_next v s ts (Item ∷ is) last e K c y js f u o = (tt, (y, js, f, u, o))
   reached_next v s ts (Whole ∷ is) last e K c y js f u o = (tt, (y, js, f, u, o))
-  reached_next v s ts (Within blocks.Commands ∷ is) last e K c y js f u o = (tt, (y, js, f, u, o))
-  reached_next v s ts (Within blocks.Reporter ∷ is) last e K c y js f u o = (tt, (y, js, f, u, o))
+  reached_next v s ts (Within b ∷ is) last e K c y js f u o = (refl, (y, js, f, u, o))
   reached_next v s ts (Maybe ∷ is) last e K c y js f u o = (tt, (y, js, f, u, o))
   reached_next v s ts (Variable ∷ is) last e K c y js f u o = (tt, (y, js, f, u, o))
   reached_next v s ts [] lasts.Item e K c y js f u o = (tt, (y, js, subst (λ us. Reads (Args js) e y c us) (join_none ts) (f c none no_arg), u, o))
-  reached_next v s ts [] (lasts.Block blocks.Commands) e K c y js f u o = (tt, (y, js, subst (λ us. Reads (Args js) e y c us) (join_none ts) (f c none no_arg), u, o))
-  reached_next v s ts [] (lasts.Block blocks.Reporter) e K c y js f u o = (tt, (y, js, subst (λ us. Reads (Args js) e y c us) (join_none ts) (f c none no_arg), u, o))
+  reached_next v s ts [] (lasts.Block b) e K c y js f u o = (refl, (y, js, subst (λ us. Reads (Args js) e y c us) (join_none ts) (f c none no_arg), u, o))
   reached_next v s ts [] lasts.Nothing e K c y js f u o = reached_end (node (label.Named v) s ts) e e K (word v (Command js) s ∷ y) c (command (subst (λ us. Reads (Args js) e y c us) (join_none ts) (f c none no_arg))) u o
 
   pub reached_closed : (x : Shape) (t : Node) (e : List (List ℕ)) (K : List Frame) (a c : List Tok) → Reads Closed e a c (one t) → Fits x e a c t → Begins K → Opens e K a → Reached (closed x t e K) c
@@ -254,12 +273,10 @@ module _ (kind : Form) (e0 : List (List ℕ)) (w : List Tok) where
   one_more {e} {c} {y} ts t is js f z us g = subst (λ vs. Reads (Args js) e y z vs) (sym (join_last ts t us)) (f z us g)
 
   pub reached_supply : (t : Node) (e : List (List ℕ)) (K : List Frame) (b : Block) (a c : List Tok) → Reads (Arg (Within b)) e a c (one t) → BlockTop b K → Opens e K a → Reached (supply t e K) c
-  reached_supply t e (InCall v s ts (Within blocks.Commands) is last ∷ K) blocks.Commands a c d h o = reached_next v s (and_last ts t) is last e K c o.0 o.1 (one_more ts t is o.1 (λ z us g. o.2 z (more t us) (arg d g))) o.3 o.4
-  reached_supply t e (InCall v s ts (Within blocks.Reporter) is last ∷ K) blocks.Reporter a c d h o = reached_next v s (and_last ts t) is last e K c o.0 o.1 (one_more ts t is o.1 (λ z us g. o.2 z (more t us) (arg d g))) o.3 o.4
-  reached_supply t e (InCall v s ts Maybe is last ∷ K) blocks.Commands a c d h o = reached_next v s (and_last ts t) is last e K c o.0 o.1 (one_more ts t is o.1 (λ z us g. o.2 z (more t us) (maybe_there d g))) o.3 o.4
-  reached_supply t e (InLastBlock v s ts blocks.Commands ∷ K) blocks.Commands a c d h o = reached_closed Fixed (node (label.Named v) s (and_last ts t)) e K (word v (Closing o.1 blocks.Commands) s ∷ o.0) c (closed_block o.2 d) tt o.3 o.4
-  reached_supply t e (InLastBlock v s ts blocks.Reporter ∷ K) blocks.Reporter a c d h o = reached_closed Fixed (node (label.Named v) s (and_last ts t)) e K (word v (Closing o.1 blocks.Reporter) s ∷ o.0) c (closed_block o.2 d) tt o.3 o.4
-  reached_supply t e (InWith v s l ∷ K) blocks.Reporter a c d h o = (o.0, chain_with o.1 d, tt, o.2, o.3)
+  reached_supply t e (InCall v s ts (Within k) is last ∷ K) b a c d h o = let g = subst (λ i. Reads (Arg (Within i)) e a c (one t)) h d in reached_next v s (and_last ts t) is last e K c o.0 o.1 (one_more ts t is o.1 (λ z us q. o.2 z (more t us) (arg g q))) o.3 o.4
+  reached_supply t e (InCall v s ts Maybe is last ∷ K) b a c d h o = let g = subst (λ i. Reads (Arg (Within i)) e a c (one t)) h d in reached_next v s (and_last ts t) is last e K c o.0 o.1 (one_more ts t is o.1 (λ z us q. o.2 z (more t us) (maybe_there g q))) o.3 o.4
+  reached_supply t e (InLastBlock v s ts k ∷ K) b a c d h o = reached_closed Fixed (node (label.Named v) s (and_last ts t)) e K (word v (Closing o.1 k) s ∷ o.0) c (closed_block o.2 (subst (λ i. Reads (Arg (Within i)) e a c (one t)) h d)) tt o.3 o.4
+  reached_supply t e (InWith v s l ∷ K) b a c d h o = (o.0, chain_with o.1 (subst (λ i. Reads (Arg (Within i)) e a c (one t)) h d), tt, o.2, o.3)
   reached_supply t e K b a c d h o = absurd h
 
   pub reached_variable : (t : Node) (e : List (List ℕ)) (K : List Frame) (a c : List Tok) → Reads (Arg Variable) e a c (one t) → VariableTop K → Opens e K a → Reached (supply t e K) c
@@ -351,6 +368,8 @@ module _ (kind : Form) (e0 : List (List ℕ)) (w : List Tok) where
   reached_accept e c (got x t (InParen s ∷ K)) g = (g.0, raise top g.1 g.4 g.2, g.3, tt, g.8)
   reached_accept e c (got x t (InMinus p s ∷ K)) g = (g.0, as_item g.1 (InMinus p s) K refl g.5 g.2, g.3, tt, g.8)
   reached_accept e c (got x t (InReporter s ∷ K)) g = (g.0, raise top g.1 g.4 g.2, g.3, tt, g.8)
+  reached_accept e c (got x t (InNoHead s n ∷ K)) g = (g.0, raise top g.1 g.4 g.2, g.3, tt, g.8)
+  reached_accept e c (got x t (InArrowReporter s before ns ∷ K)) g = (g.0, raise top g.1 g.4 g.2, g.3, tt, g.8)
   reached_accept e c (got x t (InBracket s ∷ K)) g = (g.0, raise top g.1 g.4 g.2, g.3, tt, g.8)
   reached_accept e c (got x t (InLet v s n r ∷ K)) g = reached_end (node (label.Named v) s (two (leaf (label.Named n) r) t)) e (n ∷ e) K (word v Let s ∷ word n Unknown r ∷ g.0) c (make g.8.1 (raise top g.1 g.4 g.2)) g.8.0 g.8.2
   reached_accept e c (got x t (f ∷ K)) g = absurd g.7
@@ -411,6 +430,43 @@ module _ (kind : Form) (e0 : List (List ℕ)) (w : List Tok) where
   reached_end_many e (InMany v s ts n ∷ InParen p ∷ K) q c o = reached_closed Fixed (node label.Paren p (one (node (label.Named v) s ts))) e K (open_paren p ∷ word v (Many o.1) s ∷ o.0) c (paren_many (subst (λ vs. Reads AnyItems e o.0 (close_paren q ∷ c) vs) (join_none ts) (o.3 (close_paren q ∷ c) none no_item))) tt o.5.0 o.5.1
   reached_end_many e (f ∷ K) q c o = tt
 
+  -- Heads of arrow blocks.
+
+  -- the content, behind its head
+  pub reached_content : (k : Content) (s : Span) (before ns e : List (List ℕ)) (K : List Frame) (y c : List Tok) (n : ℕ) → Reads (Head n ns e) before y c none → BlockTop (blocks.Arrow k n) K → Opens before K (open_bracket s ∷ y) → Reached (begin_content k s before ns e K) c
+  reached_content contents.Commands s before ns e K y c n d u o = (tt, (y, n, c, e, d, (λ z us g. g), u, o))
+  reached_content contents.Reporter s before ns e K y c n d u o = (tt, (y, n, d, u, o))
+
+  -- a name in brackets
+  pub reached_head_name : (k : Content) (m : ℕ) (s : Span) (before ns : List (List ℕ)) (v : List ℕ) (q : Span) (e : List (List ℕ)) (K : List Frame) (c : List Tok) (b : Bool) → not (among v e) ≡ b → Reached (st (InHead k m s before ns) e K) (word v Unknown q ∷ c) → ReachedStep (feed_head_name b k m s before ns v e K) c
+  reached_head_name k zero s before ns v q e K c true new h = tt
+  reached_head_name k (suc m) s before ns v q e K c true new h = (
+    h.0,
+    h.1,
+    h.2,
+    (λ d ms f g. subst (λ all. Reads (HeadNames h.1 all f) before h.0 d none) (sym (append_assoc ns (v ∷ []) ms)) (h.3 d (v ∷ ms) f (next_name new g))),
+    h.4,
+    h.5,
+  )
+  reached_head_name k m s before ns v q e K c false new h = tt
+
+  -- a name without brackets
+  pub reached_lone_name : (k : Content) (n : ℕ) (s : Span) (v : List ℕ) (q : Span) (e : List (List ℕ)) (K : List Frame) (c : List Tok) (b : Bool) → not (among v e) ≡ b → BlockTop (blocks.Arrow k n) K → Opens e K (open_bracket s ∷ word v Unknown q ∷ c) → ReachedStep (feed_lone_name b k n s v e K) c
+  reached_lone_name k zero s v q e K c true new u o = tt
+  reached_lone_name k (suc n) s v q e K c true new u o = (
+    word v Unknown q ∷ c,
+    suc n,
+    (λ w r d same. subst (λ z. Reads (Head (suc n) (v ∷ []) (v ∷ e)) e (word v Unknown q ∷ z) d none) (sym same) (head_name new)),
+    u,
+    o,
+  )
+  reached_lone_name k n s v q e K c false new u o = tt
+
+  -- a word that has no row and isn't known
+  pub reached_new : (v : List ℕ) (s : Span) (e : List (List ℕ)) (K : List Frame) (c : List Tok) → IsTrue (not (among v e)) → Opens e K (word v Unknown s ∷ c) → ReachedStep (feed_local false v s e K) c
+  reached_new v s e (InBracket r ∷ InNoHead p n ∷ K) c new o = reached_head_name contents.Reporter n p e [] v s e K c true new (word v Unknown s ∷ c, n, r, (λ d ms f g. g), o.1.0, o.1.1)
+  reached_new v s e K c new o = tt
+
   pub reached_begin : (e : List (List ℕ)) (K : List Frame) (tok : Tok) (c : List Tok) → Begins K → Opens e K (tok ∷ c) → ReachedStep (feed_begin e K tok) c
   reached_begin e K (number n s) c u o = reached_closed Literal (leaf (label.Number n) s) e K (number n s ∷ c) c closed_number (λ z us d. literal_number d) u o
   reached_begin e K (text n s) c u o = reached_closed Literal (leaf (label.Text n) s) e K (text n s ∷ c) c closed_text (λ z us d. literal_text d) u o
@@ -418,7 +474,7 @@ module _ (kind : Form) (e0 : List (List ℕ)) (w : List Tok) where
     where
       at : (b : Bool) → among v e ≡ b → ReachedStep (feed_local b v s e K) c
       at true q = reached_closed Fixed (leaf (label.Named v) s) e K (word v Unknown s ∷ c) c (closed_local q) tt u o
-      at false q = tt
+      at false q = reached_new v s e K c (ap not q) o
   reached_begin e K (word v Constant s) c u o = reached_closed Literal (leaf (label.Named v) s) e K (word v Constant s ∷ c) c closed_constant (λ z us d. literal_constant d) u o
   reached_begin e K (word v Plain s) c u o = reached_closed Fixed (leaf (label.Named v) s) e K (word v Plain s ∷ c) c closed_plain tt u o
   reached_begin e K (word v Named s) c u o = reached_closed Fixed (leaf (label.Named v) s) e K (word v Named s ∷ c) c closed_variable tt u o
@@ -437,8 +493,10 @@ module _ (kind : Form) (e0 : List (List ℕ)) (w : List Tok) where
   pub reached_opening : (b : Block) (e : List (List ℕ)) (K : List Frame) (tok : Tok) (c : List Tok) → BlockTop b K → Opens e K (tok ∷ c) → ReachedStep (feed_opening b e K tok) c
   reached_opening blocks.Commands e K (open_bracket s) c u o = (tt, (c, (λ z us d. d), u, o))
   reached_opening blocks.Reporter e K (open_bracket s) c u o = (tt, (u, o))
+  reached_opening (blocks.Arrow k n) e K (open_bracket s) c u o = (u, o)
   reached_opening blocks.Commands e K tok c u o = tt
   reached_opening blocks.Reporter e K tok c u o = tt
+  reached_opening (blocks.Arrow k n) e K tok c u o = tt
 
   pub reached_choosing : (e : List (List ℕ)) (K : List Frame) (tok : Tok) (c : List Tok) → VariableTop K → Opens e K (tok ∷ c) → ReachedStep (feed_choosing e K tok) c
   reached_choosing e K (word v Named s) c u o = reached_variable (leaf (label.Named v) s) e K (word v Named s ∷ c) c arg_variable u o
@@ -478,10 +536,21 @@ module _ (kind : Form) (e0 : List (List ℕ)) (w : List Tok) where
   reached_whole t e (end s) a c d o = λ q. subst (λ f. IsText f e0 w t) (sym o.2) (s, subst (λ y. Reads (Level top) e0 y (end s ∷ []) (one t)) o.0 (subst (λ n. Reads (Level top) n a (end s ∷ []) (one t)) o.1 (subst (λ z. Reads (Level top) e a (end s ∷ z) (one t)) q d)))
   reached_whole t e tok a c d o = tt
 
+  pub reached_no_head : (t : Node) (s : Span) (n : ℕ) (e : List (List ℕ)) (K : List Frame) (tok : Tok) (a c : List Tok) → Reads (Level top) e a (tok ∷ c) (one t) → Opens e (InNoHead s n ∷ K) a → ReachedStep (feed_no_head t s e K tok) c
+  reached_no_head (node label.List r none) s n e K (word v Arrow q) a c d o = let (p, same) = list_none d in reached_content contents.Reporter s e [] e K a c n (subst (λ b. Reads (Head n [] e) e b c none) (sym same) (head_names names_end)) o.0 o.1
+  reached_no_head t s n e K (close_bracket r) a c d o = reached_supply (node (label.Arrow []) s (one t)) e K (blocks.Arrow contents.Reporter n) (open_bracket s ∷ a) c (arg_arrow_reporter no_head d) o.0 o.1
+  reached_no_head t s n e K tok a c d o = tt
+
+  pub reached_arrow_reporter : (t : Node) (s : Span) (e before ns : List (List ℕ)) (K : List Frame) (tok : Tok) (a c : List Tok) → Reads (Level top) e a (tok ∷ c) (one t) → Opens e (InArrowReporter s before ns ∷ K) a → ReachedStep (feed_arrow_reporter t s before ns K tok) c
+  reached_arrow_reporter t s e before ns K (close_bracket r) a c d o = reached_supply (node (label.Arrow ns) s (one t)) before K (blocks.Arrow contents.Reporter o.1) (open_bracket s ∷ o.0) c (arg_arrow_reporter o.2 d) o.3 o.4
+  reached_arrow_reporter t s e before ns K tok a c d o = tt
+
   pub reached_shut : (x : Shape) (t : Node) (e : List (List ℕ)) (K : List Frame) (tok : Tok) (a c : List Tok) → Reads (Level (shut_level K)) e a (tok ∷ c) (one t) → Fits x e a (tok ∷ c) t → ShutTop K → Opens e K a → ReachedStep (feed_shut x t e K tok) c
   reached_shut x t e (InParen p ∷ K) tok a c d fit u o = reached_paren x t p e K tok a c d fit o.0 o.1
   reached_shut x t e (InMinus p s ∷ K) tok a c d fit u o = reached_minus t p s e K tok a c d o
   reached_shut x t e (InReporter s ∷ K) tok a c d fit u o = reached_reporter t s e K tok a c d o.0 o.1
+  reached_shut x t e (InNoHead s n ∷ K) tok a c d fit u o = reached_no_head t s n e K tok a c d o
+  reached_shut x t e (InArrowReporter s before ns ∷ K) tok a c d fit u o = reached_arrow_reporter t s e before ns K tok a c d o
   reached_shut x t e (InBracket s ∷ K) tok a c d fit u o = reached_bracket x t s e K tok a c d fit o.0 o.1
   reached_shut x t e [] tok a c d fit u o = reached_whole t e tok a c d o
   reached_shut x t e (f ∷ K) tok a c d fit u o = absurd u
@@ -495,6 +564,10 @@ module _ (kind : Form) (e0 : List (List ℕ)) (w : List Tok) where
   reached_ending AtBracket s ts e before K tok c o = tt
   reached_ending AtEnd s ts e before K tok c o = tt
 
+  pub reached_arrow_ending : (s : Span) (ts : Nodes) (e before ns : List (List ℕ)) (K : List Frame) (tok : Tok) (c : List Tok) → Opens e (InArrowCommands s before ns ts ∷ K) (tok ∷ c) → ReachedStep (feed_arrow_ending s before ns ts K tok) c
+  reached_arrow_ending s ts e before ns K (close_bracket r) c o = reached_supply (node (label.Arrow ns) s (one (node label.Commands s ts))) before K (blocks.Arrow contents.Commands o.1) (open_bracket s ∷ o.0) c (arg_arrow_commands o.4 (subst (λ vs. Reads (Statements AtBracket) o.3 o.2 c vs) (join_none ts) (o.5 c none at_bracket))) o.6 o.7
+  reached_arrow_ending s ts e before ns K tok c o = tt
+
   pub reached_statement : (e : List (List ℕ)) (K : List Frame) (tok : Tok) (c : List Tok) → StatementTop K → Opens e K (tok ∷ c) → ReachedStep (feed_statement e K tok) c
   reached_statement e K (word v (Command is) s) c u o = reached_next v s none is lasts.Nothing e K c c is (λ z us d. d) u o
   reached_statement e K (word v Let s) c u o = (u, o)
@@ -504,6 +577,9 @@ module _ (kind : Form) (e0 : List (List ℕ)) (w : List Tok) where
   pub reached_stating : (e : List (List ℕ)) (K : List Frame) (tok : Tok) (c : List Tok) → StatementTop K → Opens e K (tok ∷ c) → ReachedStep (feed_stating e K tok) c
   reached_stating e [] tok c u o = absurd u
   reached_stating e (InStatementParen s ∷ K) tok c u o = reached_statement e (InStatementParen s ∷ K) tok c u o
+  reached_stating e (InArrowCommands s before ns ts ∷ K) (word v b r) c u o = reached_statement e (InArrowCommands s before ns ts ∷ K) (word v b r) c u o
+  reached_stating e (InArrowCommands s before ns ts ∷ K) (open_paren r) c u o = reached_statement e (InArrowCommands s before ns ts ∷ K) (open_paren r) c u o
+  reached_stating e (InArrowCommands s before ns ts ∷ K) tok c u o = reached_arrow_ending s ts e before ns K tok c o
   reached_stating e (InStatements s k before ts ∷ K) (word v b r) c u o = reached_statement e (InStatements s k before ts ∷ K) (word v b r) c u o
   reached_stating e (InStatements s k before ts ∷ K) (open_paren r) c u o = reached_statement e (InStatements s k before ts ∷ K) (open_paren r) c u o
   reached_stating e (InStatements s k before ts ∷ K) tok c u o = reached_ending k s ts e before K tok c o
@@ -523,9 +599,48 @@ module _ (kind : Form) (e0 : List (List ℕ)) (w : List Tok) where
   reached_ended t e f (InStatementParen s ∷ K) tok a c d u o = tt
   reached_ended t e f (g ∷ K) tok a c d u o = absurd u
 
+  -- Right behind the bracket of an arrow block, and in its head.
+
+  pub reached_heading_commands : (n : ℕ) (s : Span) (e : List (List ℕ)) (K : List Frame) (tok : Tok) (c : List Tok) → BlockTop (blocks.Arrow contents.Commands n) K → Opens e K (open_bracket s ∷ tok ∷ c) → ReachedStep (feed_heading_commands n s e K tok) c
+  reached_heading_commands n s e K (word v Arrow r) c u o = reached_content contents.Commands s e [] e K (word v Arrow r ∷ c) c n head_arrow u o
+  reached_heading_commands n s e K (word v Unknown r) c u o = reached_lone_name contents.Commands n s v r e K c (not (among v e)) refl u o
+  reached_heading_commands n s e K (open_bracket r) c u o = (c, n, r, (λ d ms f g. g), u, o)
+  reached_heading_commands n s e K tok c u o = reached_stating e (InArrowCommands s e [] none ∷ K) tok c tt (tok ∷ c, n, tok ∷ c, e, no_head, (λ z us d. d), u, o)
+
+  pub reached_heading_reporter : (n : ℕ) (s : Span) (e : List (List ℕ)) (K : List Frame) (tok : Tok) (c : List Tok) → BlockTop (blocks.Arrow contents.Reporter n) K → Opens e K (open_bracket s ∷ tok ∷ c) → ReachedStep (feed_heading_reporter n s e K tok) c
+  reached_heading_reporter n s e K (word v Arrow r) c u o = reached_content contents.Reporter s e [] e K (word v Arrow r ∷ c) c n head_arrow u o
+  reached_heading_reporter n s e K (word v Unknown r) c u o = at (among v e) refl
+    where
+      at : (b : Bool) → among v e ≡ b → ReachedStep (feed_first b n s v r e K) c
+      at true q = reached_closed Fixed (leaf (label.Named v) r) e (InNoHead s n ∷ K) (word v Unknown r ∷ c) c (closed_local q) tt tt (u, o)
+      at false q = reached_lone_name contents.Reporter n s v r e K c true (ap not q) u o
+  reached_heading_reporter n s e K tok c u o = reached_begin e (InNoHead s n ∷ K) tok c tt (u, o)
+
+  pub reached_heading : (k : Content) (n : ℕ) (s : Span) (e : List (List ℕ)) (K : List Frame) (tok : Tok) (c : List Tok) → BlockTop (blocks.Arrow k n) K → Opens e K (open_bracket s ∷ tok ∷ c) → ReachedStep (feed_heading k n s e K tok) c
+  reached_heading contents.Commands n s e K tok c u o = reached_heading_commands n s e K tok c u o
+  reached_heading contents.Reporter n s e K tok c u o = reached_heading_reporter n s e K tok c u o
+
+  pub reached_in_head : (k : Content) (m : ℕ) (s : Span) (before ns e : List (List ℕ)) (K : List Frame) (tok : Tok) (c : List Tok) → Reached (st (InHead k m s before ns) e K) (tok ∷ c) → ReachedStep (feed_in_head k m s before ns e K tok) c
+  reached_in_head k m s before ns e K (word v Unknown q) c h = reached_head_name k m s before ns v q e K c (not (among v e)) refl h
+  reached_in_head k m s before ns e K (close_bracket q) c h = (
+    open_bracket h.2 ∷ h.0,
+    h.1,
+    (λ v r d same. head_names (subst (λ z. Reads (HeadNames h.1 ns e) before h.0 z none) same (subst (λ all. Reads (HeadNames h.1 all e) before h.0 c none) (append-nil ns) (h.3 c [] e names_end)))),
+    h.4,
+    h.5,
+  )
+  reached_in_head k m s before ns e K tok c h = tt
+
+  pub reached_behind : (k : Content) (s : Span) (before ns e : List (List ℕ)) (K : List Frame) (tok : Tok) (c : List Tok) → Reached (st (Behind k s before ns) e K) (tok ∷ c) → ReachedStep (feed_behind k s before ns e K tok) c
+  reached_behind k s before ns e K (word v Arrow r) c h = reached_content k s before ns e K h.0 c h.1 (h.2 v r c refl) h.3 h.4
+  reached_behind k s before ns e K tok c h = tt
+
   pub reached_plain : (s : State) (tok : Tok) (c : List Tok) → Reached s (tok ∷ c) → ReachedStep (feed_plain s tok) c
   reached_plain (st Begin e K) tok c h = reached_begin e K tok c h.0 h.1
   reached_plain (st (Opening b) e K) tok c h = reached_opening b e K tok c h.0 h.1
+  reached_plain (st (Heading k n s) e K) tok c h = reached_heading k n s e K tok c h.0 h.1
+  reached_plain (st (InHead k n s before ns) e K) tok c h = reached_in_head k n s before ns e K tok c h
+  reached_plain (st (Behind k s before ns) e K) tok c h = reached_behind k s before ns e K tok c h
   reached_plain (st Optional e K) tok c h = tt
   reached_plain (st Choosing e K) tok c h = reached_choosing e K tok c h.0 h.1
   reached_plain (st (Have x t) e K) tok c h = tt
@@ -551,7 +666,7 @@ module _ (kind : Form) (e0 : List (List ℕ)) (w : List Tok) where
   reached_missing v s ts is last e K c h o = reached_next v s ts (without_maybes is) last e K c o.0 o.1 (skipped (Maybe ∷ is) o.1 e c o.0 ts h o.2) o.3 o.4
 
   pub reached_optional : (e : List (List ℕ)) (K : List Frame) (tok : Tok) (c : List Tok) → MaybeTop K → Opens e K (tok ∷ c) → ReachedStep (feed_optional e K tok) c
-  reached_optional e (InCall v s ts Maybe is last ∷ K) (open_bracket r) c u o = (tt, (c, (λ z us d. d), tt, o))
+  reached_optional e (InCall v s ts Maybe is last ∷ K) (open_bracket r) c u o = (tt, (c, (λ z us d. d), refl, o))
   reached_optional e (InCall v s ts Maybe is last ∷ K) tok c u o = reached_plain (next v s ts (without_maybes is) last e K) tok c (reached_missing v s ts is last e K (tok ∷ c) refl o)
   reached_optional e K tok c u o = absurd u
 
@@ -579,7 +694,7 @@ module _ (kind : Form) (e0 : List (List ℕ)) (w : List Tok) where
       at false q = tt
 
   pub reached_have : (x : Shape) (t : Node) (e : List (List ℕ)) (K : List Frame) (tok : Tok) (a c : List Tok) → Reads Chain e a (tok ∷ c) (one t) → Fits x e a (tok ∷ c) t → Expr K → Opens e K a → ReachedStep (feed_have x t e K tok) c
-  reached_have x t e K (word v With s) a c d fit u o = (tt, (a, d, u, o))
+  reached_have x t e K (word v With s) a c d fit u o = (refl, (a, d, u, o))
   reached_have x t e K (word v (Near n) s) a c d fit u o = (tt, (a, (λ z us g. chain_near d g), (λ z us g. item_near d g), u, o))
   reached_have x t e K (word v Of s) a c d fit u o = reached_of v s t e K a c d u o
   reached_have x t e K (word v (Binary l m) s) a c d fit u o = at (nat_lt l top) refl

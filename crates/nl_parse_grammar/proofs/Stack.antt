@@ -5,9 +5,10 @@ use Rattle.nl_tree.specs.declared.declared.Form.{Form}
 use Rattle.nl_tree.specs.Tree.{Node, node}
 use Rattle.nl_tree.specs.Tokens.{Tok}
 use Rattle.nl_tree.specs.declared.needs.Block.TheVariants as blocks
+use Rattle.nl_tree.specs.declared.needs.Content.TheVariants as contents
 use Rattle.nl_tree.specs.Grammar.{two, and_last, top}
 use Rattle.nl_tree.specs.declared.needs.Ending.TheVariants.{AtBracket, AtEnd}
-use Rattle.nl_parse_grammar.specs.Machine.{Frame, InBinary, InWith, InNear, InOf, InCall, InLastItem, InLastBlock, InMany, InItems, InParen, InMinus, InReporter, InBracket, InList, InLet, InStatementParen, InStatements, Begin, Opening, Optional, Choosing, Have, Blocked, Shut, Listing, Stating, Naming, Ended, Over, Dead, State, st, Got, got, settle}
+use Rattle.nl_parse_grammar.specs.Machine.{Frame, InBinary, InWith, InNear, InOf, InCall, InLastItem, InLastBlock, InMany, InItems, InParen, InMinus, InReporter, InNoHead, InArrowReporter, InArrowCommands, InBracket, InList, InLet, InStatementParen, InStatements, Begin, Opening, Heading, InHead, Behind, Optional, Choosing, Have, Blocked, Shut, Listing, Stating, Naming, Ended, Over, Dead, State, st, Got, got, settle}
 use Rattle.nl_parse_grammar.specs.declared.pending.Shape.{Shape}
 use Rattle.nl_parse_grammar.specs.declared.pending.Shape.TheVariants.{Growing, Fixed}
 use Rattle.nl_parse_grammar.proofs.Complete.{settle_on, settle_stop}
@@ -28,6 +29,9 @@ Fine (InItems p l s ts ∷ K) = Begins K × Fine K
 Fine (InParen s ∷ K) = Begins K × Fine K
 Fine (InMinus p s ∷ K) = Begins K × Fine K
 Fine (InReporter s ∷ K) = BlockTop blocks.Reporter K × Fine K
+Fine (InNoHead s n ∷ K) = BlockTop (blocks.Arrow contents.Reporter n) K × Fine K
+Fine (InArrowReporter s before ns ∷ K) = (n : ℕ) × BlockTop (blocks.Arrow contents.Reporter n) K × Fine K
+Fine (InArrowCommands s before ns ts ∷ K) = (n : ℕ) × BlockTop (blocks.Arrow contents.Commands n) K × Fine K
 Fine (InBracket s ∷ K) = Expr K × Fine K
 Fine (InList s ts ∷ K) = ListUnder K × Fine K
 Fine (InLet w s n r ∷ K) = StatementTop K × Fine K
@@ -39,6 +43,9 @@ Fine (InStatements s AtEnd before ts ∷ f ∷ K) = ⊥
 abbrev pub FineState : State → Type 0
 FineState (st Begin e K) = Begins K × Fine K
 FineState (st (Opening b) e K) = BlockTop b K × Fine K
+FineState (st (Heading k n s) e K) = BlockTop (blocks.Arrow k n) K × Fine K
+FineState (st (InHead k m s before ns) e K) = (n : ℕ) × BlockTop (blocks.Arrow k n) K × Fine K
+FineState (st (Behind k s before ns) e K) = (n : ℕ) × BlockTop (blocks.Arrow k n) K × Fine K
 FineState (st Optional e K) = MaybeTop K × Fine K
 FineState (st Choosing e K) = VariableTop K × Fine K
 FineState (st (Have x t) e K) = Expr K × Fine K
@@ -69,6 +76,9 @@ module _ (kind : Form) (e0 : List (List ℕ)) (w : List Tok) where
   fine e (InParen s ∷ K) x o = (o.0, fine e K _ o.1)
   fine e (InMinus p s ∷ K) x o = (o.2, fine e K _ o.3)
   fine e (InReporter s ∷ K) x o = (o.0, fine e K _ o.1)
+  fine e (InNoHead s n ∷ K) x o = (o.0, fine e K _ o.1)
+  fine e (InArrowReporter s before ns ∷ K) x o = (o.1, o.3, fine before K _ o.4)
+  fine e (InArrowCommands s before ns ts ∷ K) x o = (o.1, o.6, fine before K _ o.7)
   fine e (InBracket s ∷ K) x o = (o.0, fine e K _ o.1)
   fine e (InList s ts ∷ K) x o = (o.2, fine e K _ o.3)
   fine e (InLet v s n r ∷ K) x o = (o.0, fine e K _ o.2)
@@ -80,6 +90,9 @@ module _ (kind : Form) (e0 : List (List ℕ)) (w : List Tok) where
   pub fine_state : (s : State) (c : List Tok) → Reached kind e0 w s c → FineState s
   fine_state (st Begin e K) c h = (h.0, fine e K c h.1)
   fine_state (st (Opening b) e K) c h = (h.0, fine e K c h.1)
+  fine_state (st (Heading k n s) e K) c h = (h.0, fine e K _ h.1)
+  fine_state (st (InHead k m s before ns) e K) c h = (h.1, h.4, fine before K _ h.5)
+  fine_state (st (Behind k s before ns) e K) c h = (h.1, h.3, fine before K _ h.4)
   fine_state (st Optional e K) c h = (h.0, fine e K c h.1)
   fine_state (st Choosing e K) c h = (h.0, fine e K c h.1)
   fine_state (st (Have x t) e K) c h = (h.3, fine e K h.0 h.4)

@@ -5,14 +5,16 @@ use Rattle.nl_fixed.specs.declared.span.Span.{Span}
 use Rattle.nl_tree.specs.declared.declared.Form.{Form}
 use Rattle.nl_tree.specs.Term.{Term}
 use Rattle.nl_tree.specs.Vocabulary.{term_named}
-use Rattle.nl_tree.specs.Tokens.{Lexeme, Word, Open, Close, CloseParen, End, Token, Constant, Named, Command, Of, class_of, marked}
+use Rattle.nl_tree.specs.Tokens.{Lexeme, Word, Open, Close, CloseParen, End, Token, Constant, Named, Command, Of, Arrow, class_of, marked}
 use Rattle.nl_tree.specs.declared.needs.Block.{Block}
 use Rattle.nl_tree.specs.declared.needs.Block.TheVariants as blocks
+use Rattle.nl_tree.specs.declared.needs.Content.{Content}
+use Rattle.nl_tree.specs.declared.needs.Content.TheVariants as contents
 use Rattle.nl_tree.specs.declared.needs.Need.{Need}
 use Rattle.nl_tree.specs.declared.needs.Need.TheVariants.{Item, Whole, Within, Maybe, Variable}
 use Rattle.nl_tree.specs.Grammar.{span_of_first}
 use Rattle.nl_tree.specs.declared.needs.Ending.TheVariants.{AtBracket, AtEnd}
-use Rattle.nl_parse_grammar.specs.Machine.{Frame, InBinary, InWith, InNear, InOf, InCall, InLastItem, InLastBlock, InMany, InItems, InParen, InMinus, InReporter, InBracket, InList, InLet, InStatementParen, InStatements, Begin, Opening, Optional, Choosing, Have, Blocked, Shut, Listing, Stating, Naming, Ended, Over, Dead, State, st, Step, go, stop, run, start}
+use Rattle.nl_parse_grammar.specs.Machine.{Frame, InBinary, InWith, InNear, InOf, InCall, InLastItem, InLastBlock, InMany, InItems, InParen, InMinus, InReporter, InNoHead, InArrowReporter, InArrowCommands, InBracket, InList, InLet, InStatementParen, InStatements, Begin, Opening, Heading, InHead, Behind, Optional, Choosing, Have, Blocked, Shut, Listing, Stating, Naming, Ended, Over, Dead, State, st, Step, go, stop, run, start}
 use Rattle.nl_parse_grammar.specs.declared.pending.Last.{Last}
 use Rattle.nl_parse_grammar.specs.declared.pending.Last.TheVariants as lasts
 use Rattle.nl_parse_grammar.specs.Depth.{is_literal}
@@ -23,16 +25,23 @@ pub data Piece : Type 0 where
   AVariable : Piece  -- `color`
   AStatement : Piece  -- `stop`
   AnOf : Piece  -- `of`
+  AnArrow : Piece  -- `->`
   AName : Names → Piece  -- a new name, where these are known
   ABracket : Piece
   ItsBracket : Piece  -- the bracket that closes
   ItsParen : Piece
   ItsEnd : Piece
 
--- a block with nothing in it, or with a value
+-- the content of an arrow block and its bracket: nothing, or a value
+abbrev pub content_pieces : Content → List Piece
+content_pieces contents.Commands = ItsBracket ∷ []
+content_pieces contents.Reporter = AValue ∷ ItsBracket ∷ []
+
+-- a block with nothing in it, or with a value; it needs no head
 abbrev pub block_pieces : Block → List Piece
 block_pieces blocks.Commands = ABracket ∷ ItsBracket ∷ []
 block_pieces blocks.Reporter = ABracket ∷ AValue ∷ ItsBracket ∷ []
+block_pieces (blocks.Arrow k n) = ABracket ∷ content_pieces k
 
 abbrev pub last_pieces : Last → List Piece
 last_pieces lasts.Item = AValue ∷ []
@@ -95,6 +104,9 @@ rest_pieces b (InItems p l s ts ∷ K) = ItsParen ∷ rest_pieces false K
 rest_pieces b (InParen s ∷ K) = ItsParen ∷ rest_pieces false K
 rest_pieces b (InMinus p s ∷ K) = ItsParen ∷ rest_pieces false K
 rest_pieces b (InReporter s ∷ K) = ItsBracket ∷ rest_pieces false K
+rest_pieces b (InNoHead s n ∷ K) = ItsBracket ∷ rest_pieces false K
+rest_pieces b (InArrowReporter s before ns ∷ K) = ItsBracket ∷ rest_pieces false K
+rest_pieces b (InArrowCommands s before ns ts ∷ K) = ItsBracket ∷ rest_pieces false K
 rest_pieces b (InBracket s ∷ K) = bracket_pieces b ++ rest_pieces b K
 rest_pieces b (InList s ts ∷ K) = ItsBracket ∷ rest_pieces true K
 rest_pieces b (InLet w s n r ∷ K) = rest_pieces false K
@@ -122,6 +134,9 @@ statement_pieces K = rest_pieces false K
 abbrev pub pieces : State → List Piece
 pieces (st Begin e K) = begin_pieces K
 pieces (st (Opening b) e K) = block_pieces b ++ rest_pieces false K
+pieces (st (Heading k n s) e K) = content_pieces k ++ rest_pieces false K
+pieces (st (InHead k n s before ns) e K) = ItsBracket ∷ AnArrow ∷ content_pieces k ++ rest_pieces false K
+pieces (st (Behind k s before ns) e K) = AnArrow ∷ content_pieces k ++ rest_pieces false K
 pieces (st Optional e K) = optional_pieces K
 pieces (st Choosing e K) = AVariable ∷ rest_pieces false K
 pieces (st (Have x t) e K) = rest_pieces (is_literal x) K
@@ -151,6 +166,7 @@ lexeme_of table AValue = Word (codes "true")
 lexeme_of table AVariable = Word (codes "color")
 lexeme_of table AStatement = Word (codes "stop")
 lexeme_of table AnOf = Word (codes "of")
+lexeme_of table AnArrow = Word (codes "->")
 lexeme_of table (AName names) = Word (unused table names)
 lexeme_of table ABracket = Open
 lexeme_of table ItsBracket = Close
@@ -182,3 +198,4 @@ pub record HasWords (table : List Term) : Type 0 where
   pub variable : class_of (term_named table (codes "color")) ≡ Named
   pub statement : class_of (term_named table (codes "stop")) ≡ Command []
   pub of : class_of (term_named table (codes "of")) ≡ Of
+  pub arrow : class_of (term_named table (codes "->")) ≡ Arrow

@@ -6,16 +6,17 @@ use Rattle.nl_tree.specs.declared.needs.Block.{Block}
 use Rattle.nl_tree.specs.declared.needs.Block.TheVariants as blocks
 use Rattle.nl_tree.specs.declared.needs.Need.{Need}
 use Rattle.nl_tree.specs.declared.needs.Need.TheVariants.{Item, Whole, Within, Maybe, Variable}
-use Rattle.nl_parse_grammar.specs.Machine.{Frame, InBinary, InWith, InNear, InOf, InCall, InLastItem, InLastBlock, InMany, InItems, InParen, InMinus, InReporter, InBracket, InList, InLet, InStatementParen, InStatements, Begin, Opening, Optional, Choosing, Have, Blocked, Shut, Listing, Stating, Naming, Ended, Over, Dead, State, st}
+use Rattle.nl_parse_grammar.specs.Machine.{Frame, InBinary, InWith, InNear, InOf, InCall, InLastItem, InLastBlock, InMany, InItems, InParen, InMinus, InReporter, InNoHead, InArrowReporter, InArrowCommands, InBracket, InList, InLet, InStatementParen, InStatements, Begin, Opening, Heading, InHead, Behind, Optional, Choosing, Have, Blocked, Shut, Listing, Stating, Naming, Ended, Over, Dead, State, st}
 use Rattle.nl_parse_grammar.specs.declared.pending.Last.{Last}
 use Rattle.nl_parse_grammar.specs.declared.pending.Last.TheVariants as lasts
 use Rattle.nl_parse_grammar.specs.declared.pending.Shape.{Shape}
 use Rattle.nl_parse_grammar.specs.declared.pending.Shape.TheVariants.{Literal, Growing, Fixed}
 
--- a block with nothing in it, or with a value
+-- a block with nothing in it, or with a value; in an arrow block stands a node of commands, or an expression
 abbrev pub least_block : Block → ℕ
 least_block blocks.Commands = 1
 least_block blocks.Reporter = 2
+least_block (blocks.Arrow k n) = 2
 
 abbrev pub least_input : Need → ℕ
 least_input Item = 1
@@ -55,6 +56,9 @@ frame_depth (InItems p l s ts) b d = suc (suc (max (depths ts) d))
 frame_depth (InParen s) b d = suc d
 frame_depth (InMinus p s) b d = suc (suc d)
 frame_depth (InReporter s) b d = suc d
+frame_depth (InNoHead s n) b d = suc d
+frame_depth (InArrowReporter s before ns) b d = suc d
+frame_depth (InArrowCommands s before ns ts) b d = suc (suc (max (depths ts) d))
 frame_depth (InBracket s) true d = suc d
 frame_depth (InBracket s) false d = suc (max (suc d) 1)
 frame_depth (InList s ts) b d = suc (max (depths ts) d)
@@ -93,6 +97,9 @@ statement_depth K = whole_depth false 0 K
 abbrev pub least_depth : State → ℕ
 least_depth (st Begin e K) = begin_depth K
 least_depth (st (Opening b) e K) = whole_depth false (least_block b) K
+least_depth (st (Heading k n s) e K) = whole_depth false 2 K
+least_depth (st (InHead k n s before ns) e K) = whole_depth false 2 K
+least_depth (st (Behind k s before ns) e K) = whole_depth false 2 K
 least_depth (st Optional e K) = optional_depth K
 least_depth (st Choosing e K) = whole_depth false 1 K
 least_depth (st (Have x t) e K) = whole_depth (is_literal x) (depth t) K

@@ -1,8 +1,9 @@
 -- The reading of a text as a machine: it takes one token after the other, and keeps on a stack what is still open.
 -- Where two readings of the tokens are possible it follows the one that says less, and turns it into the other at the first token that only
--- the other one has: a bracket where an expression begins is both a list and a block until a token decides, and a call in parentheses takes
--- its usual number of items until another one comes.
-use Rattle.std.specs.Prelude.{ℕ, zero, suc, Bool, true, false, not, List, [], ◌∷◌, nat_lt, nat_le}
+-- the other one has: a bracket where an expression begins is both a list and a block until a token decides, one right behind the bracket of an
+-- arrow block is that of an expression until a name or an arrow makes it the bracket of a head, and a call in parentheses takes its usual
+-- number of items until another one comes.
+use Rattle.std.specs.Prelude.{ℕ, zero, suc, Bool, true, false, not, List, [], ◌∷◌, ◌++◌, nat_lt, nat_le}
 use Rattle.nl_fixed.specs.Nouns.{Name, Names}
 use Rattle.nl_fixed.specs.declared.span.Span.{Span}
 use Rattle.nl_tree.specs.declared.tree.Label.{Label}
@@ -15,9 +16,11 @@ use Rattle.nl_parse_grammar.specs.declared.pending.Last.{Last}
 use Rattle.nl_parse_grammar.specs.declared.pending.Last.TheVariants as lasts
 use Rattle.nl_parse_grammar.specs.declared.pending.Shape.{Shape}
 use Rattle.nl_parse_grammar.specs.declared.pending.Shape.TheVariants.{Literal, Growing, Fixed}
-use Rattle.nl_tree.specs.Tokens.{Unknown, Constant, Plain, Named, Prefix, Many, Closing, Command, Let, With, Near, Of, Binary, Tok, number, text, word, open_bracket, close_bracket, open_paren, close_paren, end}
+use Rattle.nl_tree.specs.Tokens.{Unknown, Constant, Plain, Named, Prefix, Many, Closing, Command, Let, With, Near, Of, Binary, Arrow, Tok, number, text, word, open_bracket, close_bracket, open_paren, close_paren, end}
 use Rattle.nl_tree.specs.declared.needs.Block.{Block}
 use Rattle.nl_tree.specs.declared.needs.Block.TheVariants as blocks
+use Rattle.nl_tree.specs.declared.needs.Content.{Content}
+use Rattle.nl_tree.specs.declared.needs.Content.TheVariants as contents
 use Rattle.nl_tree.specs.declared.needs.Need.{Need}
 use Rattle.nl_tree.specs.declared.needs.Need.TheVariants.{Item, Whole, Within, Maybe, Variable}
 use Rattle.nl_tree.specs.Grammar.{one, two, leaf, and_last, top}
@@ -38,6 +41,9 @@ pub data Frame : Type 0 where
   InParen : (bracket : Span) → Frame
   InMinus : (bracket : Span) (place : Span) → Frame  -- in parentheses, after the minus sign
   InReporter : (bracket : Span) → Frame
+  InNoHead : (bracket : Span) (limit : ℕ) → Frame  -- in an arrow block, an expression that may still become a head of so many names
+  InArrowReporter : (bracket : Span) (before : Names) (names : Names) → Frame  -- behind the head; with the names that are known outside
+  InArrowCommands : (bracket : Span) (before : Names) (names : Names) (statements : Nodes) → Frame
   InBracket : (bracket : Span) → Frame  -- may become a list or a block
   InList : (bracket : Span) (items : Nodes) → Frame
   InLet : (word : Name) (place : Span) (name : Name) (there : Span) → Frame
@@ -48,6 +54,9 @@ pub data Frame : Type 0 where
 pub data Mode : Type 0 where
   Begin : Mode  -- an expression
   Opening : Block → Mode  -- a block
+  Heading : (content : Content) (limit : ℕ) (bracket : Span) → Mode  -- a head, or the content of an arrow block without one
+  InHead : (content : Content) (limit : ℕ) (bracket : Span) (before : Names) (names : Names) → Mode  -- a name in brackets, or their end
+  Behind : (content : Content) (bracket : Span) (before : Names) (names : Names) → Mode  -- the arrow, behind names
   Optional : Mode  -- a block of commands, or what follows where it is missing
   Choosing : Mode  -- the name of a variable
   Have : Shape → Node → Mode  -- there is a chain, which may go on
@@ -84,6 +93,7 @@ begin_mode Variable = Choosing
 -- a statement, after which these names are known
 abbrev pub end_statement : Node → Names → List Frame → State
 end_statement t e (InStatements s k before ts ∷ K) = st Stating e (InStatements s k before (and_last ts t) ∷ K)
+end_statement t e (InArrowCommands s before ns ts ∷ K) = st Stating e (InArrowCommands s before ns (and_last ts t) ∷ K)
 end_statement t e (InStatementParen s ∷ K) = st (Ended t) e (InStatementParen s ∷ K)
 end_statement t e (f ∷ K) = st Dead e K
 end_statement t e [] = st Dead e []
@@ -158,15 +168,35 @@ takes_operator (InBinary l w s t ∷ K) = true
 takes_operator (InCall w s ts Whole is last ∷ K) = true
 takes_operator (InParen s ∷ K) = true
 takes_operator (InReporter s ∷ K) = true
+takes_operator (InNoHead s n ∷ K) = true
+takes_operator (InArrowReporter s before ns ∷ K) = true
 takes_operator (InBracket s ∷ K) = true
 takes_operator (InLet w s n r ∷ K) = true
 takes_operator K = false
 
+-- Steps in an arrow block up to its content.
+
+-- the content, behind its head
+abbrev pub begin_content : Content → Span → Names → Names → Names → List Frame → State
+begin_content contents.Commands s before ns e K = st Stating e (InArrowCommands s before ns none ∷ K)
+begin_content contents.Reporter s before ns e K = st Begin e (InArrowReporter s before ns ∷ K)
+
+-- a name in brackets: one that has no row may be made where it isn't known
+abbrev pub feed_head_name : Bool → Content → ℕ → Span → Names → Names → Name → Names → List Frame → Step
+feed_head_name true k (suc n) s before ns w e K = go (st (InHead k n s before (ns ++ w ∷ [])) (w ∷ e) K)
+feed_head_name b k n s before ns w e K = stop
+
+-- a name without brackets
+abbrev pub feed_lone_name : Bool → Content → ℕ → Span → Name → Names → List Frame → Step
+feed_lone_name true k (suc n) s w e K = go (st (Behind k s e (w ∷ [])) (w ∷ e) K)
+feed_lone_name b k n s w e K = stop
+
 -- Steps where an expression begins.
 
--- a word that has no row
+-- A word that has no row: a local that is known, or else the first name of a head where a bracket may still become one.
 abbrev pub feed_local : Bool → Name → Span → Names → List Frame → Step
 feed_local true w s e K = go (closed Fixed (leaf (label.Named w) s) e K)
+feed_local false w s e (InBracket r ∷ InNoHead p n ∷ K) = feed_head_name true contents.Reporter n p e [] w e K
 feed_local false w s e K = stop
 
 -- of several right sides only the last may be a call with inputs
@@ -221,6 +251,7 @@ feed_begin e K tok = stop
 abbrev pub feed_opening : Block → Names → List Frame → Tok → Step
 feed_opening blocks.Commands e K (open_bracket s) = go (st Stating e (InStatements s AtBracket e none ∷ K))
 feed_opening blocks.Reporter e K (open_bracket s) = go (st Begin e (InReporter s ∷ K))
+feed_opening (blocks.Arrow k n) e K (open_bracket s) = go (st (Heading k n s) e K)
 feed_opening b e K tok = stop
 
 abbrev pub feed_variable : Bool → Name → Span → Names → List Frame → Step
@@ -276,10 +307,23 @@ abbrev pub feed_whole : Node → Names → Tok → Step
 feed_whole t e (end s) = go (st (Over t) e [])
 feed_whole t e tok = stop
 
+-- after the expression of an arrow block without a head; the arrow makes an empty list a head without names
+abbrev pub feed_no_head : Node → Span → Names → List Frame → Tok → Step
+feed_no_head (node label.List r none) s e K (word w Arrow q) = go (begin_content contents.Reporter s e [] e K)
+feed_no_head t s e K (close_bracket r) = go (supply (node (label.Arrow []) s (one t)) e K)
+feed_no_head t s e K tok = stop
+
+-- after the expression behind a head; the names are those known outside
+abbrev pub feed_arrow_reporter : Node → Span → Names → Names → List Frame → Tok → Step
+feed_arrow_reporter t s before ns K (close_bracket r) = go (supply (node (label.Arrow ns) s (one t)) before K)
+feed_arrow_reporter t s before ns K tok = stop
+
 abbrev pub feed_shut : Shape → Node → Names → List Frame → Tok → Step
 feed_shut x t e (InParen p ∷ K) tok = feed_paren x t p e K tok
 feed_shut x t e (InMinus p s ∷ K) tok = feed_minus t p s e K tok
 feed_shut x t e (InReporter s ∷ K) tok = feed_reporter t s e K tok
+feed_shut x t e (InNoHead s n ∷ K) tok = feed_no_head t s e K tok
+feed_shut x t e (InArrowReporter s before ns ∷ K) tok = feed_arrow_reporter t s before ns K tok
 feed_shut x t e (InBracket s ∷ K) tok = feed_bracket x t s e K tok
 feed_shut x t e [] tok = feed_whole t e tok
 feed_shut x t e K tok = stop
@@ -289,6 +333,11 @@ abbrev pub feed_ending : Ending → Span → Nodes → Names → List Frame → 
 feed_ending AtBracket s ts before K (close_bracket r) = go (supply (node label.Commands s ts) before K)
 feed_ending AtEnd s ts before K (end r) = go (st (Over (node label.Commands s ts)) before K)
 feed_ending k s ts before K tok = stop
+
+-- the token ends the statements of an arrow block
+abbrev pub feed_arrow_ending : Span → Names → Names → Nodes → List Frame → Tok → Step
+feed_arrow_ending s before ns ts K (close_bracket r) = go (supply (node (label.Arrow ns) s (one (node label.Commands s ts))) before K)
+feed_arrow_ending s before ns ts K tok = stop
 
 -- The token begins a statement, on what it is part of.
 abbrev pub feed_statement : Names → List Frame → Tok → Step
@@ -305,6 +354,7 @@ begins_statement tok = false
 
 abbrev pub feed_stating : Names → List Frame → Tok → Step
 feed_stating e (InStatements s k before ts ∷ K) tok = elim (begins_statement tok) [ true ↦ feed_statement e (InStatements s k before ts ∷ K) tok | false ↦ feed_ending k s ts before K tok ]
+feed_stating e (InArrowCommands s before ns ts ∷ K) tok = elim (begins_statement tok) [ true ↦ feed_statement e (InArrowCommands s before ns ts ∷ K) tok | false ↦ feed_arrow_ending s before ns ts K tok ]
 feed_stating e (InStatementParen s ∷ K) tok = feed_statement e (InStatementParen s ∷ K) tok
 feed_stating e K tok = stop
 
@@ -322,10 +372,45 @@ abbrev pub feed_ended : Node → Names → List Frame → Tok → Step
 feed_ended t e (InStatementParen s ∷ K) (close_paren r) = go (end_statement (node label.Paren s (one t)) e K)
 feed_ended t e K tok = stop
 
+-- Right behind the bracket of an arrow block: its head, or else its content begins.
+abbrev pub feed_heading_commands : ℕ → Span → Names → List Frame → Tok → Step
+feed_heading_commands n s e K (word w Arrow r) = go (begin_content contents.Commands s e [] e K)
+feed_heading_commands n s e K (word w Unknown r) = feed_lone_name (not (among w e)) contents.Commands n s w e K
+feed_heading_commands n s e K (open_bracket r) = go (st (InHead contents.Commands n s e []) e K)
+feed_heading_commands n s e K tok = feed_stating e (InArrowCommands s e [] none ∷ K) tok
+
+-- a word that has no row: a local that is known, or else a name
+abbrev pub feed_first : Bool → ℕ → Span → Name → Span → Names → List Frame → Step
+feed_first true n s w r e K = feed_local true w r e (InNoHead s n ∷ K)
+feed_first false n s w r e K = feed_lone_name true contents.Reporter n s w e K
+
+abbrev pub feed_heading_reporter : ℕ → Span → Names → List Frame → Tok → Step
+feed_heading_reporter n s e K (word w Arrow r) = go (begin_content contents.Reporter s e [] e K)
+feed_heading_reporter n s e K (word w Unknown r) = feed_first (among w e) n s w r e K
+feed_heading_reporter n s e K tok = feed_begin e (InNoHead s n ∷ K) tok
+
+abbrev pub feed_heading : Content → ℕ → Span → Names → List Frame → Tok → Step
+feed_heading contents.Commands n s e K tok = feed_heading_commands n s e K tok
+feed_heading contents.Reporter n s e K tok = feed_heading_reporter n s e K tok
+
+-- in the brackets of a head
+abbrev pub feed_in_head : Content → ℕ → Span → Names → Names → Names → List Frame → Tok → Step
+feed_in_head k n s before ns e K (word w Unknown r) = feed_head_name (not (among w e)) k n s before ns w e K
+feed_in_head k n s before ns e K (close_bracket r) = go (st (Behind k s before ns) e K)
+feed_in_head k n s before ns e K tok = stop
+
+-- behind the names of a head
+abbrev pub feed_behind : Content → Span → Names → Names → Names → List Frame → Tok → Step
+feed_behind k s before ns e K (word w Arrow r) = go (begin_content k s before ns e K)
+feed_behind k s before ns e K tok = stop
+
 -- Any token in any mode but those of a chain and of a block that may be missing.
 abbrev pub feed_plain : State → Tok → Step
 feed_plain (st Begin e K) tok = feed_begin e K tok
 feed_plain (st (Opening b) e K) tok = feed_opening b e K tok
+feed_plain (st (Heading k n s) e K) tok = feed_heading k n s e K tok
+feed_plain (st (InHead k n s before ns) e K) tok = feed_in_head k n s before ns e K tok
+feed_plain (st (Behind k s before ns) e K) tok = feed_behind k s before ns e K tok
 feed_plain (st Optional e K) tok = stop
 feed_plain (st Choosing e K) tok = feed_choosing e K tok
 feed_plain (st (Have x t) e K) tok = stop

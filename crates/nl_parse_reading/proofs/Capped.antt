@@ -7,7 +7,7 @@ use Rattle.nl_tree.specs.Tree.{Nodes, depths}
 use Rattle.nl_tree.specs.Tokens.{repeated}
 use Rattle.nl_parse_grammar.specs.declared.pending.Last.{Last}
 use Rattle.nl_parse_grammar.specs.Machine as M
-use Rattle.nl_parse_grammar.specs.Machine.{InBinary, InWith, InNear, InOf, InCall, InLastItem, InLastBlock, InMany, InItems, InParen, InMinus, InReporter, InBracket, InList, InLet, InStatementParen, InStatements}
+use Rattle.nl_parse_grammar.specs.Machine.{InBinary, InWith, InNear, InOf, InCall, InLastItem, InLastBlock, InMany, InItems, InParen, InMinus, InReporter, InNoHead, InArrowReporter, InArrowCommands, InBracket, InList, InLet, InStatementParen, InStatements}
 use Rattle.nl_parse_grammar.specs.Depth.{least_inputs, least_values, frame_depth, stays_literal, whole_depth, begin_depth}
 use Rattle.nl_parse_reading.specs.inner.Limit.{capped}
 use Rattle.nl_parse_reading.specs.inner.View.{need_by}
@@ -18,16 +18,16 @@ use Rattle.nl_parse_reading.proofs.Framed.{frames_push}
 
 -- Inputs.
 
-pub least_of_values : (w : Bool) (n : ℕ) (last : Last) → least_inputs (map (need_by w) (repeated n)) last ≡ max (least_values n) (least_inputs [] last)
-least_of_values w zero last = omega arith
-least_of_values true (suc zero) last = omega arith
-least_of_values false (suc zero) last = omega arith
-least_of_values true (suc (suc n)) last = omega (arith, least_of_values true (suc n) last)
-least_of_values false (suc (suc n)) last = omega (arith, least_of_values false (suc n) last)
+pub least_of_values : (w : Bool) (m n : ℕ) (last : Last) → least_inputs (map (need_by w m) (repeated n)) last ≡ max (least_values n) (least_inputs [] last)
+least_of_values w m zero last = omega arith
+least_of_values true m (suc zero) last = omega arith
+least_of_values false m (suc zero) last = omega arith
+least_of_values true m (suc (suc n)) last = omega (arith, least_of_values true m (suc n) last)
+least_of_values false m (suc (suc n)) last = omega (arith, least_of_values false m (suc n) last)
 
-pub least_behind : (w : Bool) (is : List Input) (n : ℕ) (last : Last) → least_inputs (map (need_by w) (repeated n)) last ≤ least_inputs (map (need_by w) (is ++ repeated n)) last
-least_behind w [] n last = omega arith
-least_behind w (i ∷ is) n last = omega (arith, least_behind w is n last)
+pub least_behind : (w : Bool) (m : ℕ) (is : List Input) (n : ℕ) (last : Last) → least_inputs (map (need_by w m) (repeated n)) last ≤ least_inputs (map (need_by w m) (is ++ repeated n)) last
+least_behind w m [] n last = omega arith
+least_behind w m (i ∷ is) n last = omega (arith, least_behind w m is n last)
 
 -- The whole.
 
@@ -44,6 +44,9 @@ capped_frame (InItems p l s ts) b d = omega arith
 capped_frame (InParen s) b d = omega arith
 capped_frame (InMinus p s) b d = omega arith
 capped_frame (InReporter s) b d = omega arith
+capped_frame (InNoHead s n) b d = omega arith
+capped_frame (InArrowReporter s before ns) b d = omega arith
+capped_frame (InArrowCommands s before ns ts) b d = omega arith
 capped_frame (InBracket s) true d = omega arith
 capped_frame (InBracket s) false d = omega arith
 capped_frame (InList s ts) b d = omega arith

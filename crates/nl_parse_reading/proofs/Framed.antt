@@ -38,6 +38,8 @@ or_true false b h = h
 
 keeps_with : (w : List ℕ) (f : Frame) (e : List (List ℕ)) → among w e ≡ true → among w (names_with f e) ≡ true
 keeps_with w (Frame.Statements s k made ts) e h = among_made w made e ∙ or_true (among w made) (among w e) h
+keeps_with w (Frame.ArrowReporter s ns) e h = among_made w ns e ∙ or_true (among w ns) (among w e) h
+keeps_with w (Frame.ArrowCommands s ns made ts) e h = among_made w made e ∙ or_true (among w made) (among w e) h
 keeps_with w f e h = h
 
 keeps : (w : List ℕ) (fs : List Frame) (e : List (List ℕ)) → among w e ≡ true → among w (names_onto fs e) ≡ true
@@ -53,4 +55,6 @@ some_makes w (g ∷ fs) (suc k) f h q r e = some_makes w fs k f (omega (arith, h
 -- what an operator ends makes no name
 pub closed_makes_none : (l : ℕ) (f : Frame) (e : List (List ℕ)) → M.closes l (frame_of e f) ≡ true → names_with f e ≡ e
 closed_makes_none l (Frame.Statements s k made ts) e h = cc h
+closed_makes_none l (Frame.ArrowReporter s ns) e h = cc h
+closed_makes_none l (Frame.ArrowCommands s ns made ts) e h = cc h
 closed_makes_none l f e h = refl

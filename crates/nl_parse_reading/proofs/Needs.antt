@@ -10,33 +10,33 @@ pub one_less_value : (n : ℕ) → (n ≡ 0 → ⊥) → T.repeated n ≡ input.
 one_less_value zero h = absurd (h refl)
 one_less_value (suc n) h = ap (λ k. input.Value ∷ T.repeated k) (omega arith)
 
-values_stay : (w : Bool) (n : ℕ) → without_maybes (map (need_by w) (T.repeated n)) ≡ map (need_by w) (T.repeated n)
-values_stay w zero = refl
-values_stay true (suc n) = refl
-values_stay false (suc n) = refl
+values_stay : (w : Bool) (m n : ℕ) → without_maybes (map (need_by w m) (T.repeated n)) ≡ map (need_by w m) (T.repeated n)
+values_stay w m zero = refl
+values_stay true m (suc n) = refl
+values_stay false m (suc n) = refl
 
-pub without_maybes_view : (w : Bool) (is : List Input) (n : ℕ) → map (need_by w) (behind_maybes is ++ T.repeated n) ≡ without_maybes (map (need_by w) (is ++ T.repeated n))
-without_maybes_view w [] n = sym (values_stay w n)
-without_maybes_view true (input.Value ∷ is) n = refl
-without_maybes_view true (input.Expression ∷ is) n = refl
-without_maybes_view true (input.Commands ∷ is) n = refl
-without_maybes_view true (input.MaybeCommands ∷ is) n = without_maybes_view true is n
-without_maybes_view true (input.Reporter ∷ is) n = refl
-without_maybes_view true (input.Variable ∷ is) n = refl
-without_maybes_view true (input.ArrowCommands ∷ is) n = refl
-without_maybes_view true (input.ArrowReporter ∷ is) n = refl
-without_maybes_view true (input.Cases ∷ is) n = refl
-without_maybes_view true (input.Fresh ∷ is) n = refl
-without_maybes_view false (input.Value ∷ is) n = refl
-without_maybes_view false (input.Expression ∷ is) n = refl
-without_maybes_view false (input.Commands ∷ is) n = refl
-without_maybes_view false (input.MaybeCommands ∷ is) n = without_maybes_view false is n
-without_maybes_view false (input.Reporter ∷ is) n = refl
-without_maybes_view false (input.Variable ∷ is) n = refl
-without_maybes_view false (input.ArrowCommands ∷ is) n = refl
-without_maybes_view false (input.ArrowReporter ∷ is) n = refl
-without_maybes_view false (input.Cases ∷ is) n = refl
-without_maybes_view false (input.Fresh ∷ is) n = refl
+pub without_maybes_view : (w : Bool) (m : ℕ) (is : List Input) (n : ℕ) → map (need_by w m) (behind_maybes is ++ T.repeated n) ≡ without_maybes (map (need_by w m) (is ++ T.repeated n))
+without_maybes_view w m [] n = sym (values_stay w m n)
+without_maybes_view true m (input.Value ∷ is) n = refl
+without_maybes_view true m (input.Expression ∷ is) n = refl
+without_maybes_view true m (input.Commands ∷ is) n = refl
+without_maybes_view true m (input.MaybeCommands ∷ is) n = without_maybes_view true m is n
+without_maybes_view true m (input.Reporter ∷ is) n = refl
+without_maybes_view true m (input.Variable ∷ is) n = refl
+without_maybes_view true m (input.ArrowCommands ∷ is) n = refl
+without_maybes_view true m (input.ArrowReporter ∷ is) n = refl
+without_maybes_view true m (input.Cases ∷ is) n = refl
+without_maybes_view true m (input.Fresh ∷ is) n = refl
+without_maybes_view false m (input.Value ∷ is) n = refl
+without_maybes_view false m (input.Expression ∷ is) n = refl
+without_maybes_view false m (input.Commands ∷ is) n = refl
+without_maybes_view false m (input.MaybeCommands ∷ is) n = without_maybes_view false m is n
+without_maybes_view false m (input.Reporter ∷ is) n = refl
+without_maybes_view false m (input.Variable ∷ is) n = refl
+without_maybes_view false m (input.ArrowCommands ∷ is) n = refl
+without_maybes_view false m (input.ArrowReporter ∷ is) n = refl
+without_maybes_view false m (input.Cases ∷ is) n = refl
+without_maybes_view false m (input.Fresh ∷ is) n = refl
 
 pub one_less : (n : ℕ) → (n ≡ 0 → ⊥) → n ≡ suc (n - 1)
 one_less n h = grind (arith, h)

@@ -6,6 +6,7 @@ use Rattle.nl_words.specs.declared.entry.Input.{Input}
 use Rattle.nl_words.specs.declared.entry.Input.TheVariants as input
 use Rattle.nl_tree.specs.Tokens.{Prefix, Many, Closing, Command, Let, With, Nowhere, need_of_command, need_of_reporter, repeated, before, last_need, is_new, reporter_of, reporter_class, one_more, many_class, command_class, near_class}
 use Rattle.nl_tree.specs.declared.needs.Block.TheVariants as blocks
+use Rattle.nl_tree.specs.declared.needs.Content.TheVariants as contents
 use Rattle.nl_parse_reading.specs.inner.View.{need_by}
 use Rattle.nl_parse_reading.specs.inner.Counts.{are_values, is_let, is_value, is_with, near_by}
 
@@ -21,29 +22,29 @@ pub no_let : (n : ℕ) → is_let (repeated n) ≡ false
 no_let zero = refl
 no_let (suc n) = refl
 
-pub let_class : (is : List Input) → is_let is ≡ true → command_class is ≡ Let
-let_class [] h = cc h
-let_class (input.Fresh ∷ []) h = cc h
-let_class (input.Fresh ∷ input.Value ∷ []) h = refl
-let_class (input.Fresh ∷ input.Value ∷ i ∷ is) h = cc h
-let_class (input.Fresh ∷ input.Expression ∷ is) h = cc h
-let_class (input.Fresh ∷ input.Commands ∷ is) h = cc h
-let_class (input.Fresh ∷ input.MaybeCommands ∷ is) h = cc h
-let_class (input.Fresh ∷ input.Reporter ∷ is) h = cc h
-let_class (input.Fresh ∷ input.Variable ∷ is) h = cc h
-let_class (input.Fresh ∷ input.ArrowCommands ∷ is) h = cc h
-let_class (input.Fresh ∷ input.ArrowReporter ∷ is) h = cc h
-let_class (input.Fresh ∷ input.Cases ∷ is) h = cc h
-let_class (input.Fresh ∷ input.Fresh ∷ is) h = cc h
-let_class (input.Value ∷ is) h = cc h
-let_class (input.Expression ∷ is) h = cc h
-let_class (input.Commands ∷ is) h = cc h
-let_class (input.MaybeCommands ∷ is) h = cc h
-let_class (input.Reporter ∷ is) h = cc h
-let_class (input.Variable ∷ is) h = cc h
-let_class (input.ArrowCommands ∷ is) h = cc h
-let_class (input.ArrowReporter ∷ is) h = cc h
-let_class (input.Cases ∷ is) h = cc h
+pub let_class : (m : ℕ) (is : List Input) → is_let is ≡ true → command_class m is ≡ Let
+let_class m [] h = cc h
+let_class m (input.Fresh ∷ []) h = cc h
+let_class m (input.Fresh ∷ input.Value ∷ []) h = refl
+let_class m (input.Fresh ∷ input.Value ∷ i ∷ is) h = cc h
+let_class m (input.Fresh ∷ input.Expression ∷ is) h = cc h
+let_class m (input.Fresh ∷ input.Commands ∷ is) h = cc h
+let_class m (input.Fresh ∷ input.MaybeCommands ∷ is) h = cc h
+let_class m (input.Fresh ∷ input.Reporter ∷ is) h = cc h
+let_class m (input.Fresh ∷ input.Variable ∷ is) h = cc h
+let_class m (input.Fresh ∷ input.ArrowCommands ∷ is) h = cc h
+let_class m (input.Fresh ∷ input.ArrowReporter ∷ is) h = cc h
+let_class m (input.Fresh ∷ input.Cases ∷ is) h = cc h
+let_class m (input.Fresh ∷ input.Fresh ∷ is) h = cc h
+let_class m (input.Value ∷ is) h = cc h
+let_class m (input.Expression ∷ is) h = cc h
+let_class m (input.Commands ∷ is) h = cc h
+let_class m (input.MaybeCommands ∷ is) h = cc h
+let_class m (input.Reporter ∷ is) h = cc h
+let_class m (input.Variable ∷ is) h = cc h
+let_class m (input.ArrowCommands ∷ is) h = cc h
+let_class m (input.ArrowReporter ∷ is) h = cc h
+let_class m (input.Cases ∷ is) h = cc h
 
 -- values are no new names
 pub new_listed : (is : List Input) (n : ℕ) → list_any is_new (is ++ repeated n) ≡ list_any is_new is
@@ -51,41 +52,41 @@ new_listed [] zero = refl
 new_listed [] (suc n) = new_listed [] n
 new_listed (i ∷ is) n = ap (λ b. is_new i || b) (new_listed is n)
 
-guarded : (is : List Input) → is_let is ≡ false → command_class is ≡ (if list_any is_new is then Nowhere else Command (map need_of_command is))
-guarded [] h = refl
-guarded (input.Fresh ∷ []) h = refl
-guarded (input.Fresh ∷ input.Value ∷ []) h = cc h
-guarded (input.Fresh ∷ input.Value ∷ i ∷ is) h = refl
-guarded (input.Fresh ∷ input.Expression ∷ is) h = refl
-guarded (input.Fresh ∷ input.Commands ∷ is) h = refl
-guarded (input.Fresh ∷ input.MaybeCommands ∷ is) h = refl
-guarded (input.Fresh ∷ input.Reporter ∷ is) h = refl
-guarded (input.Fresh ∷ input.Variable ∷ is) h = refl
-guarded (input.Fresh ∷ input.ArrowCommands ∷ is) h = refl
-guarded (input.Fresh ∷ input.ArrowReporter ∷ is) h = refl
-guarded (input.Fresh ∷ input.Cases ∷ is) h = refl
-guarded (input.Fresh ∷ input.Fresh ∷ is) h = refl
-guarded (input.Value ∷ is) h = refl
-guarded (input.Expression ∷ is) h = refl
-guarded (input.Commands ∷ is) h = refl
-guarded (input.MaybeCommands ∷ is) h = refl
-guarded (input.Reporter ∷ is) h = refl
-guarded (input.Variable ∷ is) h = refl
-guarded (input.ArrowCommands ∷ is) h = refl
-guarded (input.ArrowReporter ∷ is) h = refl
-guarded (input.Cases ∷ is) h = refl
+guarded : (m : ℕ) (is : List Input) → is_let is ≡ false → command_class m is ≡ (if list_any is_new is then Nowhere else Command (map (need_of_command m) is))
+guarded m [] h = refl
+guarded m (input.Fresh ∷ []) h = refl
+guarded m (input.Fresh ∷ input.Value ∷ []) h = cc h
+guarded m (input.Fresh ∷ input.Value ∷ i ∷ is) h = refl
+guarded m (input.Fresh ∷ input.Expression ∷ is) h = refl
+guarded m (input.Fresh ∷ input.Commands ∷ is) h = refl
+guarded m (input.Fresh ∷ input.MaybeCommands ∷ is) h = refl
+guarded m (input.Fresh ∷ input.Reporter ∷ is) h = refl
+guarded m (input.Fresh ∷ input.Variable ∷ is) h = refl
+guarded m (input.Fresh ∷ input.ArrowCommands ∷ is) h = refl
+guarded m (input.Fresh ∷ input.ArrowReporter ∷ is) h = refl
+guarded m (input.Fresh ∷ input.Cases ∷ is) h = refl
+guarded m (input.Fresh ∷ input.Fresh ∷ is) h = refl
+guarded m (input.Value ∷ is) h = refl
+guarded m (input.Expression ∷ is) h = refl
+guarded m (input.Commands ∷ is) h = refl
+guarded m (input.MaybeCommands ∷ is) h = refl
+guarded m (input.Reporter ∷ is) h = refl
+guarded m (input.Variable ∷ is) h = refl
+guarded m (input.ArrowCommands ∷ is) h = refl
+guarded m (input.ArrowReporter ∷ is) h = refl
+guarded m (input.Cases ∷ is) h = refl
 
-pub other_class : (is : List Input) (n : ℕ) → is_let (is ++ repeated n) ≡ false → list_any is_new is ≡ false → command_class (is ++ repeated n) ≡ Command (map need_of_command (is ++ repeated n))
-other_class is n h k = guarded (is ++ repeated n) h ∙ ap (λ b. if b then Nowhere else Command (map need_of_command (is ++ repeated n))) (new_listed is n ∙ k)
+pub other_class : (m : ℕ) (is : List Input) (n : ℕ) → is_let (is ++ repeated n) ≡ false → list_any is_new is ≡ false → command_class m (is ++ repeated n) ≡ Command (map (need_of_command m) (is ++ repeated n))
+other_class m is n h k = guarded m (is ++ repeated n) h ∙ ap (λ b. if b then Nowhere else Command (map (need_of_command m) (is ++ repeated n))) (new_listed is n ∙ k)
 
-pub new_command : (is : List Input) (n : ℕ) → is_let (is ++ repeated n) ≡ false → list_any is_new is ≡ true → command_class (is ++ repeated n) ≡ Nowhere
-new_command is n h k = guarded (is ++ repeated n) h ∙ ap (λ b. if b then Nowhere else Command (map need_of_command (is ++ repeated n))) (new_listed is n ∙ k)
+pub new_command : (m : ℕ) (is : List Input) (n : ℕ) → is_let (is ++ repeated n) ≡ false → list_any is_new is ≡ true → command_class m (is ++ repeated n) ≡ Nowhere
+new_command m is n h k = guarded m (is ++ repeated n) h ∙ ap (λ b. if b then Nowhere else Command (map (need_of_command m) (is ++ repeated n))) (new_listed is n ∙ k)
 
-pub new_reporter : (is : List Input) (n : ℕ) → list_any is_new is ≡ true → reporter_class (is ++ repeated n) ≡ Nowhere
-new_reporter is n k = ap (λ b. if b then Nowhere else reporter_of (is ++ repeated n)) (new_listed is n ∙ k)
+pub new_reporter : (m : ℕ) (is : List Input) (n : ℕ) → list_any is_new is ≡ true → reporter_class m (is ++ repeated n) ≡ Nowhere
+new_reporter m is n k = ap (λ b. if b then Nowhere else reporter_of m (is ++ repeated n)) (new_listed is n ∙ k)
 
-pub other_reporter : (is : List Input) (n : ℕ) → list_any is_new is ≡ false → reporter_class (is ++ repeated n) ≡ reporter_of (is ++ repeated n)
-other_reporter is n k = ap (λ b. if b then Nowhere else reporter_of (is ++ repeated n)) (new_listed is n ∙ k)
+pub other_reporter : (m : ℕ) (is : List Input) (n : ℕ) → list_any is_new is ≡ false → reporter_class m (is ++ repeated n) ≡ reporter_of m (is ++ repeated n)
+other_reporter m is n k = ap (λ b. if b then Nowhere else reporter_of m (is ++ repeated n)) (new_listed is n ∙ k)
 
 pub one_count : (is : List Input) (n : ℕ) → is ≡ repeated n → is_value is ≡ nat_eq n 1
 one_count is n q = subst (λ js. is_value js ≡ nat_eq n 1) (sym q) (at n)
@@ -175,35 +176,51 @@ repeated_last [] zero = refl
 repeated_last [] (suc n) = ap (λ js. input.Value ∷ js) (repeated_last [] n)
 repeated_last (i ∷ is) n = ap (λ js. i ∷ js) (repeated_last is n)
 
-pub item_last : (is : List Input) → reporter_of (is ++ input.Value ∷ []) ≡ Prefix (map need_of_reporter is)
-item_last [] = refl
-item_last (j ∷ []) = refl
-item_last (j ∷ k ∷ is) = ap (before (need_of_reporter j)) (item_last (k ∷ is))
+pub item_last : (m : ℕ) (is : List Input) → reporter_of m (is ++ input.Value ∷ []) ≡ Prefix (map (need_of_reporter m) is)
+item_last m [] = refl
+item_last m (j ∷ []) = refl
+item_last m (j ∷ k ∷ is) = ap (before (need_of_reporter m j)) (item_last m (k ∷ is))
 
-pub commands_last : (is : List Input) → reporter_of (is ++ input.Commands ∷ []) ≡ Closing (map need_of_reporter is) blocks.Commands
-commands_last [] = refl
-commands_last (j ∷ []) = refl
-commands_last (j ∷ k ∷ is) = ap (before (need_of_reporter j)) (commands_last (k ∷ is))
+pub commands_last : (m : ℕ) (is : List Input) → reporter_of m (is ++ input.Commands ∷ []) ≡ Closing (map (need_of_reporter m) is) blocks.Commands
+commands_last m [] = refl
+commands_last m (j ∷ []) = refl
+commands_last m (j ∷ k ∷ is) = ap (before (need_of_reporter m j)) (commands_last m (k ∷ is))
 
-pub reporter_last : (is : List Input) → reporter_of (is ++ input.Reporter ∷ []) ≡ Closing (map need_of_reporter is) blocks.Reporter
-reporter_last [] = refl
-reporter_last (j ∷ []) = refl
-reporter_last (j ∷ k ∷ is) = ap (before (need_of_reporter j)) (reporter_last (k ∷ is))
+pub reporter_last : (m : ℕ) (is : List Input) → reporter_of m (is ++ input.Reporter ∷ []) ≡ Closing (map (need_of_reporter m) is) blocks.Reporter
+reporter_last m [] = refl
+reporter_last m (j ∷ []) = refl
+reporter_last m (j ∷ k ∷ is) = ap (before (need_of_reporter m j)) (reporter_last m (k ∷ is))
 
-pub other_last : (is : List Input) (i : Input) → last_need (need_of_reporter i) ≡ Nowhere → reporter_of (is ++ i ∷ []) ≡ Nowhere
-other_last [] i h = h
-other_last (j ∷ []) i h = ap (before (need_of_reporter j)) h
-other_last (j ∷ k ∷ is) i h = ap (before (need_of_reporter j)) (other_last (k ∷ is) i h)
+pub arrow_commands_last : (m : ℕ) (is : List Input) → reporter_of m (is ++ input.ArrowCommands ∷ []) ≡ Closing (map (need_of_reporter m) is) (blocks.Arrow contents.Commands m)
+arrow_commands_last m [] = refl
+arrow_commands_last m (j ∷ []) = refl
+arrow_commands_last m (j ∷ k ∷ is) = ap (before (need_of_reporter m j)) (arrow_commands_last m (k ∷ is))
+
+pub arrow_reporter_last : (m : ℕ) (is : List Input) → reporter_of m (is ++ input.ArrowReporter ∷ []) ≡ Closing (map (need_of_reporter m) is) (blocks.Arrow contents.Reporter m)
+arrow_reporter_last m [] = refl
+arrow_reporter_last m (j ∷ []) = refl
+arrow_reporter_last m (j ∷ k ∷ is) = ap (before (need_of_reporter m j)) (arrow_reporter_last m (k ∷ is))
+
+pub other_last : (m : ℕ) (is : List Input) (i : Input) → last_need (need_of_reporter m i) ≡ Nowhere → reporter_of m (is ++ i ∷ []) ≡ Nowhere
+other_last m [] i h = h
+other_last m (j ∷ []) i h = ap (before (need_of_reporter m j)) h
+other_last m (j ∷ k ∷ is) i h = ap (before (need_of_reporter m j)) (other_last m (k ∷ is) i h)
 
 -- the same of inputs that are listed, with no values behind them
-pub item_closed : (is : List Input) → Prefix (map (need_by false) (is ++ repeated 0)) ≡ reporter_of (is ++ input.Value ∷ [])
-item_closed is = ap (λ js. Prefix (map need_of_reporter js)) (append-nil is) ∙ sym (item_last is)
+pub item_closed : (m : ℕ) (is : List Input) → Prefix (map (need_by false m) (is ++ repeated 0)) ≡ reporter_of m (is ++ input.Value ∷ [])
+item_closed m is = ap (λ js. Prefix (map (need_of_reporter m) js)) (append-nil is) ∙ sym (item_last m is)
 
-pub commands_closed : (is : List Input) → Closing (map (need_by false) (is ++ repeated 0)) blocks.Commands ≡ reporter_of (is ++ input.Commands ∷ [])
-commands_closed is = ap (λ js. Closing (map need_of_reporter js) blocks.Commands) (append-nil is) ∙ sym (commands_last is)
+pub commands_closed : (m : ℕ) (is : List Input) → Closing (map (need_by false m) (is ++ repeated 0)) blocks.Commands ≡ reporter_of m (is ++ input.Commands ∷ [])
+commands_closed m is = ap (λ js. Closing (map (need_of_reporter m) js) blocks.Commands) (append-nil is) ∙ sym (commands_last m is)
 
-pub reporter_closed : (is : List Input) → Closing (map (need_by false) (is ++ repeated 0)) blocks.Reporter ≡ reporter_of (is ++ input.Reporter ∷ [])
-reporter_closed is = ap (λ js. Closing (map need_of_reporter js) blocks.Reporter) (append-nil is) ∙ sym (reporter_last is)
+pub reporter_closed : (m : ℕ) (is : List Input) → Closing (map (need_by false m) (is ++ repeated 0)) blocks.Reporter ≡ reporter_of m (is ++ input.Reporter ∷ [])
+reporter_closed m is = ap (λ js. Closing (map (need_of_reporter m) js) blocks.Reporter) (append-nil is) ∙ sym (reporter_last m is)
+
+pub arrow_commands_closed : (m : ℕ) (is : List Input) → Closing (map (need_by false m) (is ++ repeated 0)) (blocks.Arrow contents.Commands m) ≡ reporter_of m (is ++ input.ArrowCommands ∷ [])
+arrow_commands_closed m is = ap (λ js. Closing (map (need_of_reporter m) js) (blocks.Arrow contents.Commands m)) (append-nil is) ∙ sym (arrow_commands_last m is)
+
+pub arrow_reporter_closed : (m : ℕ) (is : List Input) → Closing (map (need_by false m) (is ++ repeated 0)) (blocks.Arrow contents.Reporter m) ≡ reporter_of m (is ++ input.ArrowReporter ∷ [])
+arrow_reporter_closed m is = ap (λ js. Closing (map (need_of_reporter m) js) (blocks.Arrow contents.Reporter m)) (append-nil is) ∙ sym (arrow_reporter_last m is)
 
 -- the last of inputs that are listed stands apart
 pub apart : (is : List Input) (n : ℕ) → 1 ≤ length is → n ≤ 0 → take (length is - 1) is ++ get_or is (length is - 1) input.Value ∷ [] ≡ is ++ repeated n

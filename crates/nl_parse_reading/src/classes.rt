@@ -2,14 +2,15 @@
 ghost use Rattle.std.specs.Prelude.{◌≡◌, [], ◌∷◌, ◌++◌, ℕ, MatchOption};
 ghost use Rattle.std.specs.List.{list_any};
 ghost use Rattle.std.specs.Option.{option_map};
-ghost use Rattle.nl_words.specs.Table.{has_turns};
+ghost use Rattle.nl_fixed.specs.Nouns.{Name};
+ghost use Rattle.nl_words.specs.declared.entry.Role.TheVariants as role;
 ghost use Rattle.nl_tree.specs.Index.{named};
-ghost use Rattle.nl_tree.specs.Tokens.{repeated, class_of, command_class, is_new, many_class, reporter_class, reporter_of, near_class, operator_class, class_by};
+ghost use Rattle.nl_tree.specs.Tokens.{repeated, class_of, command_class, is_new, many_class, names_of, reporter_class, reporter_of, reserved_class, near_class, operator_class, class_by};
 ghost use Rattle.nl_parse_reading.specs.inner.View as V;
 ghost use Rattle.nl_parse_reading.specs.inner.Counts.{are_values, is_let, is_value, is_with, near_by};
 
 use crate::marks::{Class, Inputs};
-use nl_tree::{Block, Word};
+use nl_tree::{Block, Content, Word};
 use nl_words::{Input, Role, Turns};
 
 /// What the row of a word of this name makes of it, or that it has none.
@@ -17,56 +18,70 @@ pub fn class_of_word(name: &[u8], row: Option<Word>) -> Class
     ensures { V.class_of result ≡ class_of (option_map (named name.now) row) }
 {
     match row {
-        Some(word) => {
-            // No text has arrow blocks yet.
-            if has_turns(word.turns) {
-                return Class::Nowhere;
-            }
-            class_of_row(word, name == b"-".as_slice())
-        }
+        Some(word) => class_of_row(name, word),
         None => Class::Unknown,
     }
 }
 
-// Whether the word has an arrow block, which is run or evaluated in turns.
-fn has_turns(turns: Turns) -> bool
-    ensures { result ≡ has_turns turns }
+// How many names the head of its arrow block has at most: as many as a turn has values. Without parentheses there is one list.
+fn names_of(turns: Turns) -> u64
+    ensures { result ≡ names_of turns }
 {
-    !matches!(turns, Turns::NoTurn)
+    match turns {
+        Turns::NoTurn => 0,
+        Turns::OneValue => 1,
+        Turns::TwoValues => 2,
+        Turns::ValueOfEachList => 1,
+    }
 }
 
-// What a row makes of a word, which may be the minus sign.
-fn class_of_row(word: Word, minus: bool) -> Class
+// What a row makes of a word of this name.
+fn class_of_row(name: &[u8], word: Word) -> Class
     ensures { V.class_of result
-        ≡ class_by word.role word.many minus (word.inputs.now ++ repeated word.values) }
+        ≡ class_by name.now word.role word.many (names_of word.turns)
+        (word.inputs.now ++ repeated word.values) }
 {
     let Word {
         role,
         inputs,
         values,
         many,
+        turns,
         ..
     } = word;
+    let names = names_of(turns);
     match role {
-        Role::Command => command_class(inputs, values),
-        Role::Reporter => {
-            if many {
-                many_class(inputs, values)
-            } else {
-                reporter_class(inputs, values)
-            }
-        }
-        Role::Operator(level) => operator_class(level, minus, inputs, values),
+        Role::Command => command_class(inputs, values, names),
+        Role::Reporter => reporter_by(many, inputs, values, names),
+        Role::Operator(level) => operator_class(level, name == b"-".as_slice(), inputs, values),
         Role::Constant => Class::Constant,
         Role::Variable => Class::Named,
-        Role::Reserved => Class::Nowhere,
+        Role::Reserved => reserved_class(name == b"->".as_slice()),
     }
+}
+
+// A word that is reserved, which may be the arrow.
+fn reserved_class(arrow: bool) -> Class
+    ensures { V.class_of result ≡ reserved_class arrow }
+{
+    if arrow { Class::Arrow } else { Class::Nowhere }
+}
+
+// A reporter, which may have any number of inputs in parentheses. With turns it has its usual ones without them.
+fn reporter_by(many: bool, listed: &'static [Input], values: u32, names: u64) -> Class
+    ensures { (name : Name) → V.class_of result
+        ≡ class_by name role.Reporter many names (listed.now ++ repeated values) }
+{
+    if many && names == 0 {
+        return many_class(listed, values);
+    }
+    reporter_class(listed, values, names)
 }
 
 // A command. With a new name among its inputs it is `let`, or may stand nowhere.
 #[tactic(auto, using(crate::proofs::Rows::let_class, crate::proofs::Rows::new_command, crate::proofs::Rows::other_class))]
-fn command_class(listed: &'static [Input], values: u32) -> Class
-    ensures { V.class_of result ≡ command_class (listed.now ++ repeated values) }
+fn command_class(listed: &'static [Input], values: u32, names: u64) -> Class
+    ensures { V.class_of result ≡ command_class names (listed.now ++ repeated values) }
 {
     if is_let(listed, values) {
         return Class::Let;
@@ -78,6 +93,7 @@ fn command_class(listed: &'static [Input], values: u32) -> Class
         listed,
         values,
         whole: true,
+        names,
     })
 }
 
@@ -158,47 +174,51 @@ fn are_values(listed: &'static [Input]) -> bool
 
 // A reporter, which asks for no new name.
 #[tactic(auto, using(crate::proofs::Rows::new_reporter, crate::proofs::Rows::other_reporter))]
-fn reporter_class(listed: &'static [Input], values: u32) -> Class
-    ensures { V.class_of result ≡ reporter_class (listed.now ++ repeated values) }
+fn reporter_class(listed: &'static [Input], values: u32, names: u64) -> Class
+    ensures { V.class_of result ≡ reporter_class names (listed.now ++ repeated values) }
 {
     if asks_new_name(listed) {
         return Class::Nowhere;
     }
-    reporter_of(listed, values)
+    reporter_of(listed, values, names)
 }
 
 // A reporter, whose last input is told apart from those before it.
 #[tactic(auto, using(crate::proofs::Rows::repeated_last, crate::proofs::Rows::item_last))]
-fn reporter_of(listed: &'static [Input], values: u32) -> Class
-    ensures { V.class_of result ≡ reporter_of (listed.now ++ repeated values) }
+fn reporter_of(listed: &'static [Input], values: u32, names: u64) -> Class
+    ensures { V.class_of result ≡ reporter_of names (listed.now ++ repeated values) }
 {
     if values > 0 {
         return Class::Prefix(Inputs {
             listed,
             values: values - 1,
             whole: false,
+            names,
         });
     }
     match listed {
         [] => Class::Plain,
-        [before @ .., last] => closed_class(before, *last),
+        [before @ .., last] => closed_class(before, names, *last),
     }
 }
 
 // A reporter with these inputs and a last one.
-#[tactic(auto, using(crate::proofs::Rows::item_closed, crate::proofs::Rows::commands_closed, crate::proofs::Rows::reporter_closed, crate::proofs::Rows::other_last))]
-fn closed_class(listed: &'static [Input], last: Input) -> Class
-    ensures { V.class_of result ≡ reporter_of (listed.now ++ last ∷ []) }
+#[tactic(auto, using(crate::proofs::Rows::item_closed, crate::proofs::Rows::commands_closed, crate::proofs::Rows::reporter_closed, crate::proofs::Rows::arrow_commands_closed, crate::proofs::Rows::arrow_reporter_closed, crate::proofs::Rows::other_last))]
+fn closed_class(listed: &'static [Input], names: u64, last: Input) -> Class
+    ensures { V.class_of result ≡ reporter_of names (listed.now ++ last ∷ []) }
 {
     let before = Inputs {
         listed,
         values: 0,
         whole: false,
+        names,
     };
     match last {
         Input::Value => Class::Prefix(before),
         Input::Commands => Class::Closing(before, Block::Commands),
         Input::Reporter => Class::Closing(before, Block::Reporter),
+        Input::ArrowCommands => Class::Closing(before, Block::Arrow(Content::Commands, names)),
+        Input::ArrowReporter => Class::Closing(before, Block::Arrow(Content::Reporter, names)),
         _ => Class::Nowhere,
     }
 }

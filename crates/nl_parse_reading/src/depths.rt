@@ -32,14 +32,17 @@ fn least_block(block: Block) -> u32
     match block {
         Block::Commands => 1,
         Block::Reporter => 2,
+        Block::Arrow(_, _) => 2,
     }
 }
 
 fn least_input(whole: bool, input: Input) -> u32
-    ensures { result ≡ least_input (need_by whole input) }
+    ensures { (names : ℕ) → result ≡ least_input (need_by whole names input) }
 {
     match input {
         Input::Reporter => 2,
+        Input::ArrowCommands => 2,
+        Input::ArrowReporter => 2,
         Input::MaybeCommands => 0,
         _ => 1,
     }
@@ -100,6 +103,11 @@ fn frame_depth(frame: &Frame, literal: bool, depth: u32) -> u32
         Frame::Paren(_) => deeper(depth),
         Frame::Minus(_, _) => deeper(deeper(depth)),
         Frame::Reporter(_) => deeper(depth),
+        Frame::NoHead(_, _) => deeper(depth),
+        Frame::ArrowReporter(_, _) => deeper(depth),
+        Frame::ArrowCommands(_, _, _, statements) => {
+            deeper(deeper(statements.depth().max(depth)))
+        }
         Frame::Bracket(_) => bracket_depth(literal, depth),
         Frame::List(_, items) => deeper(items.depth().max(depth)),
         Frame::Let(_, _) => deeper(depth.max(1)),
@@ -275,11 +283,14 @@ fn is_literal(shape: Shape) -> bool
 #[tactic(auto, using(crate::proofs::Capped::capped_whole))]
 pub fn least_depth(mode: &Mode, frames: &[Frame]) -> u32
     ensures { (names : Names) →
-        IsDepth result (λ K. least_depth (st (mode_of mode.now) names K)) frames.now }
+        (e : Names) → IsDepth result (λ K. least_depth (st (mode_of e mode.now) names K)) frames.now }
 {
     match mode {
         Mode::Begin => begin_depth(frames),
         Mode::Opening(block) => whole_depth(false, least_block(*block), frames),
+        Mode::Heading(_, _, _) => whole_depth(false, 2, frames),
+        Mode::InHead(_, _, _, _) => whole_depth(false, 2, frames),
+        Mode::Behind(_, _, _) => whole_depth(false, 2, frames),
         Mode::Optional => optional_depth(frames),
         Mode::Choosing => whole_depth(false, 1, frames),
         Mode::Have(shape, tree) => whole_depth(is_literal(*shape), tree.depth(), frames),

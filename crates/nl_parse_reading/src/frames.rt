@@ -9,9 +9,9 @@ ghost use Rattle.nl_parse_reading.specs.inner.Known.{Makes};
 use crate::known_names::KnownNames;
 use crate::marks::{Head, Inputs};
 use crate::parts::{Grouped, Grown};
-use nl_fixed::{NoMemory, Span, Str};
+use nl_fixed::{Names, NoMemory, Span, Str};
 use nl_parse_grammar::{Last, Shape};
-use nl_tree::{Block, Ending, Label, Need};
+use nl_tree::{Block, Content, Ending, Label, Need};
 use std::alloc::Global;
 
 /// How many levels of operators stand over items: 4 to 9.
@@ -39,6 +39,12 @@ pub enum Frame {
     /// Parentheses, and the place of the minus sign behind the bracket.
     Minus(Span, Span),
     Reporter(Span),
+    /// An arrow block without a head so far: an expression that may still become a head of so many names.
+    NoHead(Span, u64),
+    /// An expression in an arrow block behind its head, and the names of the head.
+    ArrowReporter(Span, KnownNames),
+    /// Statements in an arrow block behind its head, the names of the head, and those with the names that they made, newest last.
+    ArrowCommands(Span, Names, KnownNames, Grouped),
     /// A literal list or the block of an `of`.
     Bracket(Span),
     List(Span, Grouped),
@@ -56,6 +62,12 @@ pub enum Mode {
     Begin,
     /// A block.
     Opening(Block),
+    /// A head of at most so many names, or the content of an arrow block without one, right behind the bracket that opens the block.
+    Heading(Content, u64, Span),
+    /// A name of a head in brackets, of which at most so many follow, or what closes those. With the block's bracket and the names so far.
+    InHead(Content, u64, Span, KnownNames),
+    /// The arrow, behind these names of a head. With the block's bracket.
+    Behind(Content, Span, KnownNames),
     /// A block of commands, or what follows where it is missing.
     Optional,
     /// The name of a variable.
@@ -82,7 +94,7 @@ pub enum Mode {
 
 /// How an input begins.
 pub fn begin_mode(need: Need) -> Mode
-    ensures mode { mode_of result ≡ begin_mode need }
+    ensures mode { (e : Names) → mode_of e result ≡ begin_mode need }
     ensures names { (e : Names) → mode_names result e ≡ e }
 {
     match need {
@@ -117,6 +129,8 @@ pub fn takes_operator(frame: &Frame) -> bool
         Frame::Call(_, _, Need::Whole, _, _) => true,
         Frame::Paren(_) => true,
         Frame::Reporter(_) => true,
+        Frame::NoHead(_, _) => true,
+        Frame::ArrowReporter(_, _) => true,
         Frame::Bracket(_) => true,
         Frame::Let(_, _) => true,
         _ => false,
@@ -148,6 +162,8 @@ pub fn makes_name(frame: &Frame, name: &[u8]) -> bool
 {
     match frame {
         Frame::Statements(_, _, made, _) => made.has(name),
+        Frame::ArrowReporter(_, names) => names.has(name),
+        Frame::ArrowCommands(_, _, made, _) => made.has(name),
         _ => false,
     }
 }

@@ -6,11 +6,14 @@ ghost use Rattle.nl_parse_reading.specs.inner.Reading.{maybe_over, mode_names, n
 use crate::frames::{Frame, Mode, TOP, closes, makes_name};
 use nl_fixed::Str;
 
-/// Whether the statement at hand makes this name.
+/// Whether the statement at hand makes this name, or the head.
+#[tactic(auto, using(crate::proofs::Framed::among_made))]
 pub fn mode_makes(mode: &Mode, name: &[u8]) -> bool
     ensures { Makes name.now result (mode_names mode.now) }
 {
     match mode {
+        Mode::InHead(_, _, _, names) => names.has(name),
+        Mode::Behind(_, _, names) => names.has(name),
         Mode::Ended(_, made) => is_name(made, name),
         Mode::Dead(frame, made) => is_name(made, name) || makes_within(frame, name),
         _ => false,

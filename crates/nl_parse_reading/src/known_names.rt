@@ -2,7 +2,7 @@
 ghost use Rattle.std.specs.Prelude.{◌≡◌, [], ◌∷◌, ◌++◌, IfOk, OnOk, IsOk};
 ghost use Rattle.nl_tree.specs.Vocabulary.{among};
 
-use nl_fixed::{NoMemory, Str};
+use nl_fixed::{Names, NoMemory, Str};
 use std::alloc::Global;
 use std::collections::HashSet;
 use std::marker::Model;
@@ -12,7 +12,7 @@ use std::marker::Model;
 /// A name is looked for in a set, so that the time doesn't grow with how many there are.
 #[derive(Drop)]
 pub struct KnownNames {
-    // No code reads the list: it is what contracts see. A set has no order, and a ghost field holds facts alone and no list.
+    // what contracts see: a set has no order
     list: Vec<Str>,
     // the same names
     index: HashSet<Vec<u8>>,
@@ -67,6 +67,17 @@ impl KnownNames {
             Ok(()) => Ok(()),
             Err(_) => unreachable!(),
         }
+    }
+
+    /// The names as a list, which are copied.
+    pub fn copied(&self, alloc: Global) -> Result<Names, NoMemory>
+        ensures { IfOk result (λ names. names ≡ self.now) }
+    {
+        let mut names = Names::empty(alloc);
+        'names: for name in self.list.as_slice() {
+            names.push(alloc, name.copy(alloc)?)?;
+        }
+        Ok(names)
     }
 
     /// Whether the name is one of these.

@@ -1,11 +1,11 @@
 //! Tokens with what the rows of their words make of them.
-ghost use Rattle.std.specs.Prelude.{◌≡◌, ◌∷◌, [], MatchOption};
+ghost use Rattle.std.specs.Prelude.{◌≡◌, ◌∷◌, [], ℕ, MatchOption};
 ghost use Rattle.nl_parse_reading.specs.inner.View.{needs_of, need_by, behind_maybes, mark_of};
 ghost use Rattle.nl_words.specs.declared.entry.Input.TheVariants as input;
 ghost use Rattle.nl_parse_grammar.specs.Machine.{without_maybes, begins_statement};
 
 use nl_fixed::{Num, Span, Str};
-use nl_tree::{Block, Need};
+use nl_tree::{Block, Content, Need};
 use nl_words::Input;
 
 /// Inputs of a word, in order: those that are listed, and then so many values.
@@ -15,6 +15,8 @@ pub struct Inputs {
     pub values: u32,
     /// Whether a value is a whole expression, as behind a command, or an item.
     pub whole: bool,
+    /// How many names the head of an arrow block among them has at most.
+    pub names: u64,
 }
 
 /// What a word is to the reader.
@@ -44,6 +46,8 @@ pub enum Class {
     Of,
     /// An operator of so many levels past 4; whether it is the minus sign.
     Binary(u8, bool),
+    /// Ends the head of an arrow block.
+    Arrow,
     /// May stand nowhere in a text.
     Nowhere,
 }
@@ -68,9 +72,9 @@ pub enum Mark {
     End(Span),
 }
 
-/// What a word reads for one listed input.
-pub fn need_for(whole: bool, input: Input) -> Need
-    ensures { result ≡ need_by whole input }
+/// What a word reads for one listed input, where the head of an arrow block has so many names at most.
+pub fn need_for(whole: bool, names: u64, input: Input) -> Need
+    ensures { result ≡ need_by whole names input }
 {
     match input {
         Input::Value => value_need(whole),
@@ -80,15 +84,15 @@ pub fn need_for(whole: bool, input: Input) -> Need
         Input::Reporter => Need::Within(Block::Reporter),
         Input::Variable => Need::Variable,
         Input::Fresh => Need::Whole,
-        Input::ArrowCommands => Need::Whole,
-        Input::ArrowReporter => Need::Whole,
+        Input::ArrowCommands => Need::Within(Block::Arrow(Content::Commands, names)),
+        Input::ArrowReporter => Need::Within(Block::Arrow(Content::Reporter, names)),
         Input::Cases => Need::Whole,
     }
 }
 
 // What a word reads for a value.
 fn value_need(whole: bool) -> Need
-    ensures { result ≡ need_by whole input.Value }
+    ensures { (names : ℕ) → result ≡ need_by whole names input.Value }
 {
     if whole { Need::Whole } else { Need::Item }
 }
@@ -104,14 +108,16 @@ impl Inputs {
             listed,
             values,
             whole,
+            names,
         } = self;
         match listed {
             [input, rest @ ..] => Some((
-                need_for(whole, *input),
+                need_for(whole, names, *input),
                 Inputs {
                     listed: rest,
                     values,
                     whole,
+                    names,
                 },
             )),
             [] => {
@@ -124,6 +130,7 @@ impl Inputs {
                         listed,
                         values: values - 1,
                         whole,
+                        names,
                     },
                 ))
             }
@@ -139,11 +146,13 @@ impl Inputs {
             listed,
             values,
             whole,
+            names,
         } = self;
         Inputs {
             listed: behind_maybes(listed),
             values,
             whole,
+            names,
         }
     }
 }

@@ -2,7 +2,7 @@
 ghost use Rattle.std.specs.Prelude.{◌≡◌, IfOk, OnOk};
 ghost use Rattle.nl_tree.specs.Tree.{node, none, depth, depths};
 ghost use Rattle.nl_tree.specs.Views.{plain};
-ghost use Rattle.nl_parse_reading.specs.inner.Limit.{capped, is_one};
+ghost use Rattle.nl_parse_reading.specs.inner.Limit.{capped, is_none, is_one};
 ghost use Rattle.nl_tree.specs.Grammar.{one, two, leaf, and_last};
 
 use nl_fixed::{NoMemory, Span};
@@ -176,6 +176,14 @@ impl Grouped {
         ensures { result ≡ is_one self.now }
     {
         self.trees.len() == 1
+    }
+
+    /// Whether there is no tree.
+    #[tactic(auto, using(crate::proofs::Lists::no_node))]
+    pub fn is_none(&self) -> bool
+        ensures { result ≡ is_none self.now }
+    {
+        self.trees.len() == 0
     }
 
     /// The greatest depth among the trees, up to `TOO_DEEP`.

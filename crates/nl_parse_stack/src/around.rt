@@ -14,13 +14,16 @@ ghost use Rattle.nl_parse_stack.specs.inner.State.{stack_of, names_of, HasRoom};
 use crate::reader::{Reader, let_go};
 use nl_fixed::Span;
 use nl_parse_reading::frames::Frame;
+use nl_parse_reading::known_names::KnownNames;
 
 /// What stands around an expression that is over.
-#[derive(Clone, Copy, Drop)]
+#[derive(Drop)]
 pub enum Around {
     Paren(Span),
     Minus(Span, Span),
     Reporter(Span),
+    NoHead(Span),
+    ArrowReporter(Span, KnownNames),
     Bracket(Span),
     /// Nothing: it is the whole text.
     Nothing,
@@ -29,18 +32,23 @@ pub enum Around {
 }
 
 // What a frame is around an expression.
-fn what_is(frame: &Frame) -> Around
+fn what_is(frame: Frame) -> Around
     ensures shut { (x : Shape) (t : Node) (tok : Tok) (e : Names) (below : List M.Frame) →
-        feed_shut x t (names_with frame.now e) (frame_of e frame.now ∷ below) tok
+        feed_shut x t (names_with frame e) (frame_of e frame ∷ below) tok
         ≡ shut_in result x t e below tok }
     ensures something { result ≡ Around.Nothing → ⊥ }
 {
     match frame {
-        Frame::Paren(bracket) => Around::Paren(*bracket),
-        Frame::Minus(bracket, place) => Around::Minus(*bracket, *place),
-        Frame::Reporter(bracket) => Around::Reporter(*bracket),
-        Frame::Bracket(bracket) => Around::Bracket(*bracket),
-        _ => Around::Else,
+        Frame::Paren(bracket) => Around::Paren(bracket),
+        Frame::Minus(bracket, place) => Around::Minus(bracket, place),
+        Frame::Reporter(bracket) => Around::Reporter(bracket),
+        Frame::NoHead(bracket, _) => Around::NoHead(bracket),
+        Frame::ArrowReporter(bracket, names) => Around::ArrowReporter(bracket, names),
+        Frame::Bracket(bracket) => Around::Bracket(bracket),
+        other => {
+            let_go(other);
+            Around::Else
+        }
     }
 }
 
@@ -54,11 +62,7 @@ impl<'a> Reader<'a> {
         ensures room { (result ≡ Around.Nothing → ⊥) → HasRoom self.new }
     {
         match self.take() {
-            Some(frame) => {
-                let around = what_is(&frame);
-                let_go(frame);
-                around
-            }
+            Some(frame) => what_is(frame),
             None => Around::Nothing,
         }
     }

@@ -61,6 +61,7 @@ impl<'a> Reader<'a> {
     {
         match self.newest() {
             Some(Frame::Statements(_, _, _, _)) => true,
+            Some(Frame::ArrowCommands(_, _, _, _)) => true,
             Some(Frame::StatementParen(_)) => true,
             _ => false,
         }

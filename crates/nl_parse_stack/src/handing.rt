@@ -43,6 +43,18 @@ impl<'a> Reader<'a> {
                     Frame::Statements(bracket, ending, names, statements),
                 )
             }
+            Some(Frame::ArrowCommands(bracket, heads, names, statements)) => {
+                let mut names = names;
+                let mut statements = statements;
+                statements.add(self.alloc, tree)?;
+                if let Some(name) = made {
+                    names.push(self.alloc, name)?;
+                }
+                self.enter(
+                    Mode::Stating,
+                    Frame::ArrowCommands(bracket, heads, names, statements),
+                )
+            }
             Some(Frame::StatementParen(bracket)) => {
                 self.put_back(Frame::StatementParen(bracket));
                 self.turn(Mode::Ended(tree, made));

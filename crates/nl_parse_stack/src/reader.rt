@@ -108,7 +108,8 @@ impl<'a> Reader<'a> {
     pub fn enter(&mut self, mode: Mode, frame: Frame) -> Result<(), Refusal>
         ensures { Reaches result self.old self.new
             (λ e K.
-            st (mode_of mode) (mode_names mode (names_with frame e)) (frame_of e frame ∷ K)) }
+            st (mode_of (names_with frame e) mode) (mode_names mode (names_with frame e))
+            (frame_of e frame ∷ K)) }
     {
         let put = self.put(frame);
         self.turn(mode);
@@ -118,7 +119,8 @@ impl<'a> Reader<'a> {
     /// Says what may come next.
     pub fn turn(&mut self, mode: Mode)
         ensures { state_of self.new
-            ≡ st (mode_of mode) (mode_names mode (names_of self.old)) (stack_of self.old) }
+            ≡ st (mode_of (names_of self.old) mode) (mode_names mode (names_of self.old))
+            (stack_of self.old) }
     {
         let_go(mem::replace(&mut self.mode, mode));
     }
@@ -126,7 +128,8 @@ impl<'a> Reader<'a> {
     /// Takes out what may come next.
     pub fn take_mode(&mut self) -> Mode
         ensures state { state_of self.old
-            ≡ st (mode_of result) (mode_names result (names_of self.new)) (stack_of self.new) }
+            ≡ st (mode_of (names_of self.new) result) (mode_names result (names_of self.new))
+            (stack_of self.new) }
         ensures mode { result ≡ self.old.mode }
         ensures names { names_of self.new ≡ names_of self.old }
         ensures stack { stack_of self.new ≡ stack_of self.old }

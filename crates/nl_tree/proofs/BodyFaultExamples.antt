@@ -8,7 +8,7 @@ use Rattle.nl_tree.specs.declared.declared.Form.TheVariants as form
 use Rattle.nl_tree.specs.Tree.{Node, Nodes}
 use Rattle.nl_tree.specs.Vocabulary.{among, terms}
 use Rattle.nl_tree.specs.Tokens.{Lexeme, Word, End, Token, IsToken, Tok, number, word, end, Unknown, Binary, mark, marked}
-use Rattle.nl_tree.specs.Grammar.{two, Part, Closed, Chain, Sides, Call, LastCall, Items, AnyItems, Level, Literals, Arg, Args, Statement, Statements, Reads, closed_number, closed_text, closed_constant, closed_plain, closed_variable, closed_local, closed_list, closed_block, paren, paren_many, paren_minus, chain_closed, chain_with, chain_near, call_prefix, call_many, item_chain, item_call, item_near, item_of, level_up, level_binary, arg_reporter, IsText, knows}
+use Rattle.nl_tree.specs.Grammar.{two, Part, Closed, Chain, Sides, Call, LastCall, Items, AnyItems, Level, Literals, Arg, Args, Head, HeadNames, Statement, Statements, Reads, closed_number, closed_text, closed_constant, closed_plain, closed_variable, closed_local, closed_list, closed_block, paren, paren_many, paren_minus, chain_closed, chain_with, chain_near, call_prefix, call_many, item_chain, item_call, item_near, item_of, level_up, level_binary, arg_reporter, IsText, knows}
 use Rattle.nl_tree.specs.BodyFault.{BeginsGood, BeginsReadable, Knows, IsUnknown, IsTextFault}
 use Rattle.nl_tree.specs.declared.faults.BodyKind.TheVariants.{UnknownName, Unexpected}
 use Rattle.nl_tree.proofs.GrammarExamples.{bare, at, token, w, n, num, named, item, lifted}
@@ -27,6 +27,8 @@ IsValue AnyItems = ⊥
 IsValue Literals = ⊥
 IsValue (Arg i) = ⊥
 IsValue (Args is) = ⊥
+IsValue (Head n ns f) = ⊥
+IsValue (HeadNames n ns f) = ⊥
 IsValue (Statement f) = ⊥
 IsValue (Statements k) = ⊥
 

@@ -8,7 +8,6 @@ use Rattle.nl_fixed.specs.Nouns.{Name, Names}
 use Rattle.nl_fixed.specs.declared.span.Span.{Span}
 use Rattle.nl_words.specs.Row.{Row, row_named}
 use Rattle.nl_words.specs.Rows.{rows}
-use Rattle.nl_words.specs.Table.{has_turns}
 use Rattle.nl_words.specs.declared.entry.Kinds.{Kinds}
 use Rattle.nl_words.specs.declared.entry.Role.{Role}
 use Rattle.nl_words.specs.declared.entry.Role.TheVariants as role
@@ -22,12 +21,12 @@ use Rattle.nl_tree.specs.declared.tree.Label.{Label}
 use Rattle.nl_tree.specs.declared.tree.Label.TheVariants as label
 use Rattle.nl_tree.specs.Tree.{Node, node, Nodes, none, more}
 use Rattle.nl_tree.specs.Term.{Term}
-use Rattle.nl_tree.specs.Tokens.{Class, Unknown, Constant, Plain, Named, Prefix, Many, Closing, Command, Let, With, Near, Of, Binary, Nowhere, is_new, need_of_command, need_of_reporter, repeated, inputs_of, before, last_need, reporter_of, reporter_class, one_more, many_class, command_class, near_class, operator_class, class_by, class_of, class_of_term, Tok, word}
+use Rattle.nl_tree.specs.Tokens.{Class, Unknown, Constant, Plain, Named, Prefix, Many, Closing, Command, Let, With, Near, Of, Binary, Nowhere, is_new, need_of_command, need_of_reporter, repeated, inputs_of, before, last_need, reporter_of, reporter_class, one_more, many_class, command_class, near_class, operator_class, class_by, reserved_class, names_of, class_of, class_of_term, Arrow, Tok, word, close_bracket}
 use Rattle.nl_tree.specs.Grammar as grammar
 use Rattle.nl_tree.specs.Grammar.{one, two, leaf, join, and_last, Part, Arg, Args, Reads}
 use Rattle.nl_tree.specs.Vocabulary.{term_named}
 use Rattle.nl_tree.specs.Context.{Piece, Pieces, use_of, block_of, no_piece, a_piece, packed, Sub, text_of, inner_pieces, parts_pieces, all_pieces, after_first, is_operator, is_block, runs_itself, word_pieces, flat, label_at, span_at, pieces, subs, given, Use, with_piece, uses_in, uses_among, uses, block_kinds, kinds_of_subs, manner_by, row_of_what}
-use Rattle.nl_tree.specs.Order.{Spot, spot, spot_of, Behind, a_paren, another, behind_word, is_no_use, words_from, used_words, UsesAreWords}
+use Rattle.nl_tree.specs.Order.{Spot, spot, spot_of, Behind, a_paren, a_head, another, behind_word, meets_arrow, meets_names, behind_bracket, is_no_use, behind_no_use, words_from, used_words, UsesAreWords}
 use Rattle.nl_tree.specs.Order.{AscendFrom, UsesAscend}
 use Rattle.nl_tree.specs.declared.declared.Breed.{Breed}
 use Rattle.nl_tree.specs.declared.declared.Declared.{Declared}
@@ -85,87 +84,90 @@ abbrev is_value : Input → Bool
 is_value input.Value = true
 is_value i = false
 
-abbrev Says : Class → Role → List Input → Type 0
-Says (Prefix ns) r is = (is_operator r ≡ false) × (map need_of_reporter is ≡ ns ++ Item ∷ []) × (list_any is_new is ≡ false)
-Says (Closing ns b) r is = (is_operator r ≡ false) × (map need_of_reporter is ≡ ns ++ Within b ∷ []) × (list_any is_new is ≡ false)
-Says (Many n) r is = (is_operator r ≡ false) × (list_all is_value is ≡ true)
-Says (Command ns) r is = (is_operator r ≡ false) × (map need_of_command is ≡ ns) × (list_any is_new is ≡ false)
-Says Let r is = (is_operator r ≡ false) × (is ≡ input.Fresh ∷ input.Value ∷ [])
-Says With r is = is_operator r ≡ true
-Says (Near n) r is = is_operator r ≡ true
-Says Of r is = is_operator r ≡ true
-Says (Binary l m) r is = is_operator r ≡ true
-Says c r is = Unit {0}
+abbrev Says : ℕ → Class → Role → List Input → Type 0
+Says n (Prefix ns) r is = (is_operator r ≡ false) × (map (need_of_reporter n) is ≡ ns ++ Item ∷ []) × (list_any is_new is ≡ false)
+Says n (Closing ns b) r is = (is_operator r ≡ false) × (map (need_of_reporter n) is ≡ ns ++ Within b ∷ []) × (list_any is_new is ≡ false)
+Says n (Many m) r is = (is_operator r ≡ false) × (list_all is_value is ≡ true)
+Says n (Command ns) r is = (is_operator r ≡ false) × (map (need_of_command n) is ≡ ns) × (list_any is_new is ≡ false)
+Says n Let r is = (is_operator r ≡ false) × (is ≡ input.Fresh ∷ input.Value ∷ [])
+Says n With r is = is_operator r ≡ true
+Says n (Near m) r is = is_operator r ≡ true
+Says n Of r is = is_operator r ≡ true
+Says n (Binary l m) r is = is_operator r ≡ true
+Says n c r is = Unit {0}
 
-command_by : (is : List Input) (b : Bool) → list_any is_new is ≡ b → Says (if b then Nowhere else Command (map need_of_command is)) role.Command is
-command_by is true h = tt
-command_by is false h = (refl, refl, h)
+command_by : (n : ℕ) (is : List Input) (b : Bool) → list_any is_new is ≡ b → Says n (if b then Nowhere else Command (map (need_of_command n) is)) role.Command is
+command_by n is true h = tt
+command_by n is false h = (refl, refl, h)
 
-says_command : (is : List Input) → Says (command_class is) role.Command is
-says_command (input.Fresh ∷ input.Value ∷ []) = (refl, refl)
-says_command is = command_by is (list_any is_new is) refl
+says_command : (n : ℕ) (is : List Input) → Says n (command_class n is) role.Command is
+says_command n (input.Fresh ∷ input.Value ∷ []) = (refl, refl)
+says_command n is = command_by n is (list_any is_new is) refl
 
-says_before : (i : Input) (js : List Input) (c : Class) → list_any is_new (i ∷ js) ≡ false → Says c role.Reporter js → Says (before (need_of_reporter i) c) role.Reporter (i ∷ js)
-says_before i js (Prefix ns) e h = (refl, ap (λ x. need_of_reporter i ∷ x) h.1, e)
-says_before i js (Closing ns b) e h = (refl, ap (λ x. need_of_reporter i ∷ x) h.1, e)
-says_before i js c e h = tt
+says_before : (n : ℕ) (i : Input) (js : List Input) (c : Class) → list_any is_new (i ∷ js) ≡ false → Says n c role.Reporter js → Says n (before (need_of_reporter n i) c) role.Reporter (i ∷ js)
+says_before n i js (Prefix ns) e h = (refl, ap (λ x. need_of_reporter n i ∷ x) h.1, e)
+says_before n i js (Closing ns b) e h = (refl, ap (λ x. need_of_reporter n i ∷ x) h.1, e)
+says_before n i js c e h = tt
 
 second_new : (a b : Bool) → (a || b) ≡ false → b ≡ false
 second_new true b h = cc
 second_new false b h = h
 
-says_reporter : (is : List Input) → list_any is_new is ≡ false → Says (reporter_of is) role.Reporter is
-says_reporter [] e = tt
-says_reporter (input.Value ∷ []) e = (refl, refl, e)
-says_reporter (input.Commands ∷ []) e = (refl, refl, e)
-says_reporter (input.Reporter ∷ []) e = (refl, refl, e)
-says_reporter (i ∷ []) e = tt
-says_reporter (i ∷ j ∷ is) e = says_before i (j ∷ is) (reporter_of (j ∷ is)) e (says_reporter (j ∷ is) (second_new (is_new i) (list_any is_new (j ∷ is)) e))
+says_reporter : (n : ℕ) (is : List Input) → list_any is_new is ≡ false → Says n (reporter_of n is) role.Reporter is
+says_reporter n [] e = tt
+says_reporter n (input.Value ∷ []) e = (refl, refl, e)
+says_reporter n (input.Commands ∷ []) e = (refl, refl, e)
+says_reporter n (input.Reporter ∷ []) e = (refl, refl, e)
+says_reporter n (input.ArrowCommands ∷ []) e = (refl, refl, e)
+says_reporter n (input.ArrowReporter ∷ []) e = (refl, refl, e)
+says_reporter n (i ∷ []) e = tt
+says_reporter n (i ∷ j ∷ is) e = says_before n i (j ∷ is) (reporter_of n (j ∷ is)) e (says_reporter n (j ∷ is) (second_new (is_new i) (list_any is_new (j ∷ is)) e))
 
-reporter_by : (is : List Input) (b : Bool) → list_any is_new is ≡ b → Says (if b then Nowhere else reporter_of is) role.Reporter is
-reporter_by is true h = tt
-reporter_by is false h = says_reporter is h
+reporter_by : (n : ℕ) (is : List Input) (b : Bool) → list_any is_new is ≡ b → Says n (if b then Nowhere else reporter_of n is) role.Reporter is
+reporter_by n is true h = tt
+reporter_by n is false h = says_reporter n is h
 
-says_more : (is : List Input) (c : Class) → Says c role.Reporter is → Says (one_more c) role.Reporter (input.Value ∷ is)
-says_more is (Many n) h = h
-says_more is c h = tt
+says_more : (n : ℕ) (is : List Input) (c : Class) → Says n c role.Reporter is → Says n (one_more c) role.Reporter (input.Value ∷ is)
+says_more n is (Many m) h = h
+says_more n is c h = tt
 
-says_many : (is : List Input) → Says (many_class is) role.Reporter is
-says_many (input.Value ∷ []) = (refl, refl)
-says_many (input.Value ∷ j ∷ is) = says_more (j ∷ is) (many_class (j ∷ is)) (says_many (j ∷ is))
-says_many is = tt
+says_many : (n : ℕ) (is : List Input) → Says n (many_class is) role.Reporter is
+says_many n (input.Value ∷ []) = (refl, refl)
+says_many n (input.Value ∷ j ∷ is) = says_more n (j ∷ is) (many_class (j ∷ is)) (says_many n (j ∷ is))
+says_many n is = tt
 
-says_near : (l : ℕ) (is : List Input) → Says (near_class is) (role.Operator l) is
-says_near l (input.Value ∷ input.Reporter ∷ []) = refl
-says_near l (input.Value ∷ input.Value ∷ []) = refl
-says_near l (input.Value ∷ input.Value ∷ input.Value ∷ []) = refl
-says_near l is = tt
+says_near : (n l : ℕ) (is : List Input) → Says n (near_class is) (role.Operator l) is
+says_near n l (input.Value ∷ input.Reporter ∷ []) = refl
+says_near n l (input.Value ∷ input.Value ∷ []) = refl
+says_near n l (input.Value ∷ input.Value ∷ input.Value ∷ []) = refl
+says_near n l is = tt
 
-says_operator : (l : ℕ) (m : Bool) (is : List Input) (one two within : Bool)
-    → Says (if one then near_class is else (if two then Of else (if within then Binary (l - 4) m else Nowhere))) (role.Operator l) is
-says_operator l m is true two within = says_near l is
-says_operator l m is false true within = refl
-says_operator l m is false false true = refl
-says_operator l m is false false false = tt
+says_operator : (n l : ℕ) (m : Bool) (is : List Input) (one two within : Bool)
+    → Says n (if one then near_class is else (if two then Of else (if within then Binary (l - 4) m else Nowhere))) (role.Operator l) is
+says_operator n l m is true two within = says_near n l is
+says_operator n l m is false true within = refl
+says_operator n l m is false false true = refl
+says_operator n l m is false false false = tt
 
-says : (r : Role) (many minus : Bool) (is : List Input) → Says (class_by r many minus is) r is
-says role.Command many minus is = says_command is
-says role.Reporter true minus is = says_many is
-says role.Reporter false minus is = reporter_by is (list_any is_new is) refl
-says (role.Operator level) many minus is = says_operator level minus is (level == 1) (level == 2) (nat_le 4 level && nat_le level 9)
-says role.Constant many minus is = tt
-says role.Variable many minus is = tt
-says role.Reserved many minus is = tt
+says_reserved : (n : ℕ) (is : List Input) (b : Bool) → Says n (reserved_class b) role.Reserved is
+says_reserved n is true = tt
+says_reserved n is false = tt
 
-says_by : (r : Role) (many minus : Bool) (is : List Input) (turns : Bool) → Says (if turns then Nowhere else class_by r many minus is) r is
-says_by r many minus is true = tt
-says_by r many minus is false = says r many minus is
+says : (name : Name) (r : Role) (many : Bool) (n : ℕ) (is : List Input) → Says n (class_by name r many n is) r is
+says name role.Command many n is = says_command n is
+says name role.Reporter true zero is = says_many zero is
+says name role.Reporter true (suc n) is = reporter_by (suc n) is (list_any is_new is) refl
+says name role.Reporter false n is = reporter_by n is (list_any is_new is) refl
+says name (role.Operator level) many n is = says_operator n level (bytes_eq name (codes "-")) is (level == 1) (level == 2) (nat_le 4 level && nat_le level 9)
+says name role.Constant many n is = tt
+says name role.Variable many n is = tt
+says name role.Reserved many n is = says_reserved n is (bytes_eq name (codes "->"))
 
 -- the row behind a class that isn't that of a word without one
-row_says : (o : Option Term) (c : Class) → c ≡ class_of o → (c ≡ Unknown → ⊥) → (t : Term) × ((o ≡ Some t) × Says c t.role (inputs_of t))
+row_says : (o : Option Term) (c : Class) → c ≡ class_of o → (c ≡ Unknown → ⊥) → (t : Term) × ((o ≡ Some t) × Says (names_of t.turns) c t.role (inputs_of t))
 row_says None c same known = absurd (known same)
 row_says (Some t) c same known =
-    (t, (refl, subst (λ k. Says k t.role (inputs_of t)) (sym same) (says_by t.role t.many (bytes_eq t.name (codes "-")) (inputs_of t) (has_turns t.turns))))
+    (t, (refl, subst (λ k. Says (names_of t.turns) k t.role (inputs_of t)) (sym same) (says t.name t.role t.many (names_of t.turns) (inputs_of t))))
 
 -- ---- rows that are in order: no input that is a name stands behind a block that may be missing, and none in an operator
 
@@ -231,23 +233,23 @@ block_last b (Variable ∷ is) (more u us) t h = (h.0, block_last b is us t h.1)
 block_last b (i ∷ is) none t h = absurd h
 block_last b (i ∷ is) (more u us) t h = block_last b is us t h
 
-abbrev need_by : Bool → Input → Need
-need_by true i = need_of_command i
-need_by false i = need_of_reporter i
+abbrev need_by : Bool → ℕ → Input → Need
+need_by true n i = need_of_command n i
+need_by false n i = need_of_reporter n i
 
 not_true : (b : Bool) → not b ≡ true → b ≡ false
 not_true true h = cc
 not_true false h = refl
 
-needs_are_inputs : (command : Bool) (is : List Input) (ts : Nodes) → list_any is_new is ≡ false → is_calm is ≡ true → NeedsFit (map (need_by command) is) ts → Fitting is ts
-needs_are_inputs command is none e calm h = tt
-needs_are_inputs command [] (more t ts) e calm h = tt
-needs_are_inputs command (input.Fresh ∷ is) (more t ts) e calm h = cc
-needs_are_inputs command (input.MaybeCommands ∷ is) (more t ts) e calm h = no_names_fit is ts (not_true (list_any is_named_input is) calm)
-needs_are_inputs true (input.Variable ∷ is) (more t ts) e calm h = (h.0, needs_are_inputs true is ts e calm h.1)
-needs_are_inputs false (input.Variable ∷ is) (more t ts) e calm h = (h.0, needs_are_inputs false is ts e calm h.1)
-needs_are_inputs true (i ∷ is) (more t ts) e calm h = needs_are_inputs true is ts e calm h
-needs_are_inputs false (i ∷ is) (more t ts) e calm h = needs_are_inputs false is ts e calm h
+needs_are_inputs : (command : Bool) (n : ℕ) (is : List Input) (ts : Nodes) → list_any is_new is ≡ false → is_calm is ≡ true → NeedsFit (map (need_by command n) is) ts → Fitting is ts
+needs_are_inputs command n is none e calm h = tt
+needs_are_inputs command n [] (more t ts) e calm h = tt
+needs_are_inputs command n (input.Fresh ∷ is) (more t ts) e calm h = cc
+needs_are_inputs command n (input.MaybeCommands ∷ is) (more t ts) e calm h = no_names_fit is ts (not_true (list_any is_named_input is) calm)
+needs_are_inputs true n (input.Variable ∷ is) (more t ts) e calm h = (h.0, needs_are_inputs true n is ts e calm h.1)
+needs_are_inputs false n (input.Variable ∷ is) (more t ts) e calm h = (h.0, needs_are_inputs false n is ts e calm h.1)
+needs_are_inputs true n (i ∷ is) (more t ts) e calm h = needs_are_inputs true n is ts e calm h
+needs_are_inputs false n (i ∷ is) (more t ts) e calm h = needs_are_inputs false n is ts e calm h
 
 -- ---- the spots of nodes
 
@@ -371,6 +373,80 @@ between : (nn l us a b c : List Spot) (x : Spot) → nn ≡ l ++ (x ∷ us) → 
 between nn l us a b c x h k m =
     k ∙ ap (λ z. l ++ (x ∷ z)) m ∙ sym (append_assoc l (x ∷ us) c) ∙ ap (λ z. z ++ c) (sym h ∙ sym (append-nil nn))
 
+-- ---- where heads are
+
+-- neither an arrow comes next nor what ends a head's names
+abbrev Quiet : List Tok → Type 0
+Quiet c = (meets_arrow c ≡ false) × (meets_names c ≡ false)
+
+-- what may come behind a part that is no head
+abbrev Rest : Part → List Tok → Type 0
+Rest (grammar.Head n ns f) c = ⊥
+Rest (grammar.HeadNames n ns f) c = ⊥
+Rest p c = Quiet c
+
+-- so no such part begins with it
+quiet : {p : Part} {e : Names} {a c : List Tok} {ts : Nodes} → Reads p e a c ts → Rest p c → Quiet a
+quiet (grammar.closed_number) z = (refl, refl)
+quiet (grammar.closed_text) z = (refl, refl)
+quiet (grammar.closed_constant) z = (refl, refl)
+quiet (grammar.closed_plain) z = (refl, refl)
+quiet (grammar.closed_variable) z = (refl, refl)
+quiet (grammar.closed_local h) z = (refl, z.1)
+quiet (grammar.closed_list d) z = (refl, refl)
+quiet (grammar.closed_block d f) z = (refl, refl)
+quiet (grammar.paren d) z = (refl, refl)
+quiet (grammar.paren_many d) z = (refl, refl)
+quiet (grammar.paren_minus d) z = (refl, refl)
+quiet (grammar.chain_closed d) z = quiet d z
+quiet (grammar.chain_with d f) z = quiet d (refl, refl)
+quiet (grammar.chain_near d f) z = quiet d (refl, refl)
+quiet (grammar.one_side d) z = quiet d z
+quiet (grammar.more_sides d f) z = quiet d (quiet f z)
+quiet (grammar.call_prefix d f) z = (refl, refl)
+quiet (grammar.call_many d) z = (refl, refl)
+quiet (grammar.one_item d) z = quiet d z
+quiet (grammar.more_items d f) z = quiet d (quiet f z)
+quiet (grammar.no_item) z = z
+quiet (grammar.any_item d f) z = quiet d (quiet f z)
+quiet (grammar.last_call d) z = quiet d z
+quiet (grammar.more_last d f) z = quiet d (quiet f z)
+quiet (grammar.item_chain d) z = quiet d z
+quiet (grammar.item_call d) z = quiet d z
+quiet (grammar.item_near d f) z = quiet d (refl, refl)
+quiet (grammar.item_of d f) z = quiet d (refl, refl)
+quiet (grammar.level_up d) z = quiet d z
+quiet (grammar.level_binary d f) z = quiet d (refl, refl)
+quiet (grammar.literal_end) z = (refl, z.0)
+quiet (grammar.literal_number d) z = (refl, refl)
+quiet (grammar.literal_text d) z = (refl, refl)
+quiet (grammar.literal_constant d) z = (refl, refl)
+quiet (grammar.literal_list d f) z = (refl, refl)
+quiet (grammar.arg_item d) z = quiet d z
+quiet (grammar.arg_whole d) z = quiet d z
+quiet (grammar.arg_commands d) z = (refl, refl)
+quiet (grammar.arg_reporter d) z = (refl, refl)
+quiet (grammar.arg_arrow_commands d f) z = (refl, refl)
+quiet (grammar.arg_arrow_reporter d f) z = (refl, refl)
+quiet (grammar.arg_variable) z = (refl, refl)
+quiet (grammar.arg_local h) z = (refl, z.1)
+quiet (grammar.no_arg) z = z
+quiet (grammar.arg d f) z = quiet d (quiet f z)
+quiet (grammar.no_head) z = absurd z
+quiet (grammar.head_arrow) z = absurd z
+quiet (grammar.head_name h) z = absurd z
+quiet (grammar.head_names d) z = absurd z
+quiet (grammar.names_end) z = absurd z
+quiet (grammar.next_name h d) z = absurd z
+quiet (grammar.maybe_there d f) z = quiet d (quiet f z)
+quiet (grammar.maybe_missing h d) z = quiet d z
+quiet (grammar.command d) z = (refl, refl)
+quiet (grammar.make h d) z = (refl, refl)
+quiet (grammar.statement_paren d) z = (refl, refl)
+quiet (grammar.at_bracket) z = (refl, z.0)
+quiet (grammar.at_end) z = (refl, refl)
+quiet (grammar.statements d f) z = quiet d (quiet f z)
+
 module _ (table : List Term) (orderly : (w : Name) (t : Term) → term_named table w ≡ Some t → is_orderly t ≡ true) where
   abbrev W : List Tok → List Spot
   W a = words_from another a
@@ -434,24 +510,24 @@ module _ (table : List Term) (orderly : (w : Name) (t : Term) → term_named tab
   command_spots : (w : Name) (ns : List Need) (s : Span) (ts : Nodes) → Command ns ≡ class_of (term_named table w) → NeedsFit ns ts → N (node (label.Named w) s ts) ≡ spot w s ∷ NS ts
   command_spots w ns s ts same fit =
       let (t, (row, said)) = row_says (term_named table w) (Command ns) same (λ e. cc) in
-      head_spots w s ts t row said.0 (needs_are_inputs true (inputs_of t) ts said.2 (calm_of w t row) (subst (λ x. NeedsFit x ts) (sym said.1) fit))
+      head_spots w s ts t row said.0 (needs_are_inputs true (names_of t.turns) (inputs_of t) ts said.2 (calm_of w t row) (subst (λ x. NeedsFit x ts) (sym said.1) fit))
 
   prefix_spots : (w : Name) (ns : List Need) (s : Span) (ts : Nodes) (u : Node) → Prefix ns ≡ class_of (term_named table w) → NeedsFit ns ts → N (node (label.Named w) s (and_last ts u)) ≡ spot w s ∷ NS (and_last ts u)
   prefix_spots w ns s ts u same fit =
       let (t, (row, said)) = row_says (term_named table w) (Prefix ns) same (λ e. cc) in
-      head_spots w s (and_last ts u) t row said.0 (needs_are_inputs false (inputs_of t) (and_last ts u) said.2 (calm_of w t row) (subst (λ x. NeedsFit x (and_last ts u)) (sym said.1) (item_last ns ts u fit)))
+      head_spots w s (and_last ts u) t row said.0 (needs_are_inputs false (names_of t.turns) (inputs_of t) (and_last ts u) said.2 (calm_of w t row) (subst (λ x. NeedsFit x (and_last ts u)) (sym said.1) (item_last ns ts u fit)))
 
   closing_spots : (w : Name) (ns : List Need) (b : Block) (s : Span) (ts : Nodes) (u : Node) → Closing ns b ≡ class_of (term_named table w) → NeedsFit ns ts → N (node (label.Named w) s (and_last ts u)) ≡ spot w s ∷ NS (and_last ts u)
   closing_spots w ns b s ts u same fit =
       let (t, (row, said)) = row_says (term_named table w) (Closing ns b) same (λ e. cc) in
-      head_spots w s (and_last ts u) t row said.0 (needs_are_inputs false (inputs_of t) (and_last ts u) said.2 (calm_of w t row) (subst (λ x. NeedsFit x (and_last ts u)) (sym said.1) (block_last b ns ts u fit)))
+      head_spots w s (and_last ts u) t row said.0 (needs_are_inputs false (names_of t.turns) (inputs_of t) (and_last ts u) said.2 (calm_of w t row) (subst (λ x. NeedsFit x (and_last ts u)) (sym said.1) (block_last b ns ts u fit)))
 
   many_spots : (w : Name) (n : ℕ) (s : Span) (ts : Nodes) → Many n ≡ class_of (term_named table w) → N (node (label.Named w) s ts) ≡ spot w s ∷ NS ts
   many_spots w n s ts same =
       let (t, (row, said)) = row_says (term_named table w) (Many n) same (λ e. cc) in
       head_spots w s ts t row said.0 (no_names_fit (inputs_of t) ts (values_have_no_names (inputs_of t) said.1))
 
-  operator_spots : (w : Name) (s : Span) (l : Node) (us : Nodes) (c : Class) → c ≡ class_of (term_named table w) → (c ≡ Unknown → ⊥) → ((t : Term) → Says c t.role (inputs_of t) → is_operator t.role ≡ true)
+  operator_spots : (w : Name) (s : Span) (l : Node) (us : Nodes) (c : Class) → c ≡ class_of (term_named table w) → (c ≡ Unknown → ⊥) → ((t : Term) → Says (names_of t.turns) c t.role (inputs_of t) → is_operator t.role ≡ true)
       → N (node (label.Named w) s (more l us)) ≡ N l ++ (spot w s ∷ NS us)
   operator_spots w s l us c same known operator =
       let (t, (row, said)) = row_says (term_named table w) c same known in
@@ -496,131 +572,173 @@ module _ (table : List Term) (orderly : (w : Name) (t : Term) → term_named tab
   leaf_then : (w : Name) (s : Span) (c : List Tok) → spot w s ∷ W c ≡ (N (leaf (label.Named w) s) ++ []) ++ W c
   leaf_then w s c = lead (N (leaf (label.Named w) s)) [] (W c) (W c) (spot w s) (leaf_spots table w s) refl
 
-  read : {p : Part} {e : Names} {a c : List Tok} {ts : Nodes} → Reads p e a c ts → AreMarked table a → Reading p a c ts
-  read (grammar.closed_number) m = (refl, m.1, refl)
-  read (grammar.closed_text) m = (refl, m.1, refl)
-  read (grammar.closed_constant {w = w} {s = s} {c = c}) m = (leaf_then w s c, m.1, refl)
-  read (grammar.closed_plain {w = w} {s = s} {c = c}) m = (leaf_then w s c, m.1, refl)
-  read (grammar.closed_variable {w = w} {s = s} {c = c}) m = (leaf_then w s c, m.1, refl)
-  read (grammar.closed_local {w = w} {s = s} {c = c} h) m = (leaf_then w s c, m.1, refl)
-  read (grammar.closed_list {s = s} {b = b} {c = c} {ts = ts} r) m =
-      let x = read r m.1 in
-      (bracketed label.List s ts b c (flat_spots table ts) x.0, x.1, refl)
-  read (grammar.closed_block {w = w} {is = is} {k = k} {s = s} {a = a} {b = b} {c = c} {ts = ts} {t = t} r q) m =
-      let x = read r m.1 in
-      let y = read q x.1 in
+  -- behind a bracket in which there are no names of a head
+  opened : (b : List Tok) → meets_names b ≡ false → words_from (behind_bracket b) b ≡ W b
+  opened b h = ap (λ q. words_from (if q then a_head else another) b) h
+
+  -- a local that no arrow follows
+  local_then : (w : Name) (s : Span) (c : List Tok) → meets_arrow c ≡ false → W (word w Unknown s ∷ c) ≡ (N (leaf (label.Named w) s) ++ []) ++ W c
+  local_then w s c h = ap (λ q. if q then W c else spot w s ∷ W c) h ∙ leaf_then w s c
+
+  -- the names of a head, and the head of an arrow block, are passed over
+  names_words : {n : ℕ} {ns f e : Names} {b c : List Tok} {ts : Nodes} → Reads (grammar.HeadNames n ns f) e b c ts → AreMarked table b → (words_from a_head b ≡ W c) × AreMarked table c
+  names_words (grammar.names_end) m = (refl, m.1)
+  names_words (grammar.next_name h r) m = names_words r m.1
+
+  names_meet : {n : ℕ} {ns f e : Names} {b c : List Tok} {ts : Nodes} → Reads (grammar.HeadNames n ns f) e b c ts → meets_arrow c ≡ true → meets_names b ≡ true
+  names_meet (grammar.names_end) h = h
+  names_meet (grammar.next_name k r) h = names_meet r h
+
+  head_words : {n : ℕ} {ns f e : Names} {b c : List Tok} {ts : Nodes} → Reads (grammar.Head n ns f) e b c ts → AreMarked table b → meets_names c ≡ false → (words_from (behind_bracket b) b ≡ W c) × AreMarked table c
+  head_words (grammar.no_head {c = c}) m h = (opened c h, m)
+  head_words (grammar.head_arrow) m h = (refl, m.1)
+  head_words (grammar.head_name k) m h = (refl, m.1.1)
+  head_words (grammar.head_names {b = b} r) m h =
+      let x = names_words r m.1 in
+      (ap (λ q. words_from (if q then a_head else another) b) (names_meet r refl) ∙ x.0, x.1.1)
+
+  read : {p : Part} {e : Names} {a c : List Tok} {ts : Nodes} → Reads p e a c ts → AreMarked table a → Rest p c → Reading p a c ts
+  read (grammar.closed_number) m z = (refl, m.1, refl)
+  read (grammar.closed_text) m z = (refl, m.1, refl)
+  read (grammar.closed_constant {w = w} {s = s} {c = c}) m z = (leaf_then w s c, m.1, refl)
+  read (grammar.closed_plain {w = w} {s = s} {c = c}) m z = (leaf_then w s c, m.1, refl)
+  read (grammar.closed_variable {w = w} {s = s} {c = c}) m z = (leaf_then w s c, m.1, refl)
+  read (grammar.closed_local {w = w} {s = s} {c = c} h) m z = (local_then w s c z.0, m.1, refl)
+  read (grammar.closed_list {s = s} {b = b} {c = c} {ts = ts} r) m z =
+      let x = read r m.1 z in
+      (opened b (quiet r z).1 ∙ bracketed label.List s ts b c (flat_spots table ts) x.0, x.1, refl)
+  read (grammar.closed_block {w = w} {is = is} {k = k} {s = s} {a = a} {b = b} {c = c} {ts = ts} {t = t} r q) m z =
+      let x = read r m.1 (quiet q z) in
+      let y = read q x.1 z in
       (parts_then w s ts t a b c (closing_spots w is k s ts t m.0 x.2) x.0 y.0, y.1, refl)
-  read (grammar.paren {s = s} {b = b} {c = c} {t = t} r) m =
-      let x = read r m.1 in
+  read (grammar.paren {s = s} {b = b} {c = c} {t = t} r) m z =
+      let x = read r m.1 (refl, refl) in
       (x.2 ∙ bracketed label.Paren s (one t) b c (flat_spots table (one t)) x.0, x.1.1, refl)
-  read (grammar.paren_many {w = w} {n = n} {s = s} {r = r} {b = b} {c = c} {ts = ts} d) m =
-      let x = read d m.1.1 in
+  read (grammar.paren_many {w = w} {n = n} {s = s} {r = r} {b = b} {c = c} {ts = ts} d) m z =
+      let x = read d m.1.1 (refl, refl) in
       let head = many_spots w n r ts m.1.0 in
       let t = node (label.Named w) r ts in
       (lead (N (node label.Paren s (one t))) (NS ts) (W b) (W c) (spot w r) (flat_spots table (one t) ∙ append-nil (N t) ∙ head) x.0, x.1.1, refl)
-  read (grammar.paren_minus {s = s} {r = r} {b = b} {c = c} {t = t} d) m =
-      let x = read d m.1.1 in
+  read (grammar.paren_minus {s = s} {r = r} {b = b} {c = c} {t = t} d) m z =
+      let x = read d m.1.1 (refl, refl) in
       let u = node label.Negate r (one t) in
       (wrap (N (node label.Paren s (one u))) (NS (one t)) (W b) (W c) (flat_spots table (one u) ∙ append-nil (N u) ∙ flat_spots table (one t)) x.0, x.1.1, refl)
-  read (grammar.chain_closed r) m = read r m
-  read (grammar.chain_with {w = w} {s = s} {a = a} {b = b} {c = c} {t = t} {u = u} r q) m =
-      let x = read r m in
-      let y = read q x.1.1 in
+  read (grammar.chain_closed r) m z = read r m z
+  read (grammar.chain_with {w = w} {s = s} {a = a} {b = b} {c = c} {t = t} {u = u} r q) m z =
+      let x = read r m (refl, refl) in
+      let y = read q x.1.1 z in
       (sides w s t (one u) a b c (operator_spots w s t (one u) With x.1.0 (λ e. cc) (λ k said. said)) x.0 y.0, y.1, x.2)
-  read (grammar.chain_near {w = w} {n = n} {s = s} {a = a} {b = b} {c = c} {t = t} {us = us} r q) m =
-      let x = read r m in
-      let y = read q x.1.1 in
+  read (grammar.chain_near {w = w} {n = n} {s = s} {a = a} {b = b} {c = c} {t = t} {us = us} r q) m z =
+      let x = read r m (refl, refl) in
+      let y = read q x.1.1 z in
       (sides w s t us a b c (operator_spots w s t us (Near n) x.1.0 (λ e. cc) (λ k said. said)) x.0 y.0, y.1, x.2)
-  read (grammar.one_side r) m = let x = read r m in (x.0, x.1, tt)
-  read (grammar.more_sides {a = a} {b = b} {c = c} {t = t} {us = us} r q) m =
-      let x = read r m in
-      let y = read q x.1 in
+  read (grammar.one_side r) m z = let x = read r m z in (x.0, x.1, tt)
+  read (grammar.more_sides {a = a} {b = b} {c = c} {t = t} {us = us} r q) m z =
+      let x = read r m (quiet q z) in
+      let y = read q x.1 z in
       (both (N t) (NS us) (W a) (W b) (W c) (single (N t) (W a) (W b) x.0) y.0, y.1, tt)
-  read (grammar.call_prefix {w = w} {is = is} {s = s} {a = a} {b = b} {c = c} {ts = ts} {t = t} r q) m =
-      let x = read r m.1 in
-      let y = read q x.1 in
+  read (grammar.call_prefix {w = w} {is = is} {s = s} {a = a} {b = b} {c = c} {ts = ts} {t = t} r q) m z =
+      let x = read r m.1 (quiet q z) in
+      let y = read q x.1 z in
       (parts_then w s ts t a b c (prefix_spots w is s ts t m.0 x.2) x.0 y.0, y.1, refl)
-  read (grammar.call_many {w = w} {n = n} {s = s} {a = a} {c = c} {ts = ts} r) m =
-      let x = read r m.1 in
+  read (grammar.call_many {w = w} {n = n} {s = s} {a = a} {c = c} {ts = ts} r) m z =
+      let x = read r m.1 z in
       (lead (N (node (label.Named w) s ts)) (NS ts) (W a) (W c) (spot w s) (many_spots w n s ts m.0) x.0, x.1, refl)
-  read (grammar.one_item r) m = let x = read r m in (x.0, x.1, tt)
-  read (grammar.more_items {a = a} {b = b} {c = c} {t = t} {us = us} r q) m =
-      let x = read r m in
-      let y = read q x.1 in
+  read (grammar.one_item r) m z = let x = read r m z in (x.0, x.1, tt)
+  read (grammar.more_items {a = a} {b = b} {c = c} {t = t} {us = us} r q) m z =
+      let x = read r m (quiet q z) in
+      let y = read q x.1 z in
       (both (N t) (NS us) (W a) (W b) (W c) (single (N t) (W a) (W b) x.0) y.0, y.1, tt)
-  read (grammar.no_item) m = (refl, m, tt)
-  read (grammar.any_item {a = a} {b = b} {c = c} {t = t} {us = us} r q) m =
-      let x = read r m in
-      let y = read q x.1 in
+  read (grammar.no_item) m z = (refl, m, tt)
+  read (grammar.any_item {a = a} {b = b} {c = c} {t = t} {us = us} r q) m z =
+      let x = read r m (quiet q z) in
+      let y = read q x.1 z in
       (both (N t) (NS us) (W a) (W b) (W c) (single (N t) (W a) (W b) x.0) y.0, y.1, tt)
-  read (grammar.last_call r) m = let x = read r m in (x.0, x.1, tt)
-  read (grammar.more_last {a = a} {b = b} {c = c} {t = t} {us = us} r q) m =
-      let x = read r m in
-      let y = read q x.1 in
+  read (grammar.last_call r) m z = let x = read r m z in (x.0, x.1, tt)
+  read (grammar.more_last {a = a} {b = b} {c = c} {t = t} {us = us} r q) m z =
+      let x = read r m (quiet q z) in
+      let y = read q x.1 z in
       (both (N t) (NS us) (W a) (W b) (W c) (single (N t) (W a) (W b) x.0) y.0, y.1, tt)
-  read (grammar.item_chain r) m = read r m
-  read (grammar.item_call r) m = read r m
-  read (grammar.item_near {w = w} {n = n} {s = s} {a = a} {b = b} {c = c} {t = t} {us = us} r q) m =
-      let x = read r m in
-      let y = read q x.1.1 in
+  read (grammar.item_chain r) m z = read r m z
+  read (grammar.item_call r) m z = read r m z
+  read (grammar.item_near {w = w} {n = n} {s = s} {a = a} {b = b} {c = c} {t = t} {us = us} r q) m z =
+      let x = read r m (refl, refl) in
+      let y = read q x.1.1 z in
       (sides w s t us a b c (operator_spots w s t us (Near n) x.1.0 (λ e. cc) (λ k said. said)) x.0 y.0, y.1, x.2)
-  read (grammar.item_of {w = w} {s = s} {a = a} {b = b} {c = c} {t = t} {u = u} r q) m =
-      let x = read r m in
-      let y = read q x.1.1 in
+  read (grammar.item_of {w = w} {s = s} {a = a} {b = b} {c = c} {t = t} {u = u} r q) m z =
+      let x = read r m (refl, refl) in
+      let y = read q x.1.1 z in
       (sides w s t (one u) a b c (operator_spots w s t (one u) Of x.1.0 (λ e. cc) (λ k said. said)) x.0 y.0, y.1, block_begins r)
     where
       block_begins : {k : Block} {e : Names} {a c : List Tok} {ts : Nodes} → Reads (grammar.Arg (Within k)) e a c ts → Same a
       block_begins (grammar.arg_commands r) = refl
       block_begins (grammar.arg_reporter r) = refl
-  read (grammar.level_up r) m = read r m
-  read (grammar.level_binary {w = w} {l = l} {m = minus} {s = s} {a = a} {b = b} {c = c} {t = t} {u = u} r q) m =
-      let x = read r m in
-      let y = read q x.1.1 in
+      block_begins (grammar.arg_arrow_commands h r) = refl
+      block_begins (grammar.arg_arrow_reporter h r) = refl
+  read (grammar.level_up r) m z = read r m z
+  read (grammar.level_binary {w = w} {l = l} {m = minus} {s = s} {a = a} {b = b} {c = c} {t = t} {u = u} r q) m z =
+      let x = read r m (refl, refl) in
+      let y = read q x.1.1 z in
       (sides w s t (one u) a b c (operator_spots w s t (one u) (Binary l minus) x.1.0 (λ e. cc) (λ k said. said)) x.0 y.0, y.1, x.2)
-  read (grammar.literal_end) m = (refl, m.1, tt)
-  read (grammar.literal_number r) m = let x = read r m.1 in (x.0, x.1, tt)
-  read (grammar.literal_text r) m = let x = read r m.1 in (x.0, x.1, tt)
-  read (grammar.literal_constant {w = w} {s = s} {b = b} {c = c} {ts = ts} r) m =
-      let x = read r m.1 in
+  read (grammar.literal_end) m z = (refl, m.1, tt)
+  read (grammar.literal_number r) m z = let x = read r m.1 z in (x.0, x.1, tt)
+  read (grammar.literal_text r) m z = let x = read r m.1 z in (x.0, x.1, tt)
+  read (grammar.literal_constant {w = w} {s = s} {b = b} {c = c} {ts = ts} r) m z =
+      let x = read r m.1 z in
       (ap (λ z. spot w s ∷ z) x.0 ∙ ap (λ z. (z ++ NS ts) ++ W c) (sym (leaf_spots table w s)), x.1, tt)
-  read (grammar.literal_list {s = s} {b = b} {c = c} {d = d} {ts = ts} {us = us} r q) m =
-      let x = read r m.1 in
-      let y = read q x.1 in
-      (both (N (node label.List s ts)) (NS us) (W b) (W c) (W d) (x.0 ∙ ap (λ z. z ++ W c) (sym (flat_spots table ts))) y.0, y.1, tt)
-  read (grammar.arg_item r) m = let x = read r m in (x.0, x.1, tt)
-  read (grammar.arg_whole r) m = let x = read r m in (x.0, x.1, tt)
-  read (grammar.arg_commands {s = s} {b = b} {c = c} {ts = ts} r) m =
-      let x = read r m.1 in
-      (bracketed label.Commands s ts b c (flat_spots table ts) x.0, x.1, tt)
-  read (grammar.arg_reporter {s = s} {b = b} {c = c} {t = t} r) m =
-      let x = read r m.1 in
-      (bracketed label.Reporter s (one t) b c (flat_spots table (one t)) x.0, x.1.1, tt)
-  read (grammar.arg_variable {w = w} {s = s} {c = c}) m = (leaf_then w s c, m.1, (w, s, refl))
-  read (grammar.arg_local {w = w} {s = s} {c = c} h) m = (leaf_then w s c, m.1, (w, s, refl))
-  read (grammar.no_arg) m = (refl, m, tt)
-  read (grammar.arg {i = i} {is = is} {a = a} {b = b} {c = c} {t = t} {ts = ts} r q) m =
-      let x = read r m in
-      let y = read q x.1 in
+  read (grammar.literal_list {s = s} {b = b} {c = c} {d = d} {ts = ts} {us = us} r q) m z =
+      let x = read r m.1 (quiet q z) in
+      let y = read q x.1 z in
+      (opened b (quiet r (quiet q z)).1 ∙ both (N (node label.List s ts)) (NS us) (W b) (W c) (W d) (x.0 ∙ ap (λ z. z ++ W c) (sym (flat_spots table ts))) y.0, y.1, tt)
+  read (grammar.arg_item r) m z = let x = read r m z in (x.0, x.1, tt)
+  read (grammar.arg_whole r) m z = let x = read r m z in (x.0, x.1, tt)
+  read (grammar.arg_commands {s = s} {b = b} {c = c} {ts = ts} r) m z =
+      let x = read r m.1 z in
+      (opened b (quiet r z).1 ∙ bracketed label.Commands s ts b c (flat_spots table ts) x.0, x.1, tt)
+  read (grammar.arg_reporter {s = s} {b = b} {c = c} {t = t} r) m z =
+      let x = read r m.1 (refl, z.0) in
+      (opened b (quiet r (refl, z.0)).1 ∙ bracketed label.Reporter s (one t) b c (flat_spots table (one t)) x.0, x.1.1, tt)
+  read (grammar.arg_arrow_commands {ns = ns} {s = s} {b = b} {c = c} {d = d} {ts = ts} h r) m z =
+      let x = head_words h m.1 (quiet r z).1 in
+      let y = read r x.1 z in
+      let u = node label.Commands s ts in
+      (x.0 ∙ bracketed (label.Arrow ns) s (one u) c d (flat_spots table (one u)) (bracketed label.Commands s ts c d (flat_spots table ts) y.0), y.1, tt)
+  read (grammar.arg_arrow_reporter {ns = ns} {s = s} {b = b} {c = c} {d = d} {t = t} h r) m z =
+      let x = head_words h m.1 (quiet r (refl, z.0)).1 in
+      let y = read r x.1 (refl, z.0) in
+      (x.0 ∙ bracketed (label.Arrow ns) s (one t) c d (flat_spots table (one t)) y.0, y.1.1, tt)
+  read (grammar.no_head) m z = absurd z
+  read (grammar.head_arrow) m z = absurd z
+  read (grammar.head_name h) m z = absurd z
+  read (grammar.head_names r) m z = absurd z
+  read (grammar.names_end) m z = absurd z
+  read (grammar.next_name h r) m z = absurd z
+  read (grammar.arg_variable {w = w} {s = s} {c = c}) m z = (leaf_then w s c, m.1, (w, s, refl))
+  read (grammar.arg_local {w = w} {s = s} {c = c} h) m z = (local_then w s c z.0, m.1, (w, s, refl))
+  read (grammar.no_arg) m z = (refl, m, tt)
+  read (grammar.arg {i = i} {is = is} {a = a} {b = b} {c = c} {t = t} {ts = ts} r q) m z =
+      let x = read r m (quiet q z) in
+      let y = read q x.1 z in
       (both (N t) (NS ts) (W a) (W b) (W c) (single (N t) (W a) (W b) x.0) y.0, y.1, needs_cons i is t ts x.2 y.2)
-  read (grammar.maybe_there {a = a} {b = b} {c = c} {t = t} {ts = ts} r q) m =
-      let x = read r m in
-      let y = read q x.1 in
+  read (grammar.maybe_there {a = a} {b = b} {c = c} {t = t} {ts = ts} r q) m z =
+      let x = read r m (quiet q z) in
+      let y = read q x.1 z in
       (both (N t) (NS ts) (W a) (W b) (W c) (single (N t) (W a) (W b) x.0) y.0, y.1, tt)
-  read (grammar.maybe_missing h r) m = let x = read r m in (x.0, x.1, tt)
-  read (grammar.command {w = w} {is = is} {s = s} {b = b} {c = c} {ts = ts} r) m =
-      let x = read r m.1 in
+  read (grammar.maybe_missing h r) m z = let x = read r m z in (x.0, x.1, tt)
+  read (grammar.command {w = w} {is = is} {s = s} {b = b} {c = c} {ts = ts} r) m z =
+      let x = read r m.1 z in
       (lead (N (node (label.Named w) s ts)) (NS ts) (W b) (W c) (spot w s) (command_spots w is s ts m.0 x.2) x.0, x.1, refl)
-  read (grammar.make {w = w} {n = n} {s = s} {r = r} {b = b} {c = c} {t = t} h d) m =
-      let x = read d m.1.1 in
+  read (grammar.make {w = w} {n = n} {s = s} {r = r} {b = b} {c = c} {t = t} h d) m z =
+      let x = read d m.1.1 z in
       (lead (N (node (label.Named w) s (two (leaf (label.Named n) r) t))) (NS (one t)) (W b) (W c) (spot w s) (let_spots w s n r t m.0) x.0, x.1, refl)
-  read (grammar.statement_paren {s = s} {b = b} {c = c} {t = t} r) m =
-      let x = read r m.1 in
+  read (grammar.statement_paren {s = s} {b = b} {c = c} {t = t} r) m z =
+      let x = read r m.1 (refl, refl) in
       (x.2 ∙ bracketed label.Paren s (one t) b c (flat_spots table (one t)) x.0, x.1.1, refl)
-  read (grammar.at_bracket) m = (refl, m.1, tt)
-  read (grammar.at_end) m = (refl, m.1, tt)
-  read (grammar.statements {a = a} {b = b} {c = c} {t = t} {ts = ts} r q) m =
-      let x = read r m in
-      let y = read q x.1 in
+  read (grammar.at_bracket) m z = (refl, m.1, tt)
+  read (grammar.at_end) m z = (refl, m.1, tt)
+  read (grammar.statements {a = a} {b = b} {c = c} {t = t} {ts = ts} r q) m z =
+      let x = read r m (quiet q z) in
+      let y = read q x.1 z in
       (both (N t) (NS ts) (W a) (W b) (W c) (single (N t) (W a) (W b) x.0) y.0, y.1, tt)
 
 -- ---- a model's own rows are in order
@@ -696,10 +814,10 @@ named_orderly name t (u ∷ us) all here = by (bytes_eq u.name name) here (named
 text_words : (table : List Term) → ((w : Name) (t : Term) → term_named table w ≡ Some t → is_orderly t ≡ true) → (f : Form) (e : Names) (ts : List Token) (t : Node) → IsText f e (marked table ts) t
     → spots (pieces table t) ≡ used_words (marked table ts)
 text_words table orderly form.Commands e ts t (parts, is, r) =
-    let x = read table orderly r (all_marked table ts) in
+    let x = read table orderly r (all_marked table ts) (refl, refl) in
     subst (λ u. spots (pieces table u) ≡ used_words (marked table ts)) (sym is) (flat_spots table parts ∙ sym (append-nil (spots_of_nodes table parts)) ∙ sym x.0)
 text_words table orderly form.Reporter e ts t (s, r) =
-    let x = read table orderly r (all_marked table ts) in
+    let x = read table orderly r (all_marked table ts) (refl, refl) in
     sym (append-nil (spots (pieces table t))) ∙ sym (append-nil (spots (pieces table t) ++ [])) ∙ sym x.0
 
 pub uses_are_words : UsesAreWords
@@ -721,13 +839,14 @@ module _ (table : List Term) where
       lower xs k = ascend_lower n (t.span.start + 1) xs (omega (arith, h.0)) k
 
       use_by : (none : Bool) (name : Name) (c : Class) → ((c : Behind) → AscendFrom (t.span.start + 1) (starts (words_from c (marked table ts))))
-          → AscendFrom n (starts (if none then words_from another (marked table ts) else spot name t.span ∷ words_from (behind_word c) (marked table ts)))
-      use_by true name c rest = lower (starts (words_from another (marked table ts))) (rest another)
+          → AscendFrom n (starts (if none then words_from (behind_no_use b) (marked table ts) else spot name t.span ∷ words_from (behind_word c) (marked table ts)))
+      use_by true name c rest = lower (starts (words_from (behind_no_use b) (marked table ts))) (rest (behind_no_use b))
       use_by false name c rest = (h.0, rest (behind_word c))
 
       by : (l : Lexeme) → ((c : Behind) → AscendFrom (t.span.start + 1) (starts (words_from c (marked table ts)))) → AscendFrom n (starts (words_from b (marked_as table t.span l ∷ marked table ts)))
-      by (lexeme.Word name) rest = use_by (is_no_use b (class_of (term_named table name))) name (class_of (term_named table name)) rest
+      by (lexeme.Word name) rest = use_by (is_no_use b (class_of (term_named table name)) (marked table ts)) name (class_of (term_named table name)) rest
       by lexeme.OpenParen rest = lower (starts (words_from a_paren (marked table ts))) (rest a_paren)
+      by lexeme.Open rest = lower (starts (words_from (behind_bracket (marked table ts)) (marked table ts))) (rest (behind_bracket (marked table ts)))
       by l rest = lower (starts (words_from another (marked table ts))) (rest another)
 
 starts_of_uses : (us : List Use) → starts (map spot_of us) ≡ map (λ (u : Use). u.span.start) us

@@ -4,7 +4,7 @@ use Rattle.std.proofs.lemmas.Bool.{ne_eqb, lt-leb, ltb-true, ltb-false}
 use Rattle.nl_tree.specs.Tree.{Nodes}
 use Rattle.nl_tree.specs.Vocabulary.{among}
 use Rattle.nl_tree.specs.Tokens.{Tok}
-use Rattle.nl_tree.specs.Grammar.{opens, Part, Statement, Statements, Reads, knows, closed_number, closed_text, closed_constant, closed_plain, closed_variable, closed_local, closed_list, closed_block, paren, paren_many, paren_minus, chain_closed, chain_with, chain_near, one_side, more_sides, call_prefix, call_many, one_item, more_items, no_item, any_item, last_call, more_last, item_chain, item_call, item_near, item_of, level_up, level_binary, literal_end, literal_number, literal_text, literal_constant, literal_list, arg_item, arg_whole, arg_commands, arg_reporter, arg_variable, arg_local, no_arg, arg, maybe_there, maybe_missing, command, make, statement_paren, at_bracket, at_end, statements}
+use Rattle.nl_tree.specs.Grammar.{opens, Part, Head, HeadNames, Statement, Statements, Reads, knows, closed_number, closed_text, closed_constant, closed_plain, closed_variable, closed_local, closed_list, closed_block, paren, paren_many, paren_minus, chain_closed, chain_with, chain_near, one_side, more_sides, call_prefix, call_many, one_item, more_items, no_item, any_item, last_call, more_last, item_chain, item_call, item_near, item_of, level_up, level_binary, literal_end, literal_number, literal_text, literal_constant, literal_list, arg_item, arg_whole, arg_commands, arg_reporter, arg_arrow_commands, arg_arrow_reporter, no_head, head_arrow, head_name, head_names, names_end, next_name, arg_variable, arg_local, no_arg, arg, maybe_there, maybe_missing, command, make, statement_paren, at_bracket, at_end, statements}
 use Rattle.nl_tree.proofs.Suffix.{Suffix, same, longer, shorter, suffix}
 
 pub neither : {a b : Bool} → a ≡ false → b ≡ false → (a || b) ≡ false
@@ -41,6 +41,8 @@ bracket_behind left m h = at (nat_lt m left) refl
 abbrev pub IsOutside : Part → ℕ → List Tok → Type 0
 IsOutside (Statement f) left a = length a < left
 IsOutside (Statements k) left a = length a < left
+IsOutside (Head n ns f) left a = length a < left
+IsOutside (HeadNames n ns f) left a = length a < left
 IsOutside p left a = Flat left a
 
 -- No name is known there.
@@ -84,8 +86,22 @@ outside v left (arg_item d) h = outside v left d h
 outside v left (arg_whole d) h = outside v left d h
 outside v left (arg_commands {b = b} d) h = outside v left d (bracket_behind left (length b) h.0)
 outside v left (arg_reporter d) h = outside v left d h.1
+outside v left (arg_arrow_commands {b = b} d f) h =
+    let behind = bracket_behind left (length b) h.0 in
+    neither (outside v left d behind) (outside v left f (omega (arith, behind, shorter (suffix d))))
+outside v left (arg_arrow_reporter {f = f} {b = b} {c = c} {d = d} g k) h =
+    let behind = bracket_behind left (length b) h.0 in
+    let content : length c < left = omega (arith, behind, shorter (suffix g)) in
+    neither (neither (outside v left g behind) (not_first (among v f) (not_second (nat_lt (length d) left) (lt-leb left (length c) content)))) (outside v left k (flat_behind left c (omega (arith, content))))
 outside v left arg_variable h = refl
 outside v left (arg_local known) h = refl
+outside v left no_head h = refl
+outside v left head_arrow h = refl
+outside v left (head_name {e = e} {w = w} {c = c} fresh) h = not_first (among v (w ∷ e)) (ne_eqb left (length c + 1) (λ here. omega (arith, h, here)))
+outside v left (head_names {f = f} {c = c} d) h =
+    neither (not_first (among v f) (ne_eqb left (length c + 1) (λ here. omega (arith, h, here, shorter (suffix d))))) (outside v left d (omega (arith, h)))
+outside v left (names_end {e = e} {c = c}) h = not_first (among v e) (ne_eqb left (length c + 1) (λ here. omega (arith, h, here)))
+outside v left (next_name {e = e} {b = b} fresh d) h = neither (not_first (among v e) (ne_eqb left (length b + 1) (λ here. omega (arith, h, here)))) (outside v left d (omega (arith, h)))
 outside v left no_arg h = refl
 outside v left (arg d f) h = neither (outside v left d h) (outside v left f (flat_rest left (suffix d) h))
 outside v left (maybe_there d f) h = neither (outside v left d h) (outside v left f (flat_rest left (suffix d) h))

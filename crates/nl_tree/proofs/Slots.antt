@@ -17,9 +17,9 @@ use Rattle.nl_tree.specs.declared.declared.Form.{Form}
 use Rattle.nl_tree.specs.declared.declared.Form.TheVariants as form
 use Rattle.nl_tree.specs.Tree.{Node, node, Nodes, none, more}
 use Rattle.nl_tree.specs.Term.{Term}
-use Rattle.nl_tree.specs.Tokens.{Token, Class, Unknown, Constant, Plain, Named, Prefix, Many, Closing, Command, Let, With, Near, Of, Binary, Nowhere, class_of, Tok, marked}
+use Rattle.nl_tree.specs.Tokens.{Token, Class, Unknown, Constant, Plain, Named, Prefix, Many, Closing, Command, Let, With, Near, Of, Binary, Arrow, Nowhere, class_of, Tok, marked}
 use Rattle.nl_tree.specs.Grammar as grammar
-use Rattle.nl_tree.specs.Grammar.{one, two, leaf, join, and_last, Part, Closed, Chain, Sides, Call, LastCall, Items, AnyItems, Level, Literals, Arg, Args, Statement, Statements, Reads, IsText}
+use Rattle.nl_tree.specs.Grammar.{one, two, leaf, join, and_last, Part, Closed, Chain, Sides, Call, LastCall, Items, AnyItems, Level, Literals, Arg, Args, Head, HeadNames, Statement, Statements, Reads, IsText}
 use Rattle.nl_tree.specs.BodyFault.{Fits, ends_at}
 use Rattle.nl_tree.specs.Vocabulary.{among, term_named, terms, named_what, what_of}
 use Rattle.nl_tree.specs.Slots.{name_at, names, names_in, is_let, made_at, made, made_in, HasSlot, NamesHaveSlots}
@@ -43,6 +43,7 @@ is_unknown With = false
 is_unknown (Near n) = false
 is_unknown Of = false
 is_unknown (Binary l m) = false
+is_unknown Arrow = false
 is_unknown Nowhere = false
 
 row_there : (o : Option Term) (c : Class) → c ≡ class_of o → is_unknown c ≡ false → (t : Term) × (o ≡ Some t)
@@ -108,6 +109,8 @@ module _ (table : List Term) (K : List ℕ → Type 0) where
   Then Literals = Unit {0}
   Then (Arg i) = Unit {0}
   Then (Args is) = Unit {0}
+  Then (Head n ns f) = Unit {0}
+  Then (HeadNames n ns f) = Unit {0}
   Then (Statements k) = Unit {0}
 
   row : (w : List ℕ) (c : Class) → c ≡ class_of (term_named table w) → is_unknown c ≡ false → K w ⊎ HasRow table w
@@ -123,6 +126,27 @@ module _ (table : List Term) (K : List ℕ → Type 0) where
     | true ↦ λ same _. subst K ((bytes_eq-Decides n m).0 same) here
     | false ↦ λ same later. known m later
   ] refl h
+
+  -- the names of a head are known behind it
+  first_made : (n : List ℕ) (ns : List (List ℕ)) → Made (n ∷ ns) → K n
+  first_made n ns known = known n (rw ((bytes_eq-Decides n n).1 refl) refl)
+
+  rest_made : (n : List ℕ) (ns : List (List ℕ)) → Made (n ∷ ns) → Made ns
+  rest_made n ns known m here = known m (elim (bytes_eq n m) as (λ b. IsTrue (b || among m ns)) [ true ↦ refl | false ↦ here ])
+
+  names_known : {n : ℕ} {ns e f : List (List ℕ)} {a c : List Tok} {ts : Nodes} → Reads (HeadNames n ns f) e a c ts → Made e → Made ns → Made f
+  names_known (grammar.names_end) k known = k
+  names_known (grammar.next_name {e = e} {ns = ns} {w = w} h r) k known = names_known r (name_known w e (first_made w ns known) k) (rest_made w ns known)
+
+  names_marked : {n : ℕ} {ns e f : List (List ℕ)} {a c : List Tok} {ts : Nodes} → Reads (HeadNames n ns f) e a c ts → AreMarked table a → AreMarked table c
+  names_marked (grammar.names_end) m = m.1
+  names_marked (grammar.next_name h r) m = names_marked r m.1
+
+  head_known : {n : ℕ} {ns e f : List (List ℕ)} {a c : List Tok} {ts : Nodes} → Reads (Head n ns f) e a c ts → Made e → Made ns → Made f
+  head_known (grammar.no_head) k known = k
+  head_known (grammar.head_arrow) k known = k
+  head_known (grammar.head_name {e = e} {w = w} h) k known = name_known w e (first_made w [] known) k
+  head_known (grammar.head_names r) k known = names_known r k known
 
   read : {p : Part} {e : List (List ℕ)} {a c : List Tok} {ts : Nodes} → Reads p e a c ts → Made e → AreMarked table a → MakeIn ts → StandIn ts × AreMarked table c × Then p
   read (grammar.closed_number) k m d = (((tt, tt), tt), m.1, tt)
@@ -202,6 +226,20 @@ module _ (table : List Term) (K : List ℕ → Type 0) where
   read (grammar.arg_whole r) k m d = read r k m d
   read (grammar.arg_commands r) k m d = let x = read r k m.1 d.0.1 in (((tt, x.0), tt), x.1, tt)
   read (grammar.arg_reporter r) k m d = let x = read r k m.1 d.0.1 in (((tt, x.0), tt), x.1.1, tt)
+  read (grammar.arg_arrow_commands r q) k m d =
+      let x = read r k m.1 tt in
+      let y = read q (head_known r k d.0.0) x.1 d.0.1.0.1 in
+      (((tt, ((tt, y.0), tt)), tt), y.1, tt)
+  read (grammar.arg_arrow_reporter r q) k m d =
+      let x = read r k m.1 tt in
+      let y = read q (head_known r k d.0.0) x.1 d.0.1 in
+      (((tt, y.0), tt), y.1.1, tt)
+  read (grammar.no_head) k m d = (tt, m, tt)
+  read (grammar.head_arrow) k m d = (tt, m.1, tt)
+  read (grammar.head_name h) k m d = (tt, m.1.1, tt)
+  read (grammar.head_names r) k m d = (tt, (names_marked r m.1).1, tt)
+  read (grammar.names_end) k m d = (tt, m.1, tt)
+  read (grammar.next_name h r) k m d = (tt, names_marked r m.1, tt)
   read (grammar.arg_variable {w = w}) k m d = (((row w Named m.0 refl, tt), tt), m.1, tt)
   read (grammar.arg_local {w = w} h) k m d = (((inl (k w h), tt), tt), m.1, tt)
   read (grammar.no_arg) k m d = (tt, m, tt)

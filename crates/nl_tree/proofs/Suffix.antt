@@ -2,7 +2,7 @@
 use Rattle.std.proofs.Common.{ℕ, List, ◌∷◌, length, ◌≤◌, arith}
 use Rattle.nl_tree.specs.Tree.{Nodes}
 use Rattle.nl_tree.specs.Tokens.{Tok}
-use Rattle.nl_tree.specs.Grammar.{Part, Reads, closed_number, closed_text, closed_constant, closed_plain, closed_variable, closed_local, closed_list, closed_block, paren, paren_many, paren_minus, chain_closed, chain_with, chain_near, one_side, more_sides, call_prefix, call_many, one_item, more_items, no_item, any_item, last_call, more_last, item_chain, item_call, item_near, item_of, level_up, level_binary, literal_end, literal_number, literal_text, literal_constant, literal_list, arg_item, arg_whole, arg_commands, arg_reporter, arg_variable, arg_local, no_arg, arg, maybe_there, maybe_missing, command, make, statement_paren, at_bracket, at_end, statements}
+use Rattle.nl_tree.specs.Grammar.{Part, Reads, closed_number, closed_text, closed_constant, closed_plain, closed_variable, closed_local, closed_list, closed_block, paren, paren_many, paren_minus, chain_closed, chain_with, chain_near, one_side, more_sides, call_prefix, call_many, one_item, more_items, no_item, any_item, last_call, more_last, item_chain, item_call, item_near, item_of, level_up, level_binary, literal_end, literal_number, literal_text, literal_constant, literal_list, arg_item, arg_whole, arg_commands, arg_reporter, arg_arrow_commands, arg_arrow_reporter, arg_variable, arg_local, no_head, head_arrow, head_name, head_names, names_end, next_name, no_arg, arg, maybe_there, maybe_missing, command, make, statement_paren, at_bracket, at_end, statements}
 
 -- What is left of tokens.
 pub data Suffix (c : List Tok) : List Tok → Type 0 where
@@ -57,8 +57,16 @@ suffix (arg_item d) = suffix d
 suffix (arg_whole d) = suffix d
 suffix (arg_commands d) = longer (suffix d)
 suffix (arg_reporter d) = longer (beyond (suffix d) (longer same))
+suffix (arg_arrow_commands d f) = longer (beyond (suffix d) (suffix f))
+suffix (arg_arrow_reporter d f) = longer (beyond (beyond (suffix d) (suffix f)) (longer same))
 suffix arg_variable = longer same
 suffix (arg_local m) = longer same
+suffix no_head = same
+suffix head_arrow = longer same
+suffix (head_name m) = longer (longer same)
+suffix (head_names d) = longer (beyond (suffix d) (longer same))
+suffix names_end = longer same
+suffix (next_name m d) = longer (suffix d)
 suffix no_arg = same
 suffix (arg d f) = beyond (suffix d) (suffix f)
 suffix (maybe_there d f) = beyond (suffix d) (suffix f)

@@ -1,9 +1,8 @@
 -- The word table at examples, and that no row is lost on the way to the grammar.
-use Rattle.std.proofs.Common.{◌≡◌, ℕ, Bool, true, false, ◌||◌, List, [], ◌∷◌, ◌++◌, map, Option, Some, None, refl, codes, is_some}
+use Rattle.std.proofs.Common.{◌≡◌, ℕ, Bool, true, false, not, ◌||◌, ◌&&◌, List, [], ◌∷◌, ◌++◌, map, Option, Some, None, refl, codes, bytes_eq, is_some}
 use Rattle.std.specs.List.{list_all}
 use Rattle.nl_words.specs.Row.{Row, row_named}
 use Rattle.nl_words.specs.Rows.{rows}
-use Rattle.nl_words.specs.Table.{has_turns}
 use Rattle.nl_words.specs.declared.entry.Role.{Role}
 use Rattle.nl_words.specs.declared.entry.Role.TheVariants as role
 use Rattle.nl_words.specs.Kinds.{kinds}
@@ -14,10 +13,10 @@ use Rattle.nl_tree.specs.declared.declared.What.{What}
 use Rattle.nl_tree.specs.declared.declared.What.TheVariants as what
 use Rattle.nl_tree.specs.Term.{Term}
 use Rattle.nl_tree.specs.Vocabulary.{Pattern, base_term, terms, term_named, what_named, made_terms, turtle_patterns, undirected_patterns, directed_patterns, patterns}
-use Rattle.nl_tree.specs.Tokens.{Class, Unknown, Constant, Plain, Named, Prefix, Many, Closing, Command, Let, With, Near, Of, Binary, Nowhere, class_of_term}
+use Rattle.nl_tree.specs.Tokens.{Class, Unknown, Constant, Plain, Named, Prefix, Many, Closing, Command, Let, With, Near, Of, Binary, Arrow, Nowhere, class_of_term}
 use Rattle.nl_tree.specs.Names.{has_no_duplicate}
 
--- only reserved words, and for now words with an arrow block, have no place in a body
+-- only reserved words have no place in a body, and of these the arrow has one
 abbrev has_a_place : Class → Bool
 has_a_place Nowhere = false
 has_a_place Unknown = false
@@ -33,6 +32,7 @@ has_a_place With = true
 has_a_place (Near n) = true
 has_a_place Of = true
 has_a_place (Binary l m) = true
+has_a_place Arrow = true
 
 abbrev is_reserved : Role → Bool
 is_reserved role.Reserved = true
@@ -47,7 +47,7 @@ agree true b = b
 agree false true = false
 agree false false = true
 
-no_row_is_lost : list_all (λ (r : Row). agree (has_a_place (class_of_term (base_term r))) (agree false (is_reserved r.role || has_turns r.turns))) rows ≡ true
+no_row_is_lost : list_all (λ (r : Row). agree (has_a_place (class_of_term (base_term r))) (agree false (is_reserved r.role && not (bytes_eq r.name (codes "->"))))) rows ≡ true
 unfolding rows
 no_row_is_lost = refl
 

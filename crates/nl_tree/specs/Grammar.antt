@@ -10,9 +10,10 @@ use Rattle.nl_tree.specs.declared.declared.Form.{Form}
 use Rattle.nl_tree.specs.declared.declared.Form.TheVariants as form
 use Rattle.nl_tree.specs.Tree.{Node, node, Nodes, none, more}
 use Rattle.nl_tree.specs.Vocabulary.{among}
-use Rattle.nl_tree.specs.Tokens.{Unknown, Constant, Plain, Named, Prefix, Many, Closing, Command, Let, With, Near, Of, Binary, Tok, number, text, word, open_bracket, close_bracket, open_paren, close_paren, end, span_of}
+use Rattle.nl_tree.specs.Tokens.{Unknown, Constant, Plain, Named, Prefix, Many, Closing, Command, Let, With, Near, Of, Binary, Arrow, Tok, number, text, word, open_bracket, close_bracket, open_paren, close_paren, end, span_of}
 use Rattle.nl_tree.specs.declared.needs.Block.{Block}
 use Rattle.nl_tree.specs.declared.needs.Block.TheVariants as blocks
+use Rattle.nl_tree.specs.declared.needs.Content.TheVariants as contents
 use Rattle.nl_tree.specs.declared.needs.Need.{Need}
 use Rattle.nl_tree.specs.declared.needs.Ending.{Ending}
 use Rattle.nl_tree.specs.declared.needs.Ending.TheVariants.{AtBracket, AtEnd}
@@ -57,6 +58,8 @@ pub data Part : Type 0 where
   Literals : Part  -- what a literal list holds, and its closing bracket
   Arg : Need → Part  -- one input
   Args : List Need → Part  -- inputs in order
+  Head : ℕ → Names → Names → Part  -- the head of an arrow block, or none: so many names at most; its names, and those that are known after it
+  HeadNames : ℕ → Names → Names → Part  -- names, which are as many, and their closing bracket
   Statement : Names → Part  -- one statement, after which these names are known
   Statements : Ending → Part  -- statements and what ends them
 
@@ -109,10 +112,19 @@ pub data Reads : Part → Names → List Tok → List Tok → Nodes → Type 0 w
   arg_whole : {e : Names} {a c : List Tok} {t : Node} → Reads (Level top) e a c (one t) → Reads (Arg Whole) e a c (one t)
   arg_commands : {e : Names} {s : Span} {b c : List Tok} {ts : Nodes} → Reads (Statements AtBracket) e b c ts → Reads (Arg (Within blocks.Commands)) e (open_bracket s ∷ b) c (one (node label.Commands s ts))
   arg_reporter : {e : Names} {s r : Span} {b c : List Tok} {t : Node} → Reads (Level top) e b (close_bracket r ∷ c) (one t) → Reads (Arg (Within blocks.Reporter)) e (open_bracket s ∷ b) c (one (node label.Reporter s (one t)))
+  arg_arrow_commands : {e f ns : Names} {n : ℕ} {s : Span} {b c d : List Tok} {ts : Nodes} → Reads (Head n ns f) e b c none → Reads (Statements AtBracket) f c d ts → Reads (Arg (Within (blocks.Arrow contents.Commands n))) e (open_bracket s ∷ b) d (one (node (label.Arrow ns) s (one (node label.Commands s ts))))
+  arg_arrow_reporter : {e f ns : Names} {n : ℕ} {s r : Span} {b c d : List Tok} {t : Node} → Reads (Head n ns f) e b c none → Reads (Level top) f c (close_bracket r ∷ d) (one t) → Reads (Arg (Within (blocks.Arrow contents.Reporter n))) e (open_bracket s ∷ b) d (one (node (label.Arrow ns) s (one t)))
   arg_variable : {e : Names} {w : Name} {s : Span} {c : List Tok} → Reads (Arg Variable) e (word w Named s ∷ c) c (one (leaf (label.Named w) s))
   arg_local : {e : Names} {w : Name} {s : Span} {c : List Tok} → IsTrue (among w e) → Reads (Arg Variable) e (word w Unknown s ∷ c) c (one (leaf (label.Named w) s))
   no_arg : {e : Names} {c : List Tok} → Reads (Args []) e c c none
   arg : {e : Names} {i : Need} {is : List Need} {a b c : List Tok} {t : Node} {ts : Nodes} → Reads (Arg i) e a b (one t) → Reads (Args is) e b c ts → Reads (Args (i ∷ is)) e a c (more t ts)
+  -- Head of an arrow block: nothing, an arrow, a name and an arrow, or names in brackets and an arrow. A name has no row and isn't known.
+  no_head : {e : Names} {n : ℕ} {c : List Tok} → Reads (Head n [] e) e c c none
+  head_arrow : {e : Names} {n : ℕ} {w : Name} {s : Span} {c : List Tok} → Reads (Head n [] e) e (word w Arrow s ∷ c) c none
+  head_name : {e : Names} {n : ℕ} {w v : Name} {s r : Span} {c : List Tok} → IsTrue (not (among w e)) → Reads (Head (suc n) (w ∷ []) (w ∷ e)) e (word w Unknown s ∷ word v Arrow r ∷ c) c none
+  head_names : {e f ns : Names} {n : ℕ} {v : Name} {s r : Span} {b c : List Tok} → Reads (HeadNames n ns f) e b (word v Arrow r ∷ c) none → Reads (Head n ns f) e (open_bracket s ∷ b) c none
+  names_end : {e : Names} {n : ℕ} {s : Span} {c : List Tok} → Reads (HeadNames n [] e) e (close_bracket s ∷ c) c none
+  next_name : {e f ns : Names} {n : ℕ} {w : Name} {s : Span} {b c : List Tok} → IsTrue (not (among w e)) → Reads (HeadNames n ns f) (w ∷ e) b c none → Reads (HeadNames (suc n) (w ∷ ns) f) e (word w Unknown s ∷ b) c none
   -- A block that may be missing is there exactly where a bracket opens next.
   maybe_there : {e : Names} {is : List Need} {a b c : List Tok} {t : Node} {ts : Nodes} → Reads (Arg (Within blocks.Commands)) e a b (one t) → Reads (Args is) e b c ts → Reads (Args (Maybe ∷ is)) e a c (more t ts)
   maybe_missing : {e : Names} {is : List Need} {a c : List Tok} {ts : Nodes} → IsTrue (not (opens a)) → Reads (Args is) e a c ts → Reads (Args (Maybe ∷ is)) e a c ts
@@ -135,8 +147,9 @@ abbrev pub IsText : Form → Names → List Tok → Node → Type 0
 IsText form.Commands e a t = (ts : Nodes) × (t ≡ node label.Commands (span_of_first a) ts) × Reads (Statements AtEnd) e a [] ts
 IsText form.Reporter e a t = (s : Span) × Reads (Level top) e a (end s ∷ []) (one t)
 
--- Which names are known where `left` tokens are left, in a reading: those known to the statements in which that place lies. At a closing
--- parenthesis the statement inside of it is over, so what it makes is known there. A reading knows what those inside of it know.
+-- Which names are known where `left` tokens are left, in a reading: those known to the statements in which that place lies, and those of the
+-- head of an arrow block, from behind each one's own token to the bracket that closes the block. At a closing parenthesis the statement inside
+-- of it is over, so what it makes is known there. A reading knows what those inside of it know.
 abbrev lies_in : List Tok → List Tok → ℕ → Bool
 lies_in a c left = nat_lt (length c) left && nat_le left (length a)
 
@@ -180,8 +193,16 @@ knows n left (arg_item d) = knows n left d
 knows n left (arg_whole d) = knows n left d
 knows n left (arg_commands d) = knows n left d
 knows n left (arg_reporter d) = knows n left d
+knows n left (arg_arrow_commands ds fs) = knows n left ds || knows n left fs
+knows n left (arg_arrow_reporter {f = f} {c = c} {d = d} ds g) = knows n left ds || lies_in c d left && among n f || knows n left g
 knows n left arg_variable = false
 knows n left (arg_local h) = false
+knows n left no_head = false
+knows n left head_arrow = false
+knows n left (head_name {e = e} {w = w} {c = c} h) = (left == length c + 1) && among n (w ∷ e)
+knows n left (head_names {f = f} {c = c} ds) = (left == length c + 1) && among n f || knows n left ds
+knows n left (names_end {e = e} {c = c}) = (left == length c + 1) && among n e
+knows n left (next_name {e = e} {b = b} h ds) = (left == length b + 1) && among n e || knows n left ds
 knows n left no_arg = false
 knows n left (arg d ds) = knows n left d || knows n left ds
 knows n left (maybe_there d ds) = knows n left d || knows n left ds

@@ -11,7 +11,7 @@ use Rattle.nl_tree.specs.declared.declared.What.TheVariants as what
 use Rattle.nl_tree.specs.Tree.{Node, node, Nodes, none, more}
 use Rattle.nl_tree.specs.Term.{Term}
 use Rattle.nl_tree.specs.Vocabulary.{among, term_named, terms, what_named, global_names}
-use Rattle.nl_tree.specs.Tokens.{Class, Unknown, Constant, Plain, Named, Prefix, Many, Closing, Command, Let, With, Near, Of, Binary, Nowhere, class_of}
+use Rattle.nl_tree.specs.Tokens.{Class, Unknown, Constant, Plain, Named, Prefix, Many, Closing, Command, Let, With, Near, Of, Binary, Arrow, Nowhere, class_of}
 use Rattle.nl_tree.specs.Checked.{IsInRange}
 
 -- the name of a node of a word
@@ -50,6 +50,7 @@ is_let With = false
 is_let (Near n) = false
 is_let Of = false
 is_let (Binary l m) = false
+is_let Arrow = false
 is_let Nowhere = false
 
 abbrev pub top_name : Node → Names

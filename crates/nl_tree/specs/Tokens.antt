@@ -3,14 +3,17 @@ use Rattle.std.specs.Prelude.{ℕ, zero, suc, ◌+◌, ◌-◌, ◌==◌, Bool, 
 use Rattle.std.specs.List.{list_any}
 use Rattle.std.specs.Str.{IsUtf8}
 use Rattle.nl_fixed.specs.Nouns.{Bytes, Name}
-use Rattle.nl_words.specs.Table.{is_name, has_turns}
+use Rattle.nl_words.specs.Table.{is_name}
 use Rattle.nl_words.specs.declared.entry.Role.{Role}
 use Rattle.nl_words.specs.declared.entry.Role.TheVariants as role
 use Rattle.nl_words.specs.declared.entry.Input.{Input}
 use Rattle.nl_words.specs.declared.entry.Input.TheVariants as input
+use Rattle.nl_words.specs.declared.entry.Turns.{Turns}
+use Rattle.nl_words.specs.declared.entry.Turns.TheVariants as turns
 use Rattle.nl_fixed.specs.declared.span.Span.{Span}
 use Rattle.nl_tree.specs.declared.needs.Block.{Block}
 use Rattle.nl_tree.specs.declared.needs.Block.TheVariants as blocks
+use Rattle.nl_tree.specs.declared.needs.Content.TheVariants as contents
 use Rattle.nl_tree.specs.declared.needs.Need.{Need}
 use Rattle.nl_tree.specs.declared.needs.Need.TheVariants.{Item, Whole, Within, Maybe, Variable}
 use Rattle.nl_tree.specs.Term.{Term}
@@ -62,6 +65,7 @@ pub data Class : Type 0 where
   Near : ℕ → Class  -- level 1, with n + 1 closed right sides
   Of : Class
   Binary : ℕ → Bool → Class  -- an operator of level n + 4; whether it is the minus sign
+  Arrow : Class  -- ends the head of an arrow block
   Nowhere : Class  -- may stand nowhere in a body
 
 -- An input for a new name. Only `let` has one.
@@ -69,31 +73,39 @@ abbrev pub is_new : Input → Bool
 is_new input.Fresh = true
 is_new i = false
 
--- An input of a command, where a value is a whole expression. A new name, an arrow block and cases are asked for by no row that comes to this.
-abbrev pub need_of_command : Input → Need
-need_of_command input.Value = Whole
-need_of_command input.Expression = Whole
-need_of_command input.Commands = Within blocks.Commands
-need_of_command input.MaybeCommands = Maybe
-need_of_command input.Reporter = Within blocks.Reporter
-need_of_command input.Variable = Variable
-need_of_command input.Fresh = Whole
-need_of_command input.ArrowCommands = Whole
-need_of_command input.ArrowReporter = Whole
-need_of_command input.Cases = Whole
+-- How many names the head of an arrow block has at most: as many as a turn has values. Without parentheses there is one list.
+abbrev pub names_of : Turns → ℕ
+names_of turns.NoTurn = 0
+names_of turns.OneValue = 1
+names_of turns.TwoValues = 2
+names_of turns.ValueOfEachList = 1
+
+-- An input of a command, where a value is a whole expression and an arrow block has so many names at most. A new name and cases are asked for
+-- by no row that comes to this.
+abbrev pub need_of_command : ℕ → Input → Need
+need_of_command n input.Value = Whole
+need_of_command n input.Expression = Whole
+need_of_command n input.Commands = Within blocks.Commands
+need_of_command n input.MaybeCommands = Maybe
+need_of_command n input.Reporter = Within blocks.Reporter
+need_of_command n input.Variable = Variable
+need_of_command n input.Fresh = Whole
+need_of_command n input.ArrowCommands = Within (blocks.Arrow contents.Commands n)
+need_of_command n input.ArrowReporter = Within (blocks.Arrow contents.Reporter n)
+need_of_command n input.Cases = Whole
 
 -- and of a reporter, where it is an item
-abbrev pub need_of_reporter : Input → Need
-need_of_reporter input.Value = Item
-need_of_reporter input.Expression = Whole
-need_of_reporter input.Commands = Within blocks.Commands
-need_of_reporter input.MaybeCommands = Maybe
-need_of_reporter input.Reporter = Within blocks.Reporter
-need_of_reporter input.Variable = Variable
-need_of_reporter input.Fresh = Whole
-need_of_reporter input.ArrowCommands = Whole
-need_of_reporter input.ArrowReporter = Whole
-need_of_reporter input.Cases = Whole
+abbrev pub need_of_reporter : ℕ → Input → Need
+need_of_reporter n input.Value = Item
+need_of_reporter n input.Expression = Whole
+need_of_reporter n input.Commands = Within blocks.Commands
+need_of_reporter n input.MaybeCommands = Maybe
+need_of_reporter n input.Reporter = Within blocks.Reporter
+need_of_reporter n input.Variable = Variable
+need_of_reporter n input.Fresh = Whole
+need_of_reporter n input.ArrowCommands = Within (blocks.Arrow contents.Commands n)
+need_of_reporter n input.ArrowReporter = Within (blocks.Arrow contents.Reporter n)
+need_of_reporter n input.Cases = Whole
 
 -- the inputs of a term: those of its row, or so many values
 abbrev pub repeated : ℕ → List Input
@@ -115,13 +127,13 @@ last_need (Within b) = Closing [] b
 last_need i = Nowhere
 
 -- a reporter with inputs, the last one told apart
-abbrev pub reporter_of : List Input → Class
-reporter_of [] = Plain
-reporter_of (i ∷ []) = last_need (need_of_reporter i)
-reporter_of (i ∷ j ∷ is) = before (need_of_reporter i) (reporter_of (j ∷ is))
+abbrev pub reporter_of : ℕ → List Input → Class
+reporter_of n [] = Plain
+reporter_of n (i ∷ []) = last_need (need_of_reporter n i)
+reporter_of n (i ∷ j ∷ is) = before (need_of_reporter n i) (reporter_of n (j ∷ is))
 
-abbrev pub reporter_class : List Input → Class
-reporter_class is = if list_any is_new is then Nowhere else reporter_of is
+abbrev pub reporter_class : ℕ → List Input → Class
+reporter_class n is = if list_any is_new is then Nowhere else reporter_of n is
 
 abbrev pub one_more : Class → Class
 one_more (Many n) = Many (n + 1)
@@ -133,9 +145,9 @@ many_class (input.Value ∷ []) = Many 0
 many_class (input.Value ∷ is) = one_more (many_class is)
 many_class is = Nowhere
 
-abbrev pub command_class : List Input → Class
-command_class (input.Fresh ∷ input.Value ∷ []) = Let
-command_class is = if list_any is_new is then Nowhere else Command (map need_of_command is)
+abbrev pub command_class : ℕ → List Input → Class
+command_class n (input.Fresh ∷ input.Value ∷ []) = Let
+command_class n is = if list_any is_new is then Nowhere else Command (map (need_of_command n) is)
 
 -- level 1: a chain on the left, and on the right a block, or closed values
 abbrev pub near_class : List Input → Class
@@ -152,20 +164,25 @@ operator_class level minus is =
     else (if nat_le 4 level && nat_le level 9 then Binary (level - 4) minus
     else Nowhere))
 
-abbrev pub class_by : Role → Bool → Bool → List Input → Class
-class_by role.Command many minus is = command_class is
-class_by role.Reporter true minus is = many_class is
-class_by role.Reporter false minus is = reporter_class is
-class_by (role.Operator level) many minus is = operator_class level minus is
-class_by role.Constant many minus is = Constant
-class_by role.Variable many minus is = Named
-class_by role.Reserved many minus is = Nowhere
+-- of the words that are reserved only the arrow may stand in a body
+abbrev pub reserved_class : Bool → Class
+reserved_class true = Arrow
+reserved_class false = Nowhere
 
--- a word with an arrow block stands nowhere yet
+-- A row of a word of this name, in whose turns there are so many values. A word that has turns and may have more lists in parentheses has one
+-- without them.
+abbrev pub class_by : Name → Role → Bool → ℕ → List Input → Class
+class_by name role.Command many n is = command_class n is
+class_by name role.Reporter true zero is = many_class is
+class_by name role.Reporter true (suc n) is = reporter_class (suc n) is
+class_by name role.Reporter false n is = reporter_class n is
+class_by name (role.Operator level) many n is = operator_class level (bytes_eq name (codes "-")) is
+class_by name role.Constant many n is = Constant
+class_by name role.Variable many n is = Named
+class_by name role.Reserved many n is = reserved_class (bytes_eq name (codes "->"))
+
 abbrev pub class_of_term : Term → Class
-class_of_term t =
-    if has_turns t.turns then Nowhere
-    else class_by t.role t.many (bytes_eq t.name (codes "-")) (inputs_of t)
+class_of_term t = class_by t.name t.role t.many (names_of t.turns) (inputs_of t)
 
 abbrev pub class_of : Option Term → Class
 class_of None = Unknown

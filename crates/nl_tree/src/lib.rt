@@ -15,7 +15,7 @@ pub use declared::{
 };
 pub use faults::{BodyKind, CheckKind};
 pub use index::{NamedWord, NamedWords, Word};
-pub use needs::{Block, Ending, Need};
+pub use needs::{Block, Content, Ending, Need};
 pub use program::Program;
 pub use tree::{Label, Tree, Trees};
 pub use words::word;

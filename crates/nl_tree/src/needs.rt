@@ -1,11 +1,21 @@
 //! What words read, and what ends statements.
 
+/// What stands in an arrow block behind its head.
+#[derive(Clone, Copy, Debug, Drop, PartialEq, Eq)]
+pub enum Content {
+    Commands,
+    /// One expression.
+    Reporter,
+}
+
 /// What a block holds.
 #[derive(Clone, Copy, Debug, Drop, PartialEq, Eq)]
 pub enum Block {
     Commands,
     /// One expression.
     Reporter,
+    /// A head of at most so many names, which may be missing, and the content.
+    Arrow(Content, u64),
 }
 
 /// What a word reads at one place.

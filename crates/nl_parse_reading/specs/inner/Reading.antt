@@ -20,6 +20,9 @@ frame_of e (Frame.Items p l s ts) = M.InItems p l s ts
 frame_of e (Frame.Paren p) = M.InParen p
 frame_of e (Frame.Minus p s) = M.InMinus p s
 frame_of e (Frame.Reporter s) = M.InReporter s
+frame_of e (Frame.NoHead s n) = M.InNoHead s n
+frame_of e (Frame.ArrowReporter s ns) = M.InArrowReporter s e ns
+frame_of e (Frame.ArrowCommands s ns made ts) = M.InArrowCommands s e ns ts
 frame_of e (Frame.Bracket s) = M.InBracket s
 frame_of e (Frame.List s ts) = M.InList s ts
 frame_of e (Frame.Let h n) = M.InLet h.name h.place n.name n.place
@@ -34,6 +37,8 @@ made_over (n ∷ ns) e = made_over ns (n ∷ e)
 -- the names known inside a frame
 abbrev pub names_with : Frame → Names → Names
 names_with (Frame.Statements s k made ts) e = made_over made e
+names_with (Frame.ArrowReporter s ns) e = made_over ns e
+names_with (Frame.ArrowCommands s ns made ts) e = made_over made e
 names_with f e = e
 
 abbrev pub names_within : Option Frame → Names → Names
@@ -45,22 +50,28 @@ abbrev pub maybe_over : Option Name → Names → Names
 maybe_over None e = e
 maybe_over (Some n) e = n ∷ e
 
-abbrev pub mode_of : Mode → M.Mode
-mode_of Mode.Begin = M.Begin
-mode_of (Mode.Opening b) = M.Opening b
-mode_of Mode.Optional = M.Optional
-mode_of Mode.Choosing = M.Choosing
-mode_of (Mode.Have x t) = M.Have x t
-mode_of (Mode.Blocked t) = M.Blocked t
-mode_of (Mode.Shut x t) = M.Shut x t
-mode_of Mode.Listing = M.Listing
-mode_of Mode.Stating = M.Stating
-mode_of (Mode.Naming h) = M.Naming h.name h.place
-mode_of (Mode.Ended t made) = M.Ended t
-mode_of (Mode.Over t) = M.Over t
-mode_of (Mode.Dead f made) = M.Dead
+-- a mode, with the names that are known in the newest frame
+abbrev pub mode_of : Names → Mode → M.Mode
+mode_of e Mode.Begin = M.Begin
+mode_of e (Mode.Opening b) = M.Opening b
+mode_of e (Mode.Heading k n s) = M.Heading k n s
+mode_of e (Mode.InHead k n s ns) = M.InHead k n s e ns
+mode_of e (Mode.Behind k s ns) = M.Behind k s e ns
+mode_of e Mode.Optional = M.Optional
+mode_of e Mode.Choosing = M.Choosing
+mode_of e (Mode.Have x t) = M.Have x t
+mode_of e (Mode.Blocked t) = M.Blocked t
+mode_of e (Mode.Shut x t) = M.Shut x t
+mode_of e Mode.Listing = M.Listing
+mode_of e Mode.Stating = M.Stating
+mode_of e (Mode.Naming h) = M.Naming h.name h.place
+mode_of e (Mode.Ended t made) = M.Ended t
+mode_of e (Mode.Over t) = M.Over t
+mode_of e (Mode.Dead f made) = M.Dead
 
 abbrev pub mode_names : Mode → Names → Names
+mode_names (Mode.InHead k n s ns) e = made_over ns e
+mode_names (Mode.Behind k s ns) e = made_over ns e
 mode_names (Mode.Ended t made) e = maybe_over made e
 mode_names (Mode.Dead f made) e = maybe_over made (names_within f e)
 mode_names m e = e

@@ -1,5 +1,5 @@
 -- What the reader's tokens stand for.
-use Rattle.std.specs.Prelude.{Bool, true, false, List, ◌∷◌, ◌++◌, map}
+use Rattle.std.specs.Prelude.{ℕ, Bool, true, false, List, ◌∷◌, ◌++◌, map}
 use Rattle.nl_words.specs.declared.entry.Input.{Input}
 use Rattle.nl_words.specs.declared.entry.Input.TheVariants as input
 use Rattle.nl_tree.specs.Tokens as T
@@ -8,13 +8,13 @@ use Rattle.nl_parse_reading.specs.declared.marks.Inputs.{Inputs}
 use Rattle.nl_parse_reading.specs.declared.marks.Class.{Class}
 use Rattle.nl_parse_reading.specs.declared.marks.Mark.{Mark}
 
--- an input of a command, or of a reporter
-abbrev pub need_by : Bool → Input → Need
-need_by true i = T.need_of_command i
-need_by false i = T.need_of_reporter i
+-- an input of a command, or of a reporter, where the head of an arrow block has so many names at most
+abbrev pub need_by : Bool → ℕ → Input → Need
+need_by true n i = T.need_of_command n i
+need_by false n i = T.need_of_reporter n i
 
 abbrev pub needs_of : Inputs → List Need
-needs_of is = map (need_by is.whole) (is.listed.now ++ T.repeated is.values)
+needs_of is = map (need_by is.whole is.names) (is.listed.now ++ T.repeated is.values)
 
 -- the inputs behind blocks that may be missing
 abbrev pub behind_maybes : List Input → List Input
@@ -35,6 +35,7 @@ class_of Class.With = T.With
 class_of (Class.Near n) = T.Near n
 class_of Class.Of = T.Of
 class_of (Class.Binary l m) = T.Binary l m
+class_of Class.Arrow = T.Arrow
 class_of Class.Nowhere = T.Nowhere
 
 abbrev pub mark_of : Mark → T.Tok

@@ -1,6 +1,6 @@
 -- What the reader asks of the machine's stack.
 use Rattle.std.specs.Prelude.{ℕ, suc, Bool, true, false, List, [], ◌∷◌}
-use Rattle.nl_parse_grammar.specs.Machine.{Frame, InNear, InCall, InMany, InLet, InList, InItems, InStatements, InStatementParen, closes}
+use Rattle.nl_parse_grammar.specs.Machine.{Frame, InNear, InCall, InMany, InLet, InList, InItems, InStatements, InArrowCommands, InStatementParen, closes}
 
 -- a right side is read that others follow
 abbrev pub more_sides : List Frame → Bool
@@ -33,6 +33,7 @@ is_waiting K = false
 -- a statement may stand here
 abbrev pub is_stating : List Frame → Bool
 is_stating (InStatements s k before ts ∷ K) = true
+is_stating (InArrowCommands s before ns ts ∷ K) = true
 is_stating (InStatementParen s ∷ K) = true
 is_stating K = false
 

@@ -14,7 +14,7 @@ abbrev pub names_of : Reader → Names
 names_of r = names_onto r.stack.items r.inputs.now
 
 abbrev pub state_of : Reader → M.State
-state_of r = M.st (mode_of r.mode) (mode_names r.mode (names_of r)) (stack_of r)
+state_of r = M.st (mode_of (names_of r) r.mode) (mode_names r.mode (names_of r)) (stack_of r)
 
 -- what lies under its newest frame, and the names known there
 abbrev pub outer_stack_of : Reader → List M.Frame
