@@ -1,5 +1,5 @@
 -- A text means the same beside a program and beside what is bare of it: the order of its words and its kinds aren't looked at.
-use Rattle.std.proofs.Common.{◌≡◌, ℕ, zero, suc, Bool, false, List, [], Option, refl, ap, ◌∙◌}
+use Rattle.std.proofs.Common.{◌≡◌, ℕ, zero, suc, Bool, false, [], Option, refl, ap, ◌∙◌}
 use mathlib.Core.Path.{fun_ext}
 use Rattle.nl_words.specs.declared.entry.Kinds.{Kinds}
 use Rattle.nl_tree.specs.Checked.{Checked}

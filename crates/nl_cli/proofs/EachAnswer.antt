@@ -7,7 +7,7 @@ use Rattle.nl_tree.specs.Tree.{Node}
 use Rattle.nl_experiment_fields.specs.declared.fields.Fields.{Fields}
 use Rattle.nl_experiment.specs.Laws.{HaveTrees}
 use Rattle.nl_experiment.specs.Plan.{experiment_says}
-use Rattle.nl_experiment.specs.Texts.{metrics_from, texts_of, until_texts}
+use Rattle.nl_experiment.specs.Texts.{LoneText, metrics_from, texts_of, until_texts, when_texts}
 use Rattle.nl_experiment.specs.Widgets.{widgets_of}
 use Rattle.nl_experiment.proofs.OneThing.{texts_have_trees_or_faults}
 use Rattle.nl_check_model.specs.Verdict.{IsVerdict, Verdict}
@@ -31,16 +31,24 @@ metrics_there p number (text ∷ texts) have =
     let (trees, are) = metrics_there p (number + 1) texts have.1 in
     (have.0.0 ∷ trees, (have.0.1, are))
 
-until_there : (p : Checked) (text : Option Bytes) (texts : Names) → HaveTrees p (until_texts text ++ metrics_from 1 texts)
+until_there : (p : Checked) (text : Option Bytes) (behind : List LoneText) → HaveTrees p (until_texts text ++ behind)
+    → ((tree : Option Node) × MaybeTree p text tree) × HaveTrees p behind
+until_there p None behind have = ((None, tt), have)
+until_there p (Some text) behind have = ((Some have.0.0, have.0.1), have.1)
+
+when_there : (p : Checked) (text : Option Bytes) (texts : Names) → HaveTrees p (when_texts text ++ metrics_from 1 texts)
     → ((tree : Option Node) × MaybeTree p text tree) × HaveTrees p (metrics_from 1 texts)
-until_there p None texts have = ((None, tt), have)
-until_there p (Some text) texts have = ((Some have.0.0, have.0.1), have.1)
+when_there p None texts have = ((None, tt), have)
+when_there p (Some text) texts have = ((Some have.0.0, have.0.1), have.1)
 
 trees_there : (f : Fields) (p : Checked) → HaveTrees p (texts_of f) → (trees : Trees) × AreTreesOf f p trees
 trees_there f p have =
-    let ((until, is), others) = until_there p f.until f.metrics have.1.1 in
-    let (metrics, are) = metrics_there p 1 f.metrics others in
-    (record { setup = have.0.0; go = have.1.0.0; until = until; metrics = metrics }, record { setup = have.0.1; go = have.1.0.1; until = is; metrics = are })
+    let ((until, is), later) = until_there p f.until (when_texts f.measure_when ++ metrics_from 1 f.metrics) have.1.1 in
+    let ((when, so), others) = when_there p f.measure_when f.metrics later in
+    let (metrics, are) = metrics_there p 1 f.metrics others in (
+      record { setup = have.0.0; go = have.1.0.0; until = until; when = when; metrics = metrics },
+      record { setup = have.0.1; go = have.1.0.1; until = is; when = so; metrics = are },
+    )
 
 texts_say : (f : Fields) (p : Checked) (source : Bytes) → length p.bodies ≡ length p.declared.procedures → (job : Result Job End) × TextsSay f p source job
 texts_say f p source many = elim (texts_have_trees_or_faults p f many) [

@@ -13,7 +13,7 @@ use Rattle.nl_tree.specs.declared.tree.Tree.{Tree}
 use Rattle.nl_bench.specs.Texts.{experiment_text, model_text}
 use Rattle.nl_experiment_fields.specs.declared.fields.Fields.{Fields}
 use Rattle.nl_experiment.specs.Plan.{experiment_says}
-use Rattle.nl_experiment.specs.Texts.{AreTreesFor, metrics_from, texts_of, trees_of, until_texts, until_trees}
+use Rattle.nl_experiment.specs.Texts.{AreTreesFor, LoneText, maybe_trees, metrics_from, texts_of, trees_of, until_texts, when_texts}
 use Rattle.nl_experiment.specs.Widgets.{widgets_of}
 use Rattle.nl_check_model.specs.Verdict.{IsVerdict}
 use Rattle.nl_run.specs.Experiments.{trees_seen}
@@ -56,12 +56,19 @@ texts_stop model experiment fields program (End.Read role) is verdict says = abs
 texts_stop model experiment fields program End.Write is verdict says = absurd says
 
 -- the trees of the code are those of the definition
-until_tree : (p : Checked) (text : Option Bytes) (tree : Option Tree) (texts : Names) (trees : List Node) → is_some tree ≡ is_some text
-    → AreTreesFor p (until_texts text ++ metrics_from 1 texts) (until_trees tree ++ trees) → MaybeTree p text (option_map plain tree) × AreTreesFor p (metrics_from 1 texts) trees
-until_tree p None None texts trees both are = (tt, are)
-until_tree p (Some text) (Some tree) texts trees both are = (are.0.right, are.1)
-until_tree p None (Some tree) texts trees both are = cc
-until_tree p (Some text) None texts trees both are = cc
+until_tree : (p : Checked) (text : Option Bytes) (tree : Option Tree) (behind : List LoneText) (trees : List Node) → is_some tree ≡ is_some text
+    → AreTreesFor p (until_texts text ++ behind) (maybe_trees tree ++ trees) → MaybeTree p text (option_map plain tree) × AreTreesFor p behind trees
+until_tree p None None behind trees both are = (tt, are)
+until_tree p (Some text) (Some tree) behind trees both are = (are.0.right, are.1)
+until_tree p None (Some tree) behind trees both are = cc
+until_tree p (Some text) None behind trees both are = cc
+
+when_tree : (p : Checked) (text : Option Bytes) (tree : Option Tree) (behind : List LoneText) (trees : List Node) → is_some tree ≡ is_some text
+    → AreTreesFor p (when_texts text ++ behind) (maybe_trees tree ++ trees) → MaybeTree p text (option_map plain tree) × AreTreesFor p behind trees
+when_tree p None None behind trees both are = (tt, are)
+when_tree p (Some text) (Some tree) behind trees both are = (are.0.right, are.1)
+when_tree p None (Some tree) behind trees both are = cc
+when_tree p (Some text) None behind trees both are = cc
 
 metric_trees : (p : Checked) (number : ℕ) (texts : Names) (trees : List Node) → AreTreesFor p (metrics_from number texts) trees → MetricTrees p texts trees
 metric_trees p number [] [] are = tt
@@ -71,14 +78,18 @@ metric_trees p number (text ∷ texts) (tree ∷ trees) are = (are.0.right, metr
 
 pub all_judged : (experiment : Bytes) (job : CodeJob) → experiment_says experiment ≡ Ok job.experiment
     → IsVerdict (widgets_of job.experiment) job.model.items (Ok job.program) → is_some job.texts.until ≡ is_some job.experiment.until
-    → AreTreesFor job.program (texts_of job.experiment) (trees_of job.texts) → Judges job.model.items experiment (Ok job)
-all_judged experiment job is verdict both are =
-    let (until, metrics) = until_tree job.program job.experiment.until job.texts.until job.experiment.metrics job.texts.metrics both are.1.1 in (
+    → is_some job.texts.measure_when ≡ is_some job.experiment.measure_when → AreTreesFor job.program (texts_of job.experiment) (trees_of job.texts) → Judges job.model.items experiment (Ok job)
+all_judged experiment job is verdict both so are =
+    let measures = metrics_from 1 job.experiment.metrics in
+    let (until, later) = until_tree job.program job.experiment.until job.texts.until (when_texts job.experiment.measure_when ++ measures)
+    (maybe_trees job.texts.measure_when ++ job.texts.metrics) both are.1.1 in
+    let (when, metrics) = when_tree job.program job.experiment.measure_when job.texts.measure_when measures job.texts.metrics so later in (
       experiments_are_sound experiment (job_in job) is,
       all_said job.model.items experiment job.experiment job.program (trees_seen job.texts) is verdict (record {
         setup = are.0.right;
         go = are.1.0.right;
         until = until;
+        when = when;
         metrics = metric_trees job.program 1 job.experiment.metrics job.texts.metrics metrics;
       }),
     )

@@ -16,7 +16,7 @@ use Rattle.nl_experiment_fields.specs.declared.fields.Fields.{Fields}
 use Rattle.nl_experiment.specs.Laws.{HaveTrees}
 use Rattle.nl_experiment.specs.Numbers.{number_of, run_among}
 use Rattle.nl_experiment.specs.Plan.{experiment_says}
-use Rattle.nl_experiment.specs.Texts.{IsFirstBad, LoneText, metrics_from, texts_of, until_texts}
+use Rattle.nl_experiment.specs.Texts.{IsFirstBad, LoneText, metrics_from, texts_of, until_texts, when_texts}
 use Rattle.nl_experiment.specs.Widgets.{widgets_of}
 use Rattle.nl_experiment.specs.declared.faults.PlanFault.{PlanFault}
 use Rattle.nl_experiment.proofs.OneThing.{faults_are_one, trees_have_no_faults}
@@ -65,6 +65,7 @@ bare_trees f p trees h = record {
   setup = bare_tree p form.Commands f.setup trees.setup h.setup;
   go = bare_tree p form.Commands f.go trees.go h.go;
   until = bare_maybe p f.until trees.until h.until;
+  when = bare_maybe p f.measure_when trees.when h.when;
   metrics = bare_metrics p f.metrics trees.metrics h.metrics;
 }
 
@@ -103,18 +104,18 @@ metrics_once p [] [] (b ∷ ys) h k = absurd k
 metrics_once p (text ∷ texts) [] b h k = absurd h
 metrics_once p (text ∷ texts) (a ∷ xs) [] h k = absurd k
 
-abbrev trees_by : Node → Node → Option Node → List Node → Trees
-trees_by setup go until metrics = record { setup = setup; go = go; until = until; metrics = metrics }
+abbrev trees_by : Node → Node → Option Node → Option Node → List Node → Trees
+trees_by setup go until when metrics = record { setup = setup; go = go; until = until; when = when; metrics = metrics }
 
-four : (a b c d : Node) (m n : Option Node) (xs ys : List Node) → a ≡ b → c ≡ d → m ≡ n → xs ≡ ys
-    → trees_by a c m xs ≡ trees_by b d n ys
-four a b c d m n xs ys e f g h = rw (e, f, g, h) refl
+five : (a b c d : Node) (m n o q : Option Node) (xs ys : List Node) → a ≡ b → c ≡ d → m ≡ n → o ≡ q → xs ≡ ys
+    → trees_by a c m o xs ≡ trees_by b d n q ys
+five a b c d m n o q xs ys e f g h i = rw (e, f, g, h, i) refl
 
 trees_once : (f : Fields) (p : Checked) (a b : Trees) → AreTreesOf f p a → AreTreesOf f p b → a ≡ b
 trees_once f p a b h k =
-    four a.setup b.setup a.go b.go a.until b.until a.metrics b.metrics
+    five a.setup b.setup a.go b.go a.until b.until a.when b.when a.metrics b.metrics
     (trees_are_one p form.Commands f.setup a.setup b.setup h.setup k.setup) (trees_are_one p form.Commands f.go a.go b.go h.go k.go)
-    (maybe_once p f.until a.until b.until h.until k.until) (metrics_once p f.metrics a.metrics b.metrics h.metrics k.metrics)
+    (maybe_once p f.until a.until b.until h.until k.until) (maybe_once p f.measure_when a.when b.when h.when k.when) (metrics_once p f.metrics a.metrics b.metrics h.metrics k.metrics)
 
 -- texts that have trees have no fault
 have_metrics : (p : Checked) (number : ℕ) (texts : Names) (trees : List Node) → MetricTrees p texts trees → HaveTrees p (metrics_from number texts)
@@ -122,14 +123,27 @@ have_metrics p number [] trees h = tt
 have_metrics p number (text ∷ texts) [] h = absurd h
 have_metrics p number (text ∷ texts) (tree ∷ trees) h = ((tree, h.0), have_metrics p (number + 1) texts trees h.1)
 
-have_until : (p : Checked) (text : Option Bytes) (tree : Option Node) (texts : Names) (trees : List Node) → MaybeTree p text tree → MetricTrees p texts trees
-    → HaveTrees p (until_texts text ++ metrics_from 1 texts)
-have_until p None tree texts trees h k = have_metrics p 1 texts trees k
-have_until p (Some text) None texts trees h k = absurd h
-have_until p (Some text) (Some tree) texts trees h k = ((tree, h), have_metrics p 1 texts trees k)
+have_until : (p : Checked) (text : Option Bytes) (tree : Option Node) (behind : List LoneText) → MaybeTree p text tree → HaveTrees p behind
+    → HaveTrees p (until_texts text ++ behind)
+have_until p None tree behind h k = k
+have_until p (Some text) None behind h k = absurd h
+have_until p (Some text) (Some tree) behind h k = ((tree, h), k)
+
+have_when : (p : Checked) (text : Option Bytes) (tree : Option Node) (behind : List LoneText) → MaybeTree p text tree → HaveTrees p behind
+    → HaveTrees p (when_texts text ++ behind)
+have_when p None tree behind h k = k
+have_when p (Some text) None behind h k = absurd h
+have_when p (Some text) (Some tree) behind h k = ((tree, h), k)
 
 have_trees : (f : Fields) (p : Checked) (trees : Trees) → AreTreesOf f p trees → HaveTrees p (texts_of f)
-have_trees f p trees h = ((trees.setup, h.setup), ((trees.go, h.go), have_until p f.until trees.until f.metrics trees.metrics h.until h.metrics))
+have_trees f p trees h = (
+  (trees.setup, h.setup),
+  (
+    (trees.go, h.go),
+    have_until p f.until trees.until (when_texts f.measure_when ++ metrics_from 1 f.metrics) h.until
+        (have_when p f.measure_when trees.when (metrics_from 1 f.metrics) h.when (have_metrics p 1 f.metrics trees.metrics h.metrics)),
+  ),
+)
 
 texts_once : (f : Fields) (p : Checked) (source : Bytes) (r s : Result Job End) → TextsSay f p source r → TextsSay f p source s → r ≡ s
 texts_once f p source r s (inl (a, (are, is))) (inl (b, (be, ks))) =

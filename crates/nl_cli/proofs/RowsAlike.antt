@@ -1,10 +1,9 @@
 -- The rows of a run are the same beside what its program is bare: no text looks at the order of a program's words.
-use Rattle.std.proofs.Common.{◌≡◌, ℕ, zero, suc, ◌+◌, Bool, true, false, not, List, [], ◌∷◌, ◌++◌, Option, Some, None, length, refl, sym, ap, ◌∙◌}
-use Rattle.std.specs.Prelude.{nat_lt, cond}
+use Rattle.std.proofs.Common.{◌≡◌, ℕ, zero, suc, ◌+◌, Bool, true, false, List, [], ◌∷◌, ◌++◌, Option, Some, None, refl, ap, ◌∙◌}
+use Rattle.std.specs.Prelude.{cond}
 use mathlib.Core.Path.{fun_ext}
 use Rattle.nl_fixed.specs.Nouns.{Bytes, Texts}
 use Rattle.nl_value.specs.Plain.{Plain, PlainNumber, PlainTruth, PlainWords, PlainItems, PlainTurtle, PlainPatch, PlainLink, PlainNobody, PlainSet}
-use Rattle.nl_value.specs.Limits.{most_bytes}
 use Rattle.nl_tree.specs.declared.declared.Form.{Form}
 use Rattle.nl_tree.specs.declared.declared.Form.TheVariants as form
 use Rattle.nl_exec_acts.specs.declared.fail.ErrorKind.{ErrorKind}
@@ -15,7 +14,7 @@ use Rattle.nl_exec_meaning.specs.State.{Outcome}
 use Rattle.nl_run.specs.Course.ending
 use Rattle.nl_check_model.specs.Laws.{bare}
 use Rattle.nl_run.specs.Job.{Job, Lone, scene_at_first, set_all, set_named, world_at_first}
-use Rattle.nl_run.specs.Course.{Ending, Standing, Finish, after_go, after_setup, after_until, at_first, behind, cell_of, cells, commands, commands_by, condition, counted, course_within, ending_of, ends_as, fault_by, first_fault, first_state, go_name, go_step, is_reached, measured, measured_if, metric_name, outcome_of, put_back, regular_end, rows_by, rows_of, setup_name, step_or_end, steps, steps_from, truth_by, unit_by, until_name, value, value_by, with_cell, with_row, with_unit}
+use Rattle.nl_run.specs.Course.{Ending, Standing, Finish, after_go, after_setup, after_until, at_first, behind, cells, commands, commands_by, condition, counted, course_within, ending_of, ends_as, ends_by, fault_by, first_state, go_name, go_step, is_reached, judged, measured, measured_if, metric_name, outcome_of, put_back, regular_end, rows_by, rows_of, setup_name, steps, steps_from, truth_by, unit_by, until_name, value, value_by, when, when_name, with_cell, with_row}
 use Rattle.nl_run.specs.Rows.{closed_by}
 use Rattle.nl_run.specs.declared.rows.Row.{Row}
 use Rattle.nl_run.specs.declared.rows.RunEnd.{RunEnd}
@@ -87,31 +86,43 @@ measured_if_same : (yes_ : Bool) (j : Job) (s : Standing) (a b : Next) → ((t :
 measured_if_same true j s a b same = measured_same j s a b same
 measured_if_same false j s a b same = same s
 
+ends_same : (text : Option Lone) (how : RunEnd) (j : Job) (s : Standing) → ends_by text how (bare_run j) s ≡ ends_by text how j s
+ends_same None how j s = measured_same j s (ends_as how) (ends_as how) (λ t. refl)
+ends_same (Some l) how j s = refl
+
 regular_same : (how : RunEnd) (j : Job) (s : Standing) → regular_end how (bare_run j) s ≡ regular_end how j s
-regular_same how j s = measured_if_same (not j.every_step) j s (ends_as how) (ends_as how) (λ t. refl)
+regular_same how j s = ends_same j.when how j s
 
 -- ---- steps
 
-truth_by_same : (j : Job) (l : Lone) (v : Plain) (s : Standing) (a b : Bool → Next) → ((met : Bool) (t : Standing) → a met t ≡ b met t)
-    → truth_by (bare_run j) l v s a ≡ truth_by j l v s b
-truth_by_same j l (PlainTruth truth) s a b same = same truth s
-truth_by_same j l (PlainNumber count) s a b same = refl
-truth_by_same j l (PlainWords bytes) s a b same = refl
-truth_by_same j l (PlainItems items) s a b same = refl
-truth_by_same j l (PlainTurtle turtle) s a b same = refl
-truth_by_same j l (PlainPatch patch) s a b same = refl
-truth_by_same j l (PlainLink link) s a b same = refl
-truth_by_same j l PlainNobody s a b same = refl
-truth_by_same j l (PlainSet set) s a b same = refl
+truth_by_same : (j : Job) (called : Bytes) (l : Lone) (v : Plain) (s : Standing) (a b : Bool → Next) → ((met : Bool) (t : Standing) → a met t ≡ b met t)
+    → truth_by (bare_run j) called l v s a ≡ truth_by j called l v s b
+truth_by_same j called l (PlainTruth truth) s a b same = same truth s
+truth_by_same j called l (PlainNumber count) s a b same = refl
+truth_by_same j called l (PlainWords bytes) s a b same = refl
+truth_by_same j called l (PlainItems items) s a b same = refl
+truth_by_same j called l (PlainTurtle turtle) s a b same = refl
+truth_by_same j called l (PlainPatch patch) s a b same = refl
+truth_by_same j called l (PlainLink link) s a b same = refl
+truth_by_same j called l PlainNobody s a b same = refl
+truth_by_same j called l (PlainSet set) s a b same = refl
+
+judged_same : (j : Job) (called : Bytes) (l : Lone) (s : Standing) (a b : Bool → Next) → ((met : Bool) (t : Standing) → a met t ≡ b met t)
+    → judged (bare_run j) called l s a ≡ judged j called l s b
+judged_same j called l s a b same = value_same j called l s _ _ (λ v t. truth_by_same j called l v t a b same)
 
 condition_same : (j : Job) (o : Option Lone) (s : Standing) (a b : Bool → Next) → ((met : Bool) (t : Standing) → a met t ≡ b met t)
     → condition (bare_run j) o s a ≡ condition j o s b
 condition_same j None s a b same = same false s
-condition_same j (Some l) s a b same = value_same j until_name l s _ _ (λ v t. truth_by_same j l v t a b same)
+condition_same j (Some l) s a b same = judged_same j until_name l s a b same
+
+when_same : (j : Job) (o : Option Lone) (s : Standing) (a b : Next) → ((t : Standing) → a t ≡ b t) → when (bare_run j) o s a ≡ when j o s b
+when_same j None s a b same = same s
+when_same j (Some l) s a b same = judged_same j when_name l s _ _ (λ truth t. measured_if_same truth j t a b same)
 
 after_go_same : (j : Job) (a b : Next) → ((t : Standing) → a t ≡ b t) → (stopped : Bool) (s : Standing) → after_go (bare_run j) a stopped s ≡ after_go j b stopped s
 after_go_same j a b same true s = regular_same end_.Stop j s
-after_go_same j a b same false s = measured_if_same j.every_step j (counted s) a b same
+after_go_same j a b same false s = when_same j j.when (counted s) a b same
 
 unit_by_same : (left : ℕ) (s : Standing) (a b : Next) → ((t : Standing) → a t ≡ b t) → unit_by left s a ≡ unit_by left s b
 unit_by_same zero s a b same = refl
@@ -148,7 +159,7 @@ course_same : (j : Job) (units : ℕ) → course_within (bare_run j) units ≡ c
 unfolding course_within
 course_same j units =
     ap (λ (s : Standing). commands (bare_run j) setup_name j.setup s (after_setup (bare_run j) (steps (bare_run j)))) (ap (λ (w : World). record (at_first j units) { scene = record (scene_at_first j) { world = w } }) (world_same j))
-    ∙ commands_same j setup_name j.setup (at_first j units) _ _ (λ stopped s. measured_if_same j.every_step j s _ _ (λ t. steps_from_same (suc t.left) j t))
+    ∙ commands_same j setup_name j.setup (at_first j units) _ _ (λ stopped s. when_same j j.when s _ _ (λ t. steps_from_same (suc t.left) j t))
 
 closed_same : (j : Job) (step : ℕ) (how : RunEnd) (rows : List Row) → closed_by (bare_run j) step how rows ≡ closed_by j step how rows
 closed_same j step end_.Open rows = refl

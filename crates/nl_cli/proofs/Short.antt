@@ -23,7 +23,7 @@ use Rattle.nl_experiment_keys.specs.Document.{file_holds}
 use Rattle.nl_experiment_keys.specs.declared.faults.PlanKind.{PlanKind}
 use Rattle.nl_experiment_keys.specs.declared.faults.PlanKind.TheVariants.{BadLiteral, BadWorld, TooManyRuns}
 use Rattle.nl_experiment_keys.specs.declared.faults.KeyFault.{KeyFault}
-use Rattle.nl_experiment_fields.specs.Keys.{entry_keys, from_key, known_keys, name_key, step_key, to_key, values_key, vary_key, world_key}
+use Rattle.nl_experiment_fields.specs.Keys.{entry_keys, from_key, known_in, name_key, step_key, to_key, values_key, vary_key, world_key}
 use Rattle.nl_experiment_fields.specs.Reading.{literal_in, literal_or_bad}
 use Rattle.nl_experiment_fields.specs.Entries.{all_steps_given, choice_by, count_of_steps, stepped_number, choice_in, entries_from, entry_by, globals_at, in_entry, is_empty, is_right_value, listed_in, right_value, stepped_in, steps_given, tables_in, values_in, varied_name, vary_at, world_at}
 use Rattle.nl_experiment_fields.specs.File.{fields_in, file_says, head_in, measures_in, scripts_in}
@@ -218,7 +218,7 @@ module _ {A B C D W G V F E : Type 0} where
 
 fields_vary : (members : Members) (f : Fields) → fields_in members ≡ Ok f → vary_at members ≡ Ok f.vary
 fields_vary members f h =
-    last_part (all_known [] known_keys members) (head_in members) (scripts_in members) (measures_in members) (world_at members) (globals_at members) (vary_at members)
+    last_part (all_known [] (known_in members) members) (head_in members) (scripts_in members) (measures_in members) (world_at members) (globals_at members) (vary_at members)
     (λ head scripts measures world globals vary. record {
       name = head.name;
       seed = head.seed;
@@ -228,7 +228,7 @@ fields_vary members f h =
       go = scripts.go;
       until = scripts.until;
       steps = measures.steps;
-      every_step = measures.every_step;
+      measure_when = measures.measure_when;
       budget = measures.budget;
       metrics = measures.metrics;
       bounds = world.min_x ∷ world.max_x ∷ world.min_y ∷ world.max_y ∷ [];

@@ -9,10 +9,9 @@ use Rattle.nl_table.specs.Lines.{lines_text}
 use Rattle.nl_fixed.specs.Nouns.{Bytes, Texts}
 use Rattle.nl_run.specs.declared.rows.Row.{Row}
 use Rattle.nl_experiment.specs.Numbers.{number_of, run_among}
-use Rattle.nl_check_model.specs.Laws.{bare}
 use Rattle.nl_cli.specs.Steps.{◌>>=◌, with_fault}
 use Rattle.nl_cli.specs.declared.ends.End.{End}
-use Rattle.nl_cli.specs.Words.{Command, Paths, table, rerun, check, over, bench, command_of, paths_for}
+use Rattle.nl_cli.specs.Words.{Command, table, rerun, check, over, bench, command_of, paths_for}
 use Rattle.nl_cli.specs.Inputs.{Found, Job, found_in, run_of, runs_in}
 use Rattle.nl_cli.specs.Table.{header_of, joined_text, last_line, row_cells, rows_text, run_lines, run_numbers, settings_in, summary_text, table_text, varied_names}
 use Rattle.nl_cli.specs.Answer.{Answer, AnswersTo, answer_to, made_by, no_such_run}

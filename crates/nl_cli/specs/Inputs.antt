@@ -59,6 +59,7 @@ pub record AreTreesOf (fields : Fields) (program : Checked) (trees : Trees) : Ty
   pub setup : IsLoneTree program form.Commands fields.setup trees.setup
   pub go : IsLoneTree program form.Commands fields.go trees.go
   pub until : MaybeTree program fields.until trees.until
+  pub when : MaybeTree program fields.measure_when trees.when
   pub metrics : MetricTrees program fields.metrics trees.metrics
 
 -- ---- what two texts say

@@ -19,7 +19,7 @@ use Rattle.nl_experiment_keys.specs.declared.faults.PlanKind.{PlanKind}
 use Rattle.nl_experiment_keys.specs.declared.faults.PlanKind.TheVariants.{BadLiteral, BadWorld, TooManyRuns}
 use Rattle.nl_experiment_fields.specs.Entries.{choice_in, entries_from, entry_by, globals_at, in_entry, setting_in, settings_in, table_at, tables_in, varied_name, vary_at, world_at}
 use Rattle.nl_experiment_fields.specs.File.{fields_in, file_says, head_in, measures_in, scripts_in}
-use Rattle.nl_experiment_fields.specs.Keys.{entry_keys, globals_key, in_globals, known_keys, name_key, vary_key, world_key}
+use Rattle.nl_experiment_fields.specs.Keys.{entry_keys, globals_key, in_globals, known_in, name_key, vary_key, world_key}
 use Rattle.nl_experiment_fields.specs.Names.{can_be_varied, can_be_widget, is_built_in, is_of_run, lowered}
 use Rattle.nl_experiment_fields.specs.Reading.{kind_of_literal, literal_in}
 use Rattle.nl_experiment_fields.specs.declared.fields.Fields.{Fields}
@@ -182,7 +182,7 @@ vary_from (Err e) usual = usual
 
 fields_right : (members : Members) (f : Fields) → fields_in members ≡ Ok f → NamesAreRight f
 fields_right members f is =
-    from_bind (all_known [] known_keys members) _ f _ (λ known a one.
+    from_bind (all_known [] (known_in members) members) _ f _ (λ known a one.
     from_bind (head_in members) _ f _ (λ head b two.
     from_bind (scripts_in members) _ f _ (λ scripts c three.
     from_bind (measures_in members) _ f _ (λ measures d four.

@@ -8,7 +8,7 @@ use Rattle.nl_tree.specs.Tree.{Node}
 use Rattle.nl_tree.specs.declared.declared.Form.TheVariants as form
 use Rattle.nl_experiment_fields.specs.Keys.{go_key, setup_key}
 use Rattle.nl_experiment_fields.specs.declared.fields.Fields.{Fields}
-use Rattle.nl_experiment.specs.Texts.{AreTreesFor, IsFirstBad, IsTreeFor, LoneText, RefusesTexts, lone, metric, metrics_from, texts_of, until_texts}
+use Rattle.nl_experiment.specs.Texts.{AreTreesFor, IsFirstBad, IsTreeFor, LoneText, RefusesTexts, lone, metric, metrics_from, texts_of, until_texts, when_texts}
 use Rattle.nl_experiment.specs.declared.faults.PlanFault.{PlanFault}
 use Rattle.nl_experiment.specs.declared.faults.PlanRefusal.{PlanRefusal}
 
@@ -84,33 +84,49 @@ module _ (p : Checked) (f : Fields) where
   abbrev of_go : LoneText
   of_go = lone go_key.name form.Commands f.go
 
+  abbrev measured : List LoneText
+  measured = when_texts f.measure_when ++ metrics_from 1 f.metrics
+
   pub refused_setup : (refusal : PlanRefusal) → RefusesTexts p (lone setup_key.name form.Commands f.setup ∷ []) refusal → RefusesTexts p (texts_of f) refusal
-  refused_setup refusal bad = refused_first p (of_setup ∷ []) (of_go ∷ (until_texts f.until ++ metrics_from 1 f.metrics)) refusal bad
+  refused_setup refusal bad = refused_first p (of_setup ∷ []) (of_go ∷ (until_texts f.until ++ measured)) refusal bad
 
   pub refused_go : (setup : Node) (refusal : PlanRefusal) → IsTreeFor p (lone setup_key.name form.Commands f.setup) setup
       → RefusesTexts p (lone go_key.name form.Commands f.go ∷ []) refusal → RefusesTexts p (texts_of f) refusal
   refused_go setup refusal first bad =
-      refused_later p (of_setup ∷ []) (of_go ∷ (until_texts f.until ++ metrics_from 1 f.metrics)) (setup ∷ []) refusal (first, tt)
-      (refused_first p (of_go ∷ []) (until_texts f.until ++ metrics_from 1 f.metrics) refusal bad)
+      refused_later p (of_setup ∷ []) (of_go ∷ (until_texts f.until ++ measured)) (setup ∷ []) refusal (first, tt)
+      (refused_first p (of_go ∷ []) (until_texts f.until ++ measured) refusal bad)
 
   pub refused_until : (setup go : Node) (refusal : PlanRefusal) → IsTreeFor p (lone setup_key.name form.Commands f.setup) setup
       → IsTreeFor p (lone go_key.name form.Commands f.go) go → RefusesTexts p (until_texts f.until) refusal → RefusesTexts p (texts_of f) refusal
   refused_until setup go refusal first second bad =
-      refused_later p (of_setup ∷ of_go ∷ []) (until_texts f.until ++ metrics_from 1 f.metrics) (setup ∷ go ∷ []) refusal (first, (second, tt))
-      (refused_first p (until_texts f.until) (metrics_from 1 f.metrics) refusal bad)
+      refused_later p (of_setup ∷ of_go ∷ []) (until_texts f.until ++ measured) (setup ∷ go ∷ []) refusal (first, (second, tt))
+      (refused_first p (until_texts f.until) measured refusal bad)
 
-  pub refused_metrics : (setup go : Node) (until : List Node) (refusal : PlanRefusal) → IsTreeFor p (lone setup_key.name form.Commands f.setup) setup
+  pub refused_when : (setup go : Node) (until : List Node) (refusal : PlanRefusal) → IsTreeFor p (lone setup_key.name form.Commands f.setup) setup
       → IsTreeFor p (lone go_key.name form.Commands f.go) go → AreTreesFor p (until_texts f.until) until
-      → RefusesTexts p (metrics_from 1 f.metrics) refusal → RefusesTexts p (texts_of f) refusal
-  refused_metrics setup go until refusal first second third bad =
-      refused_later p (of_setup ∷ of_go ∷ []) (until_texts f.until ++ metrics_from 1 f.metrics) (setup ∷ go ∷ []) refusal (first, (second, tt))
-      (refused_later p (until_texts f.until) (metrics_from 1 f.metrics) until refusal third bad)
+      → RefusesTexts p (when_texts f.measure_when) refusal → RefusesTexts p (texts_of f) refusal
+  refused_when setup go until refusal first second third bad =
+      refused_later p (of_setup ∷ of_go ∷ []) (until_texts f.until ++ measured) (setup ∷ go ∷ []) refusal (first, (second, tt))
+      (refused_later p (until_texts f.until) measured until refusal third (refused_first p (when_texts f.measure_when) (metrics_from 1 f.metrics) refusal bad))
 
-  pub all_trees : (setup go : Node) (until metrics : List Node) → IsTreeFor p (lone setup_key.name form.Commands f.setup) setup
-      → IsTreeFor p (lone go_key.name form.Commands f.go) go → AreTreesFor p (until_texts f.until) until → AreTreesFor p (metrics_from 1 f.metrics) metrics
-      → AreTreesFor p (texts_of f) (setup ∷ go ∷ (until ++ metrics))
-  all_trees setup go until metrics first second third fourth =
-      (first, (second, trees_append p (until_texts f.until) (metrics_from 1 f.metrics) until metrics third fourth))
+  pub refused_metrics : (setup go : Node) (until when : List Node) (refusal : PlanRefusal) → IsTreeFor p (lone setup_key.name form.Commands f.setup) setup
+      → IsTreeFor p (lone go_key.name form.Commands f.go) go → AreTreesFor p (until_texts f.until) until → AreTreesFor p (when_texts f.measure_when) when
+      → RefusesTexts p (metrics_from 1 f.metrics) refusal → RefusesTexts p (texts_of f) refusal
+  refused_metrics setup go until when refusal first second third fourth bad =
+      refused_later p (of_setup ∷ of_go ∷ []) (until_texts f.until ++ measured) (setup ∷ go ∷ []) refusal (first, (second, tt))
+      (refused_later p (until_texts f.until) measured until refusal third (refused_later p (when_texts f.measure_when) (metrics_from 1 f.metrics) when refusal fourth bad))
+
+  pub all_trees : (setup go : Node) (until when metrics : List Node) → IsTreeFor p (lone setup_key.name form.Commands f.setup) setup
+      → IsTreeFor p (lone go_key.name form.Commands f.go) go → AreTreesFor p (until_texts f.until) until → AreTreesFor p (when_texts f.measure_when) when
+      → AreTreesFor p (metrics_from 1 f.metrics) metrics → AreTreesFor p (texts_of f) (setup ∷ go ∷ (until ++ (when ++ metrics)))
+  all_trees setup go until when metrics first second third fourth fifth = (
+    first,
+    (
+      second,
+      trees_append p (until_texts f.until) measured until (when ++ metrics) third
+          (trees_append p (when_texts f.measure_when) (metrics_from 1 f.metrics) when metrics fourth fifth),
+    ),
+  )
 
 -- what a `?` answers
 pub refused_by : {X : Type 0} (p : Checked) (ts : List LoneText) (r : Result X PlanRefusal) (refusal : PlanRefusal) → IsErrAnd r (λ mine. mine ≡ refusal) → RefusesTexts p ts refusal

@@ -12,7 +12,7 @@ use Rattle.nl_tree.specs.declared.tree.Tree.{Tree}
 use Rattle.nl_check_model.specs.LoneText.{IsInner, IsLoneTree}
 use Rattle.nl_check_model.specs.declared.lone_faults.Inner.{Inner}
 use Rattle.nl_experiment_keys.specs.declared.faults.PlanKind.TheVariants.{BadText}
-use Rattle.nl_experiment_fields.specs.Keys.{setup_key, go_key, until_key}
+use Rattle.nl_experiment_fields.specs.Keys.{setup_key, go_key, until_key, measure_when_key}
 use Rattle.nl_experiment_fields.specs.declared.fields.Fields.{Fields}
 use Rattle.nl_experiment.specs.declared.faults.PlanFault.{PlanFault}
 use Rattle.nl_experiment.specs.declared.faults.PlanRefusal.{PlanRefusal}
@@ -44,10 +44,15 @@ abbrev pub until_texts : Option Bytes → List LoneText
 until_texts None = []
 until_texts (Some text) = lone until_key form.Reporter text ∷ []
 
+abbrev pub when_texts : Option Bytes → List LoneText
+when_texts None = []
+when_texts (Some text) = lone measure_when_key form.Reporter text ∷ []
+
 -- in the order in which their faults are told
 abbrev pub texts_of : Fields → List LoneText
 texts_of f =
-    lone setup_key.name form.Commands f.setup ∷ lone go_key.name form.Commands f.go ∷ (until_texts f.until ++ metrics_from 1 f.metrics)
+    lone setup_key.name form.Commands f.setup ∷ lone go_key.name form.Commands f.go
+    ∷ (until_texts f.until ++ (when_texts f.measure_when ++ metrics_from 1 f.metrics))
 
 -- ---- their trees
 
@@ -63,12 +68,12 @@ AreTreesFor p [] (tree ∷ trees) = ⊥
 AreTreesFor p (t ∷ ts) [] = ⊥
 AreTreesFor p (t ∷ ts) (tree ∷ trees) = IsTreeFor p t tree × AreTreesFor p ts trees
 
-abbrev pub until_trees : Option Tree → List Node
-until_trees None = []
-until_trees (Some tree) = plain tree ∷ []
+abbrev pub maybe_trees : Option Tree → List Node
+maybe_trees None = []
+maybe_trees (Some tree) = plain tree ∷ []
 
 abbrev pub trees_of : declared.Texts → List Node
-trees_of texts = plain texts.setup ∷ plain texts.go ∷ (until_trees texts.until ++ texts.metrics)
+trees_of texts = plain texts.setup ∷ plain texts.go ∷ (maybe_trees texts.until ++ (maybe_trees texts.measure_when ++ texts.metrics))
 
 -- ---- their first fault
 

@@ -154,13 +154,14 @@ impl Experiment {
         &self.fields
     }
 
-    /// The trees of the texts beside a program, or the first fault of a text in the order of their keys: `setup`, `go`, `until`, `metric 1`
-    /// and so on. The line and the column of a fault are those in its own text.
+    /// The trees of the texts beside a program, or the first fault of a text in the order of their keys: `setup`, `go`, `until`,
+    /// `measure-when`, `metric 1` and so on. The line and the column of a fault are those in its own text.
     pub fn texts(&self, alloc: Global, program: &Program) -> Result<Texts, PlanRefusal>
         ensures trees { IfOk result (λ texts.
             AreTreesFor program.now (texts_of self.now) (trees_of texts)) }
         ensures fault { IfErr result (RefusesTexts program.now (texts_of self.now)) }
         ensures until { IfOk result (λ texts. is_some texts.until ≡ is_some self.now.until) }
+        ensures when { IfOk result (λ texts. is_some texts.measure_when ≡ is_some self.now.measure_when) }
     {
         crate::texts::texts_of(alloc, &self.fields, program)
     }

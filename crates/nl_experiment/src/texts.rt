@@ -1,7 +1,7 @@
 //! The texts of an experiment beside a program.
 ghost use Rattle.std.specs.Prelude.{◌≡◌, ◌∷◌, [], IfOk, IfErr, is_some, string_bytes};
 ghost use Rattle.nl_tree.specs.Views.{plain};
-ghost use Rattle.nl_experiment_fields.specs.Keys.{until_key};
+ghost use Rattle.nl_experiment_fields.specs.Keys.{measure_when_key, until_key};
 ghost use Rattle.nl_experiment.specs.Texts as spec;
 ghost use Rattle.nl_experiment.specs.Texts.{AreTreesFor, IsTreeFor, RefusesTexts, lone};
 
@@ -20,6 +20,7 @@ pub struct Texts {
     pub go: Tree,
     pub until: Option<Tree>,
     pub metrics: Trees,
+    pub measure_when: Option<Tree>,
 }
 
 // A fault of the text at a key, or want of memory for it.
@@ -55,20 +56,40 @@ fn tree_at(
     }
 }
 
-// The tree of the condition, where there is one.
+// The tree of the condition of the end, where there is one.
 fn until_tree(
     alloc: Global,
     until: &Option<Str>,
     program: &Program,
 ) -> Result<Option<Tree>, PlanRefusal>
     ensures trees { IfOk result (λ tree.
-        AreTreesFor program.now (spec.until_texts until.now) (spec.until_trees tree)) }
+        AreTreesFor program.now (spec.until_texts until.now) (spec.maybe_trees tree)) }
     ensures fault { IfErr result (RefusesTexts program.now (spec.until_texts until.now)) }
     ensures until { IfOk result (λ tree. is_some tree ≡ is_some until.now) }
 {
     match until {
         Some(text) => {
             let tree = tree_at(alloc, "until", Form::Reporter, text, program)?;
+            Ok(Some(tree))
+        }
+        None => Ok(None),
+    }
+}
+
+// The tree of the condition of the measures, where there is one.
+fn when_tree(
+    alloc: Global,
+    when: &Option<Str>,
+    program: &Program,
+) -> Result<Option<Tree>, PlanRefusal>
+    ensures trees { IfOk result (λ tree.
+        AreTreesFor program.now (spec.when_texts when.now) (spec.maybe_trees tree)) }
+    ensures fault { IfErr result (RefusesTexts program.now (spec.when_texts when.now)) }
+    ensures when { IfOk result (λ tree. is_some tree ≡ is_some when.now) }
+{
+    match when {
+        Some(text) => {
+            let tree = tree_at(alloc, "measure-when", Form::Reporter, text, program)?;
             Ok(Some(tree))
         }
         None => Ok(None),
@@ -116,7 +137,7 @@ fn metric_trees(alloc: Global, metrics: &[Str], program: &Program) -> Result<Tre
 }
 
 /// The trees of all texts of an experiment, or the first fault in the order of their keys.
-#[tactic(auto, using(crate::proofs::Lone::refused_setup, crate::proofs::Lone::refused_go, crate::proofs::Lone::refused_until, crate::proofs::Lone::refused_metrics, crate::proofs::Lone::all_trees))]
+#[tactic(auto, using(crate::proofs::Lone::refused_setup, crate::proofs::Lone::refused_go, crate::proofs::Lone::refused_until, crate::proofs::Lone::refused_when, crate::proofs::Lone::refused_metrics, crate::proofs::Lone::all_trees))]
 pub(crate) fn texts_of(
     alloc: Global,
     fields: &Fields,
@@ -126,15 +147,18 @@ pub(crate) fn texts_of(
         AreTreesFor program.now (spec.texts_of fields.now) (spec.trees_of texts)) }
     ensures fault { IfErr result (RefusesTexts program.now (spec.texts_of fields.now)) }
     ensures until { IfOk result (λ texts. is_some texts.until ≡ is_some fields.now.until) }
+    ensures when { IfOk result (λ texts. is_some texts.measure_when ≡ is_some fields.now.measure_when) }
 {
     let setup = tree_at(alloc, "setup", Form::Commands, &fields.setup, program)?;
     let go = tree_at(alloc, "go", Form::Commands, &fields.go, program)?;
     let until = until_tree(alloc, &fields.until, program)?;
+    let measure_when = when_tree(alloc, &fields.measure_when, program)?;
     let metrics = metric_trees(alloc, fields.metrics.as_slice(), program)?;
     Ok(Texts {
         setup,
         go,
         until,
         metrics,
+        measure_when,
     })
 }

@@ -16,7 +16,7 @@ use Rattle.nl_experiment_keys.specs.declared.faults.PlanKind.{PlanKind}
 use Rattle.nl_experiment_keys.specs.declared.faults.PlanKind.TheVariants.{BadLiteral, FloatValue, MissingKey, TooLong}
 use Rattle.nl_experiment_fields.specs.Entries.{all_steps_given, choice_by, choice_in, entries_from, entry_by, globals_at, in_entry, is_given, setting_in, settings_in, stepped_in, stepped_number, table_at, tables_in, varied_name, vary_at, world_at, world_in}
 use Rattle.nl_experiment_fields.specs.File.{fields_in, head_in, measures_in, scripts_in}
-use Rattle.nl_experiment_fields.specs.Keys.{budget_key, entry_keys, every_step_key, format_key, from_key, globals_key, go_key, in_globals, in_world, known_keys, max_pxcor_key, max_pycor_key, metrics_key, min_pxcor_key, min_pycor_key, name_key, repetitions_key, seed_key, sequential_key, setup_key, step_key, steps_key, to_key, until_key, values_key, vary_key, world_key, world_keys, wrap_x_key, wrap_y_key}
+use Rattle.nl_experiment_fields.specs.Keys.{budget_key, entry_keys, every_step_key, format_key, from_key, globals_key, go_key, in_globals, in_world, known_in, max_pxcor_key, max_pycor_key, measure_when_key, metrics_key, min_pxcor_key, min_pycor_key, name_key, repetitions_key, seed_key, sequential_key, setup_key, step_key, steps_key, to_key, until_key, values_key, vary_key, world_key, world_keys, wrap_x_key, wrap_y_key}
 use Rattle.nl_experiment_fields.specs.Laws.{FaultsAreOfTheFile, HasKey, IsEntry, IsOfFile, LacksKey, at_file, at_key, at_missing, no_name, no_name_of_entry, no_values_of_entry, of_entry, of_globals, of_world, own}
 use Rattle.nl_experiment_fields.specs.Names.{lowered}
 use Rattle.nl_experiment_fields.proofs.Binds.{failed, failed_as, from_bind, from_fault, told_ok, told_there}
@@ -143,8 +143,9 @@ measures_told : (members : Members) (fault : KeyFault) → measures_in members �
 measures_told members fault is =
     from_fault (whole_at [] steps_key members) _ fault _ (usual_own steps_key.name _ _ members fault) (λ steps a one.
     from_fault (truth_at [] every_step_key members) _ fault _ (usual_own every_step_key.name _ _ members fault) (λ every_step b two.
+    from_fault (maybe_text_at measure_when_key members) _ fault _ (usual_own measure_when_key _ _ members fault) (λ measure_when e when.
     from_fault (whole_at [] budget_key members) _ fault _ (usual_own budget_key.name _ _ members fault) (λ budget c three.
-    from_fault (texts_at metrics_key members) _ fault _ (usual_own metrics_key _ _ members fault) (λ metrics d last. absurd (cc)) three) two) one) is
+    from_fault (texts_at metrics_key members) _ fault _ (usual_own metrics_key _ _ members fault) (λ metrics d last. absurd (cc)) three) when) two) one) is
 
 -- ---- a table inside of it
 
@@ -345,7 +346,7 @@ vary_told members fault is =
 
 fields_told : (members : Members) (fault : KeyFault) → fields_in members ≡ Err fault → Told members fault
 fields_told members fault is =
-    from_fault (all_known [] known_keys members) _ fault _ (λ bad. own_told members fault (known_told [] known_keys members fault bad)) (λ known a one.
+    from_fault (all_known [] (known_in members) members) _ fault _ (λ bad. own_told members fault (known_told [] (known_in members) members fault bad)) (λ known a one.
     from_fault (head_in members) _ fault _ (head_told members fault) (λ head b two.
     from_fault (scripts_in members) _ fault _ (scripts_told members fault) (λ scripts c three.
     from_fault (measures_in members) _ fault _ (measures_told members fault) (λ measures d four.

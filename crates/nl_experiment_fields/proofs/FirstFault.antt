@@ -6,7 +6,7 @@ use Rattle.nl_experiment_keys.specs.Rows.{maybe_text_at, required_text_at, text_
 use Rattle.nl_experiment_keys.specs.declared.faults.KeyFault.{KeyFault}
 use Rattle.nl_experiment_fields.specs.Entries.{globals_at, vary_at, world_at}
 use Rattle.nl_experiment_fields.specs.File.{fields_in}
-use Rattle.nl_experiment_fields.specs.Keys.{budget_key, every_step_key, format_key, go_key, known_keys, metrics_key, name_key, repetitions_key, seed_key, sequential_key, setup_key, steps_key, until_key}
+use Rattle.nl_experiment_fields.specs.Keys.{budget_key, every_step_key, format_key, go_key, known_in, measure_when_key, metrics_key, name_key, repetitions_key, seed_key, sequential_key, setup_key, steps_key, until_key}
 use Rattle.nl_experiment_fields.specs.Laws.{FaultsGoByKeys, TheFirstFaultIsTold, fault_in, faults_by_key, first_fault}
 
 -- a step, before the next ones
@@ -24,9 +24,9 @@ part (Err fault) f g rest next = refl
 pub keys_in_order : FaultsGoByKeys
 keys_in_order document = refl
 
-of_document : (document : Members) → fault_in (fields_in document) ≡ first_fault (fault_in (all_known [] known_keys document) ∷ map (λ one. one.1) (faults_by_key document))
+of_document : (document : Members) → fault_in (fields_in document) ≡ first_fault (fault_in (all_known [] (known_in document) document) ∷ map (λ one. one.1) (faults_by_key document))
 of_document document =
-    step (all_known [] known_keys document) _ _ (λ known.
+    step (all_known [] (known_in document) document) _ _ (λ known.
     part (whole_at [] format_key document) _ _ _ (λ format.
     part (required_text_at name_key document) _ _ _ (λ name.
     part (whole_at [] seed_key document) _ _ _ (λ seed.
@@ -37,11 +37,12 @@ of_document document =
     part (maybe_text_at until_key document) _ _ _ (λ until.
     part (whole_at [] steps_key document) _ _ _ (λ steps.
     part (truth_at [] every_step_key document) _ _ _ (λ every_step.
+    part (maybe_text_at measure_when_key document) _ _ _ (λ measure_when.
     part (whole_at [] budget_key document) _ _ _ (λ budget.
     part (texts_at metrics_key document) _ _ _ (λ metrics.
     step (world_at document) _ _ (λ world.
     step (globals_at document) _ _ (λ globals.
-    step (vary_at document) _ [] (λ vary. refl))))))))))))))))
+    step (vary_at document) _ [] (λ vary. refl)))))))))))))))))
 
 pub first_is_told : TheFirstFaultIsTold
 first_is_told file document is = ap (λ (r : Result Members KeyFault). fault_in (r >>= fields_in)) is ∙ of_document document

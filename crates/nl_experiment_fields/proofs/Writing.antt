@@ -30,7 +30,7 @@ use Rattle.nl_experiment_keys.specs.declared.faults.KeyFault.{KeyFault}
 use Rattle.nl_experiment_keys.specs.declared.faults.KeyRefusal.{KeyRefusal}
 use Rattle.nl_experiment_fields.specs.Entries.{all_steps_given, choice_by, choice_in, count_of_steps, entries_from, entry_by, globals_at, in_entry, is_empty, is_right_value, listed_in, right_value, setting_in, settings_in, stepped_in, stepped_number, steps_given, table_at, tables_in, values_in, varied_name, vary_at, world_at}
 use Rattle.nl_experiment_fields.specs.File.{fields_in, file_says, head_in, measures_in, scripts_in}
-use Rattle.nl_experiment_fields.specs.Keys.{entry_keys, from_key, globals_key, in_globals, known_keys, name_key, step_key, to_key, values_key, vary_key}
+use Rattle.nl_experiment_fields.specs.Keys.{entry_keys, from_key, globals_key, in_globals, known_in, name_key, step_key, to_key, values_key, vary_key}
 use Rattle.nl_experiment_fields.specs.Names.{can_be_widget, lowered}
 use Rattle.nl_experiment_fields.specs.Reading.{kind_of_literal, literal_in, literal_or_bad}
 use Rattle.nl_experiment_fields.specs.declared.fields.Fields.{Fields}
@@ -284,7 +284,7 @@ module _ where
 
   fields_written : (keyed : Members) (f : Fields) → fields_in keyed ≡ Ok f → AreWritten f
   fields_written keyed f is =
-      from_bind (all_known [] known_keys keyed) _ f _ (λ known a one.
+      from_bind (all_known [] (known_in keyed) keyed) _ f _ (λ known a one.
       from_bind (head_in keyed) _ f _ (λ head b two.
       from_bind (scripts_in keyed) _ f _ (λ scripts c three.
       from_bind (measures_in keyed) _ f _ (λ measures d four.

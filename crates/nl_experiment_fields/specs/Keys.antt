@@ -1,8 +1,12 @@
--- The keys of an experiment, a row each: what stands there, in which range, and what is usual. A later format adds rows. The keys and what they
+-- The keys of an experiment, a row each: what stands there, in which range, and what is usual, and in which formats. The keys and what they
 -- mean are BehaviorSpace's, where it has them; their names, ranges and usual values are this project's own choice.
-use Rattle.std.specs.Prelude.{ℤ, pos, neg_ℤ, true, false, [], ◌∷◌, codes}
+use Rattle.std.specs.Prelude.{ℤ, pos, neg_ℤ, Bool, true, false, if◌then◌else◌, List, [], ◌∷◌, map, filter, codes, Option, Some, None, Result, Ok, Err}
+use Rattle.std.specs.Ordering.{int_eq}
+use Rattle.toml.specs.Data.{Members}
 use Rattle.nl_fixed.specs.Nouns.{Bytes, Name, Names}
-use Rattle.nl_experiment_keys.specs.Rows.{WholeRow, TruthRow, TextRow}
+use Rattle.nl_experiment_keys.specs.Rows.{WholeRow, TruthRow, TextRow, whole_at}
+use Rattle.nl_experiment_keys.specs.declared.faults.KeyFault.{KeyFault}
+use Rattle.nl_experiment_fields.specs.declared.keys.KeyRow as declared
 use Rattle.nl_experiment_sweep.specs.Varied.{max_pxcor, max_pycor, min_pxcor, min_pycor}
 
 -- the numbers that an integer of TOML can have
@@ -18,7 +22,7 @@ whole name least most usual = record { name = name; least = least; most = most; 
 -- ---- the keys of the document
 
 abbrev pub format_key : WholeRow
-format_key = whole (codes "format") (pos 1) (pos 1) (pos 1)
+format_key = whole (codes "format") (pos 1) (pos 2) (pos 1)
 
 abbrev pub seed_key : WholeRow
 seed_key = whole (codes "seed") (pos 0) most_integer (pos 0)
@@ -51,6 +55,9 @@ name_key = codes "name"
 abbrev pub until_key : Name
 until_key = codes "until"
 
+abbrev pub measure_when_key : Name
+measure_when_key = codes "measure-when"
+
 abbrev pub metrics_key : Name
 metrics_key = codes "metrics"
 
@@ -63,11 +70,64 @@ globals_key = codes "globals"
 abbrev pub vary_key : Name
 vary_key = codes "vary"
 
+-- ---- the formats in which they stand
+
+-- A key, and whether it is one of format 1, and one of format 2. A further format is a further column.
+pub record KeyRow : Type 0 where
+  pub name : Name
+  pub first : Bool
+  pub second : Bool
+
+abbrev in_both : Name → KeyRow
+in_both name = record { name = name; first = true; second = true }
+
 -- all keys, in the order in which their faults are told
-abbrev pub known_keys : Names
-known_keys =
-    format_key.name ∷ name_key ∷ seed_key.name ∷ repetitions_key.name ∷ sequential_key.name ∷ setup_key.name ∷ go_key.name ∷ until_key
-    ∷ steps_key.name ∷ every_step_key.name ∷ budget_key.name ∷ metrics_key ∷ world_key ∷ globals_key ∷ vary_key ∷ []
+abbrev pub key_rows : List KeyRow
+key_rows =
+    in_both format_key.name
+    ∷ in_both name_key
+    ∷ in_both seed_key.name
+    ∷ in_both repetitions_key.name
+    ∷ in_both sequential_key.name
+    ∷ in_both setup_key.name
+    ∷ in_both go_key.name
+    ∷ in_both until_key
+    ∷ in_both steps_key.name
+    ∷ record { name = every_step_key.name; first = true; second = false }
+    ∷ record { name = measure_when_key; first = false; second = true }
+    ∷ in_both budget_key.name
+    ∷ in_both metrics_key
+    ∷ in_both world_key
+    ∷ in_both globals_key
+    ∷ in_both vary_key
+    ∷ []
+
+abbrev pub names_of : List KeyRow → Names
+names_of rows = map (λ row. row.name) rows
+
+-- a row of the table in the code
+abbrev pub row_seen : declared.KeyRow → KeyRow
+row_seen row = record { name = row.name.now; first = row.first; second = row.second }
+
+-- A key is known where it is one of the format. Where no format is known, each key is.
+abbrev pub is_known : Option ℤ → KeyRow → Bool
+is_known (Some format) row = if int_eq format (pos 1) then row.first else row.second
+is_known None row = true
+
+abbrev pub keys_of : Option ℤ → Names
+keys_of format = names_of (filter (is_known format) key_rows)
+
+-- the format that stands in a document; where it is none of these, its fault comes behind those of unknown keys
+abbrev pub format_by : Result ℤ KeyFault → Option ℤ
+format_by (Ok format) = Some format
+format_by (Err fault) = None
+
+abbrev pub format_in : Members → Option ℤ
+format_in members = format_by (whole_at [] format_key members)
+
+-- the keys that a document may have
+abbrev pub known_in : Members → Names
+known_in members = keys_of (format_in members)
 
 -- ---- the keys of `world`
 

@@ -13,7 +13,7 @@ use Rattle.nl_experiment_keys.specs.declared.faults.PlanKind.{PlanKind}
 use Rattle.nl_experiment_keys.specs.declared.faults.PlanKind.TheVariants.{BadLiteral, MissingKey}
 use Rattle.nl_experiment_fields.specs.Entries.{all_steps_given, count_of_steps, globals_at, in_entry, is_given, vary_at, world_at}
 use Rattle.nl_experiment_fields.specs.File.{file_says}
-use Rattle.nl_experiment_fields.specs.Keys.{budget_key, every_step_key, format_key, globals_key, go_key, in_globals, in_world, known_keys, metrics_key, name_key, repetitions_key, seed_key, sequential_key, setup_key, steps_key, until_key, values_key, vary_key, world_key}
+use Rattle.nl_experiment_fields.specs.Keys.{budget_key, every_step_key, format_key, globals_key, go_key, in_globals, in_world, key_rows, known_in, measure_when_key, metrics_key, name_key, names_of, repetitions_key, seed_key, sequential_key, setup_key, steps_key, until_key, values_key, vary_key, world_key}
 use Rattle.nl_experiment_fields.specs.Names.{lowered}
 use Rattle.nl_experiment_fields.specs.declared.fields.Fields.{Fields}
 
@@ -87,7 +87,7 @@ first_fault [] = None
 first_fault (None ∷ rest) = first_fault rest
 first_fault (Some fault ∷ rest) = Some fault
 
--- which fault each known key has by itself, if it has one
+-- which fault each key has by itself, if it has one
 abbrev pub faults_by_key : Members → List (Name × Option KeyFault)
 faults_by_key members =
     (format_key.name, fault_in (whole_at [] format_key members))
@@ -100,6 +100,7 @@ faults_by_key members =
     ∷ (until_key, fault_in (maybe_text_at until_key members))
     ∷ (steps_key.name, fault_in (whole_at [] steps_key members))
     ∷ (every_step_key.name, fault_in (truth_at [] every_step_key members))
+    ∷ (measure_when_key, fault_in (maybe_text_at measure_when_key members))
     ∷ (budget_key.name, fault_in (whole_at [] budget_key members))
     ∷ (metrics_key, fault_in (texts_at metrics_key members))
     ∷ (world_key, fault_in (world_at members))
@@ -107,12 +108,12 @@ faults_by_key members =
     ∷ (vary_key, fault_in (vary_at members))
     ∷ []
 
--- they stand in the order of the known keys
+-- they stand in the order of all keys
 abbrev pub FaultsGoByKeys : Type 0
-FaultsGoByKeys = (members : Members) → map (λ one. one.0) (faults_by_key members) ≡ known_keys
+FaultsGoByKeys = (members : Members) → map (λ one. one.0) (faults_by_key members) ≡ names_of key_rows
 
 -- the fault of a file that is a document is the first of them, behind that of an unknown key
 abbrev pub TheFirstFaultIsTold : Type 0
 TheFirstFaultIsTold =
     (file : Bytes) (members : Members) → file_holds file ≡ Ok members
-    → fault_in (file_says file) ≡ first_fault (fault_in (all_known [] known_keys members) ∷ map (λ one. one.1) (faults_by_key members))
+    → fault_in (file_says file) ≡ first_fault (fault_in (all_known [] (known_in members) members) ∷ map (λ one. one.1) (faults_by_key members))

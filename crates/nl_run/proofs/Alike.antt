@@ -7,7 +7,7 @@ use Rattle.nl_value.specs.Plain.{Plain, PlainNumber, PlainTruth, PlainWords, Pla
 use Rattle.nl_tree.specs.declared.declared.Form.TheVariants as form
 use Rattle.nl_exec_meaning.specs.LoneTexts.{Ending, ending_of, first_state}
 use Rattle.nl_exec_meaning.specs.LoneTexts as ending
-use Rattle.nl_run.specs.Course.{Finish, Standing, after_go, after_until, behind, cell_of, cells, commands, commands_by, condition, counted, fails_at_first, go_name, go_step, is_reached, measured, measured_if, metric_name, outcome_of, put_back, regular_end, step_or_end, steps, steps_from, truth_by, unit_by, until_name, value, value_by, with_row}
+use Rattle.nl_run.specs.Course.{Finish, Standing, after_go, after_until, behind, cell_of, cells, commands, commands_by, condition, counted, fails_at_first, go_name, go_step, is_reached, judged, measured, measured_if, metric_name, outcome_of, put_back, regular_end, step_or_end, steps, steps_from, truth_by, unit_by, until_name, value, value_by, when, when_name, with_row}
 use Rattle.nl_run.specs.Job.{Job, Lone}
 use Rattle.nl_run.specs.declared.rows.RunEnd.TheVariants as end_
 use Rattle.nl_exec_acts.specs.declared.fail.ErrorKind.TheVariants.{TooLarge}
@@ -75,6 +75,34 @@ unfolding Alike
 measured_if_alike n true j s next other few same = measured_alike n j s next other few same
 measured_if_alike n false j s next other few same = same s few
 
+-- ---- conditions
+
+truth_alike : (n : ℕ) (j : Job) (called : Bytes) (l : Lone) (v : Plain) (s : Standing) (next other : Bool → Standing → Finish) → s.left ≤ n
+    → ((met : Bool) → Alike n (next met) (other met)) → truth_by j called l v s next ≡ truth_by j called l v s other
+unfolding Alike
+truth_alike n j called l (PlainTruth truth) s next other few same = same truth s few
+truth_alike n j called l (PlainNumber count) s next other few same = refl
+truth_alike n j called l (PlainWords bytes) s next other few same = refl
+truth_alike n j called l (PlainItems items) s next other few same = refl
+truth_alike n j called l (PlainTurtle turtle) s next other few same = refl
+truth_alike n j called l (PlainPatch patch) s next other few same = refl
+truth_alike n j called l (PlainLink link) s next other few same = refl
+truth_alike n j called l PlainNobody s next other few same = refl
+truth_alike n j called l (PlainSet set) s next other few same = refl
+
+judged_alike : (n : ℕ) (j : Job) (called : Bytes) (l : Lone) (s : Standing) (next other : Bool → Standing → Finish) → s.left ≤ n
+    → ((met : Bool) → Alike n (next met) (other met)) → judged j called l s next ≡ judged j called l s other
+unfolding Alike
+judged_alike n j called l s next other few same =
+    value_alike n j called l s _ _ few (λ v s1 some. truth_alike n j called l v s1 next other some same)
+
+when_alike : (n : ℕ) (j : Job) (l : Option Lone) (s : Standing) (next other : Standing → Finish) → s.left ≤ n → Alike n next other
+    → when j l s next ≡ when j l s other
+unfolding Alike
+when_alike n j None s next other few same = same s few
+when_alike n j (Some l) s next other few same =
+    judged_alike n j when_name l s _ _ few (λ truth s1 some. measured_if_alike n truth j s1 next other some same)
+
 -- ---- a step
 
 -- the same with fewer units
@@ -84,7 +112,7 @@ AlikeBelow n next other = (s : Standing) → s.left < n → next s ≡ other s
 after_go_alike : (n : ℕ) (j : Job) (next other : Standing → Finish) → Alike n next other → (stopped : Bool) → Alike n (after_go j next stopped) (after_go j other stopped)
 unfolding Alike
 after_go_alike n j next other same true s few = refl
-after_go_alike n j next other same false s few = measured_if_alike n j.every_step j (counted s) next other few same
+after_go_alike n j next other same false s few = when_alike n j j.when (counted s) next other few same
 
 unit_alike : (n units : ℕ) (s : Standing) (next other : Standing → Finish) → units ≤ n → AlikeBelow n next other → unit_by units s next ≡ unit_by units s other
 unfolding AlikeBelow
@@ -106,25 +134,12 @@ unfolding Alike
 after_until_alike n j next other same true s few = refl
 after_until_alike n j next other same false s few = go_step_alike n j next other s few same
 
-truth_alike : (n : ℕ) (j : Job) (l : Lone) (v : Plain) (s : Standing) (next other : Bool → Standing → Finish) → s.left ≤ n
-    → ((met : Bool) → Alike n (next met) (other met)) → truth_by j l v s next ≡ truth_by j l v s other
-unfolding Alike
-truth_alike n j l (PlainTruth truth) s next other few same = same truth s few
-truth_alike n j l (PlainNumber count) s next other few same = refl
-truth_alike n j l (PlainWords bytes) s next other few same = refl
-truth_alike n j l (PlainItems items) s next other few same = refl
-truth_alike n j l (PlainTurtle turtle) s next other few same = refl
-truth_alike n j l (PlainPatch patch) s next other few same = refl
-truth_alike n j l (PlainLink link) s next other few same = refl
-truth_alike n j l PlainNobody s next other few same = refl
-truth_alike n j l (PlainSet set) s next other few same = refl
-
 condition_alike : (n : ℕ) (j : Job) (l : Option Lone) (s : Standing) (next other : Bool → Standing → Finish) → s.left ≤ n
     → ((met : Bool) → Alike n (next met) (other met)) → condition j l s next ≡ condition j l s other
 unfolding Alike
 condition_alike n j None s next other few same = same false s few
 condition_alike n j (Some l) s next other few same =
-    value_alike n j until_name l s _ _ few (λ v s1 some. truth_alike n j l v s1 next other some same)
+    judged_alike n j until_name l s next other few same
 
 pub step_alike : (j : Job) (next other : Standing → Finish) (s : Standing) → AlikeBelow s.left next other → step_or_end j next s ≡ step_or_end j other s
 step_alike j next other s same =

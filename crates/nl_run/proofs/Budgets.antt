@@ -1,7 +1,8 @@
 -- The units that are left are some of those that there were.
-use Rattle.std.proofs.Common.{ℕ, ◌≤◌, Bool, true, false, not, [], arith}
-use Rattle.nl_run.specs.Course.{Finish, Standing, course_within, ends_as, measured_if, regular_end, with_row}
-use Rattle.nl_run.specs.Job.{Job}
+use Rattle.std.proofs.Common.{ℕ, ◌≤◌, Bool, true, false, [], arith}
+use Rattle.std.specs.Prelude.{Option, Some, None}
+use Rattle.nl_run.specs.Course.{Finish, Standing, course_within, ends_as, ends_by, measured_if, with_row}
+use Rattle.nl_run.specs.Job.{Job, Lone}
 use Rattle.nl_run.specs.declared.rows.RunEnd.{RunEnd}
 use Rattle.nl_run.proofs.Keeping.{Lasts, cells_keep, course_keeps}
 
@@ -23,17 +24,19 @@ measures : (n : ℕ) (truth : Bool) (j : Job) (s : Standing) (next : Standing �
 measures n true j s next here keeps = cells_keep j (on n) (to n) (lasts n) 1 j.metrics [] s _ here (λ all s1 there. keeps (with_row j all s1) there)
 measures n false j s next here keeps = keeps s here
 
-ends : (n : ℕ) (how : RunEnd) (j : Job) (s : Standing) → s.left ≤ n → (regular_end how j s).left ≤ n
-ends n how j s here = measures n (not j.every_step) j s (ends_as how) here (λ s1 there. there)
+ends : (n : ℕ) (when : Option Lone) (how : RunEnd) (j : Job) (s : Standing) → s.left ≤ n → (ends_by when how j s).left ≤ n
+ends n None how j s here = measures n true j s (ends_as how) here (λ s1 there. there)
+ends n (Some l) how j s here = here
 
 pub units_are_left : (j : Job) (units : ℕ) → (course_within j units).left ≤ units
 units_are_left j units =
     course_keeps j (on units) (on units) (to units) (record {
       early = lasts units;
       later = lasts units;
-      measures = measures units j.every_step j;
+      measures = λ l is truth. measures units truth j;
+      goes = λ s here. here;
       counts = λ s here. here;
-      steps = ends units _ j;
-      condition = ends units _ j;
-      stop = ends units _ j;
+      steps = ends units j.when _ j;
+      condition = ends units j.when _ j;
+      stop = ends units j.when _ j;
     }) units (omega arith)

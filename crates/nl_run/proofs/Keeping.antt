@@ -1,5 +1,5 @@
 -- What holds of all that a run has on its way holds of what it comes to.
-use Rattle.std.proofs.Common.{ℕ, zero, suc, ◌+◌, ◌≤◌, Bool, true, false, List, [], ◌∷◌, ◌++◌, if◌then◌else◌, length, arith}
+use Rattle.std.proofs.Common.{◌≡◌, ℕ, zero, suc, ◌+◌, ◌≤◌, Bool, true, false, List, [], ◌∷◌, ◌++◌, if◌then◌else◌, length, refl, arith}
 use Rattle.std.specs.Prelude.{nat_lt, Option, Some, None}
 use Rattle.nl_fixed.specs.Nouns.{Bytes, Texts}
 use Rattle.nl_value.specs.Limits.{most_bytes}
@@ -9,7 +9,7 @@ use Rattle.nl_exec_acts.specs.Stage.{Scene}
 use Rattle.nl_exec_acts.specs.declared.fail.ErrorKind.TheVariants.{TooLarge}
 use Rattle.nl_exec_meaning.specs.LoneTexts.{Ending, ending_of, first_state, in_stream, scene_in}
 use Rattle.nl_exec_meaning.specs.LoneTexts as ending
-use Rattle.nl_run.specs.Course.{Finish, Standing, after_go, after_until, at_first, behind, cell_of, cells, commands, commands_by, condition, counted, course_within, ends_as, fails_at_first, go_name, go_step, is_reached, measured_if, metric_name, outcome_of, put_back, regular_end, setup_name, step_or_end, steps, steps_from, truth_by, unit_by, until_name, value, value_by}
+use Rattle.nl_run.specs.Course.{Finish, Standing, after_go, after_until, at_first, behind, cell_of, cells, commands, commands_by, condition, counted, course_within, ends_as, fails_at_first, go_name, go_step, is_reached, judged, measured_if, metric_name, outcome_of, put_back, regular_end, setup_name, step_or_end, steps, steps_from, truth_by, unit_by, until_name, value, value_by, when, when_name}
 use Rattle.nl_run.specs.Job.{Job, Lone}
 use Rattle.nl_run.specs.declared.rows.RunEnd.TheVariants as end_
 use Rattle.nl_run.proofs.Thrift.{text_thrifty}
@@ -67,22 +67,26 @@ module _ (j : Job) (on : Standing → Type 0) (to : Finish → Type 0) (lasts : 
       cell_keep (nat_lt most_bytes (length (cell_of v s1))) (metric_name number) l s1 _ there
       (cells_keep (number + 1) ls (made ++ cell_of v s1 ∷ []) s1 next there keeps))
 
-  truth_keep : (l : Lone) (v : Plain) (s : Standing) (next : Bool → Standing → Finish) → on s → ((met : Bool) (s1 : Standing) → on s1 → to (next met s1))
-      → to (truth_by j l v s next)
-  truth_keep l (PlainTruth truth) s next here keeps = keeps truth s here
-  truth_keep l (PlainNumber count) s next here keeps = lasts.fails s _ here
-  truth_keep l (PlainWords bytes) s next here keeps = lasts.fails s _ here
-  truth_keep l (PlainItems items) s next here keeps = lasts.fails s _ here
-  truth_keep l (PlainTurtle turtle) s next here keeps = lasts.fails s _ here
-  truth_keep l (PlainPatch patch) s next here keeps = lasts.fails s _ here
-  truth_keep l (PlainLink link) s next here keeps = lasts.fails s _ here
-  truth_keep l PlainNobody s next here keeps = lasts.fails s _ here
-  truth_keep l (PlainSet set) s next here keeps = lasts.fails s _ here
+  truth_keep : (called : Bytes) (l : Lone) (v : Plain) (s : Standing) (next : Bool → Standing → Finish) → on s → ((met : Bool) (s1 : Standing) → on s1 → to (next met s1))
+      → to (truth_by j called l v s next)
+  truth_keep called l (PlainTruth truth) s next here keeps = keeps truth s here
+  truth_keep called l (PlainNumber count) s next here keeps = lasts.fails s _ here
+  truth_keep called l (PlainWords bytes) s next here keeps = lasts.fails s _ here
+  truth_keep called l (PlainItems items) s next here keeps = lasts.fails s _ here
+  truth_keep called l (PlainTurtle turtle) s next here keeps = lasts.fails s _ here
+  truth_keep called l (PlainPatch patch) s next here keeps = lasts.fails s _ here
+  truth_keep called l (PlainLink link) s next here keeps = lasts.fails s _ here
+  truth_keep called l PlainNobody s next here keeps = lasts.fails s _ here
+  truth_keep called l (PlainSet set) s next here keeps = lasts.fails s _ here
+
+  pub judged_keep : (called : Bytes) (l : Lone) (s : Standing) (next : Bool → Standing → Finish) → on s
+      → ((truth : Bool) (s1 : Standing) → on s1 → to (next truth s1)) → to (judged j called l s next)
+  judged_keep called l s next here keeps = value_keep called l s _ here (λ v s1 there. truth_keep called l v s1 next there keeps)
 
   pub condition_keep : (l : Option Lone) (s : Standing) (next : Bool → Standing → Finish) → on s
       → ((met : Bool) (s1 : Standing) → on s1 → to (next met s1)) → to (condition j l s next)
   condition_keep None s next here keeps = keeps false s here
-  condition_keep (Some l) s next here keeps = value_keep until_name l s _ here (λ v s1 there. truth_keep l v s1 next there keeps)
+  condition_keep (Some l) s next here keeps = judged_keep until_name l s next here keeps
 
   pub unit_keep : (units : ℕ) (s : Standing) (next : Standing → Finish) → units ≤ s.left → on s → ((s1 : Standing) → on s1 → to (next s1))
       → to (unit_by units s next)
@@ -91,20 +95,28 @@ module _ (j : Job) (on : Standing → Type 0) (to : Finish → Type 0) (lasts : 
 
 -- ---- the whole
 
--- What holds before a measure, and what holds between two steps.
+-- What holds before a measure, and what holds between two steps. A run without a condition for its measures goes on without one.
 pub record Course (j : Job) (before on : Standing → Type 0) (to : Finish → Type 0) : Type 0 where
   pub early : Lasts before to
   pub later : Lasts on to
-  pub measures : (s : Standing) (next : Standing → Finish) → before s → ((s1 : Standing) → on s1 → to (next s1)) → to (measured_if j.every_step j s next)
+  pub measures : (l : Lone) → j.when ≡ Some l → (truth : Bool) (s : Standing) (next : Standing → Finish) → before s → ((s1 : Standing) → on s1 → to (next s1))
+      → to (measured_if truth j s next)
+  pub goes : (s : Standing) → before s → on s
   pub counts : (s : Standing) → on s → before (counted s)
   pub steps : (s : Standing) → on s → to (regular_end end_.Steps j s)
   pub condition : (s : Standing) → on s → to (regular_end end_.Condition j s)
   pub stop : (s : Standing) → on s → to (regular_end end_.Stop j s)
 
 module _ (j : Job) (before on : Standing → Type 0) (to : Finish → Type 0) (course : Course j before on to) where
+  when_keep : (text : Option Lone) → j.when ≡ text → (s : Standing) (next : Standing → Finish) → before s → ((s1 : Standing) → on s1 → to (next s1))
+      → to (when j text s next)
+  when_keep None is s next here keeps = keeps s (course.goes s here)
+  when_keep (Some l) is s next here keeps =
+      judged_keep j before to course.early when_name l s _ here (λ truth s1 there. course.measures l is truth s1 next there keeps)
+
   after_go_keep : (next : Standing → Finish) → ((s : Standing) → on s → to (next s)) → (stopped : Bool) (s : Standing) → on s → to (after_go j next stopped s)
   after_go_keep next keeps true s here = course.stop s here
-  after_go_keep next keeps false s here = course.measures (counted s) next (course.counts s here) keeps
+  after_go_keep next keeps false s here = when_keep j.when refl (counted s) next (course.counts s here) keeps
 
   go_step_keep : (next : Standing → Finish) → ((s : Standing) → on s → to (next s)) → (s : Standing) → on s → to (go_step j next s)
   go_step_keep next keeps s here =
@@ -131,4 +143,4 @@ module _ (j : Job) (before on : Standing → Type 0) (to : Finish → Type 0) (c
   unfolding course_within
   course_keeps units first =
       commands_keep j before to course.early setup_name j.setup (at_first j units) _ first (λ stopped s here.
-      course.measures s (steps j) here (λ s1 there. steps_keep (suc s1.left) s1 there))
+      when_keep j.when refl s (steps j) here (λ s1 there. steps_keep (suc s1.left) s1 there))

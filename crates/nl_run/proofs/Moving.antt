@@ -77,6 +77,7 @@ cut_text text j step rows o is =
     cut open_.Setup = (refl, refl)
     cut open_.Go = (refl, refl)
     cut (open_.Until l mark) = (refl, refl)
+    cut (open_.When l mark) = (refl, refl)
     cut (open_.Metric at) = (refl, refl)
 
 -- ---- the end of a slice

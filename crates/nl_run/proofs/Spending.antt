@@ -5,7 +5,7 @@ use Rattle.nl_value.specs.Plain.{Plain, PlainNumber, PlainTruth, PlainWords, Pla
 use Rattle.nl_tree.specs.declared.declared.Form.{Form}
 use Rattle.nl_tree.specs.declared.declared.Form.TheVariants as form
 use Rattle.nl_run.specs.Course.ending
-use Rattle.nl_run.specs.Course.{Ending, Finish, Standing, behind, commands_by, ending_of, first_state, outcome_of, put_back, truth_by, until_name, value_by}
+use Rattle.nl_run.specs.Course.{Ending, Finish, Standing, behind, commands_by, ending_of, first_state, outcome_of, put_back, truth_by, value_by}
 use Rattle.nl_run.specs.Job.{Job, Lone}
 use Rattle.nl_run.specs.Laws.{ConditionsSpend, MetricsSpend, TextsSpend, spent_by}
 use Rattle.nl_run.proofs.Thrift.{text_thrifty}
@@ -48,19 +48,19 @@ metrics_spend j called l s next other same =
     behind_value j called l (ending_of form.Reporter o.exit) (behind o s) (λ v t. next v (put_back s.scene.stream t)) (λ v t. other v (put_back s.scene.stream t))
     (λ v. same v (put_back s.scene.stream (behind o s)) (all_told j form.Reporter l s))
 
-behind_truth : (j : Job) (l : Lone) (v : Plain) (s : Standing) (next other : Bool → Standing → Finish)
-    → ((truth : Bool) → next truth s ≡ other truth s) → truth_by j l v s next ≡ truth_by j l v s other
-behind_truth j l (PlainTruth truth) s next other same = same truth
-behind_truth j l (PlainNumber count) s next other same = refl
-behind_truth j l (PlainWords bytes) s next other same = refl
-behind_truth j l (PlainItems items) s next other same = refl
-behind_truth j l (PlainTurtle turtle) s next other same = refl
-behind_truth j l (PlainPatch patch) s next other same = refl
-behind_truth j l (PlainLink link) s next other same = refl
-behind_truth j l PlainNobody s next other same = refl
-behind_truth j l (PlainSet set) s next other same = refl
+behind_truth : (j : Job) (called : Bytes) (l : Lone) (v : Plain) (s : Standing) (next other : Bool → Standing → Finish)
+    → ((truth : Bool) → next truth s ≡ other truth s) → truth_by j called l v s next ≡ truth_by j called l v s other
+behind_truth j called l (PlainTruth truth) s next other same = same truth
+behind_truth j called l (PlainNumber count) s next other same = refl
+behind_truth j called l (PlainWords bytes) s next other same = refl
+behind_truth j called l (PlainItems items) s next other same = refl
+behind_truth j called l (PlainTurtle turtle) s next other same = refl
+behind_truth j called l (PlainPatch patch) s next other same = refl
+behind_truth j called l (PlainLink link) s next other same = refl
+behind_truth j called l PlainNobody s next other same = refl
+behind_truth j called l (PlainSet set) s next other same = refl
 
 pub conditions_spend : ConditionsSpend
-conditions_spend j l s next other same =
-    metrics_spend j until_name l s (λ v t. truth_by j l v t next) (λ v t. truth_by j l v t other)
-    (λ v t sum. behind_truth j l v t next other (λ truth. same truth t sum))
+conditions_spend j called l s next other same =
+    metrics_spend j called l s (λ v t. truth_by j called l v t next) (λ v t. truth_by j called l v t other)
+    (λ v t sum. behind_truth j called l v t next other (λ truth. same truth t sum))

@@ -32,7 +32,7 @@ pub step_unasked : (j : Job) (s : Standing) → is_reached j s ≡ false → j.u
 step_unasked j s is none = reached_by j s false is ∙ ap (λ (l : Option Lone). condition j l s (after_until j (steps j))) none
 
 pub step_asked : (j : Job) (s : Standing) (l : Lone) → is_reached j s ≡ false → j.until ≡ Some l
-    → steps j s ≡ value j until_name l s (λ v s1. truth_by j l v s1 (after_until j (steps j)))
+    → steps j s ≡ value j until_name l s (λ v s1. truth_by j until_name l v s1 (after_until j (steps j)))
 step_asked j s l is asked = reached_by j s false is ∙ ap (λ (x : Option Lone). condition j x s (after_until j (steps j))) asked
 
 module _ {X E : Type 0} where
@@ -41,13 +41,14 @@ module _ {X E : Type 0} where
   if_ok P Q (Err e) p next = tt
 
 -- a condition is met by its truth
-pub truth_same : (j : Job) (l : Lone) (v : Plain) (s : Standing) (next : Bool → Standing → Finish) → truth_or (truth_in v) j l s next ≡ truth_by j l v s next
-truth_same j l (PlainTruth truth) s next = refl
-truth_same j l (PlainNumber count) s next = refl
-truth_same j l (PlainWords bytes) s next = refl
-truth_same j l (PlainItems items) s next = refl
-truth_same j l (PlainTurtle turtle) s next = refl
-truth_same j l (PlainPatch patch) s next = refl
-truth_same j l (PlainLink link) s next = refl
-truth_same j l PlainNobody s next = refl
-truth_same j l (PlainSet set) s next = refl
+pub truth_same : (j : Job) (called : Bytes) (l : Lone) (v : Plain) (s : Standing) (next : Bool → Standing → Finish)
+    → truth_or (truth_in v) j called l s next ≡ truth_by j called l v s next
+truth_same j called l (PlainTruth truth) s next = refl
+truth_same j called l (PlainNumber count) s next = refl
+truth_same j called l (PlainWords bytes) s next = refl
+truth_same j called l (PlainItems items) s next = refl
+truth_same j called l (PlainTurtle turtle) s next = refl
+truth_same j called l (PlainPatch patch) s next = refl
+truth_same j called l (PlainLink link) s next = refl
+truth_same j called l PlainNobody s next = refl
+truth_same j called l (PlainSet set) s next = refl

@@ -1,4 +1,5 @@
--- The course of a run: the setup text, then steps of the go text until an end, with the metrics measured on the way or at the end.
+-- The course of a run: the setup text, then steps of the go text until an end, with the metrics measured on the way, where a condition is true, or at
+-- the end.
 --
 -- The order is BehaviorSpace's. That a step costs a unit, that the stream is put back after each metric and condition, and what ends a run by an
 -- error, is this project's own choice.
@@ -118,6 +119,9 @@ go_name = codes "go"
 abbrev pub until_name : Bytes
 until_name = codes "until"
 
+abbrev pub when_name : Bytes
+when_name = codes "measure-when"
+
 abbrev pub metric_name : ℕ → Bytes
 metric_name number = codes "metric " ++ decimal number
 
@@ -149,23 +153,41 @@ abbrev pub measured_if : Bool → Job → Standing → (Standing → Finish) →
 measured_if true j s next = measured j s next
 measured_if false j s next = next s
 
--- a run that doesn't measure at every step measures at its end
+-- a run without a condition for its measures measures at its end
+abbrev pub ends_by : Option Lone → RunEnd → Job → Standing → Finish
+ends_by None how j s = measured j s (ends_as how)
+ends_by (Some l) how j s = ends_as how s
+
 abbrev pub regular_end : RunEnd → Job → Standing → Finish
-regular_end how j s = measured_if (not j.every_step) j s (ends_as how)
+regular_end how j s = ends_by j.when how j s
+
+-- ---- conditions
+
+-- the value of a condition must be a truth
+abbrev pub truth_by : Job → Bytes → Lone → Plain → Standing → (Bool → Standing → Finish) → Finish
+truth_by j called l (PlainTruth truth) s next = next truth s
+truth_by j called l other s next = fails_at_first j called l WrongType s
+
+abbrev pub judged : Job → Bytes → Lone → Standing → (Bool → Standing → Finish) → Finish
+judged j called l s next = value j called l s (λ v s1. truth_by j called l v s1 next)
+
+abbrev pub after_when : Job → (Standing → Finish) → Bool → Standing → Finish
+after_when j next truth s = measured_if truth j s next
+
+-- on the way the metrics are measured where there is a condition for that, and it is true
+abbrev pub when : Job → Option Lone → Standing → (Standing → Finish) → Finish
+when j None s next = next s
+when j (Some l) s next = judged j when_name l s (after_when j next)
 
 -- ---- a step
 
 abbrev pub is_reached : Job → Standing → Bool
 is_reached j s = not (j.steps == 0) && not (nat_lt s.step j.steps)
 
--- whether the condition is met
-abbrev pub truth_by : Job → Lone → Plain → Standing → (Bool → Standing → Finish) → Finish
-truth_by j l (PlainTruth truth) s next = next truth s
-truth_by j l other s next = fails_at_first j until_name l WrongType s
-
+-- whether the condition of the end is met
 abbrev pub condition : Job → Option Lone → Standing → (Bool → Standing → Finish) → Finish
 condition j None s next = next false s
-condition j (Some l) s next = value j until_name l s (λ v s1. truth_by j l v s1 next)
+condition j (Some l) s next = judged j until_name l s next
 
 -- a unit is spent, if there is one
 abbrev pub unit_by : ℕ → Standing → (Standing → Finish) → Finish
@@ -181,7 +203,7 @@ counted s = record s { step = s.step + 1 }
 -- a step counts where the go text wasn't stopped
 abbrev pub after_go : Job → (Standing → Finish) → Bool → Standing → Finish
 after_go j next true s = regular_end end_.Stop j s
-after_go j next false s = measured_if j.every_step j (counted s) next
+after_go j next false s = when j j.when (counted s) next
 
 abbrev pub go_step : Job → (Standing → Finish) → Standing → Finish
 go_step j next s = with_unit s (λ s1. commands j go_name j.go s1 (after_go j next))
@@ -209,7 +231,7 @@ at_first j units = record { scene = scene_at_first j; left = units; step = 0; ro
 
 -- a `stop` of the setup text ends that text alone
 abbrev pub after_setup : Job → (Standing → Finish) → Bool → Standing → Finish
-after_setup j next stopped s = measured_if j.every_step j s next
+after_setup j next stopped s = when j j.when s next
 
 -- the course with so many units to spend
 unfoldable pub course_within : Job → ℕ → Finish

@@ -11,7 +11,7 @@ use Rattle.nl_experiment.specs.declared.texts.Texts as declared
 use Rattle.nl_run.specs.Job.{Job, Trees, lone, lones, maybe_lone}
 
 abbrev pub trees_seen : declared.Texts → Trees
-trees_seen t = record { setup = plain t.setup; go = plain t.go; until = option_map plain t.until; metrics = t.metrics }
+trees_seen t = record { setup = plain t.setup; go = plain t.go; until = option_map plain t.until; when = option_map plain t.measure_when; metrics = t.metrics }
 
 -- the run of a number
 abbrev pub job_by : Checked → Bytes → Fields → Trees → ℕ → Job
@@ -27,8 +27,8 @@ job_by p source f trees number = record {
   setup = lone f.setup trees.setup;
   go = lone f.go trees.go;
   until = maybe_lone f.until trees.until;
+  when = maybe_lone f.measure_when trees.when;
   metrics = lones f.metrics trees.metrics;
   steps = f.steps;
-  every_step = f.every_step;
   budget = f.budget;
 }

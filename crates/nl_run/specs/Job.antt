@@ -1,5 +1,5 @@
 -- What a run is made of. Of other runs of its experiment it has nothing.
-use Rattle.std.specs.Prelude.{ℕ, Bool, List, [], ◌∷◌, ◌++◌, Option, Some, None, pos, ◌*ℤ◌}
+use Rattle.std.specs.Prelude.{ℕ, List, [], ◌∷◌, ◌++◌, Option, Some, None, pos, ◌*ℤ◌}
 use Rattle.nl_fixed.specs.Nouns.{Bytes, Name, Texts}
 use Rattle.nl_fixed.specs.Numbers.{one}
 use Rattle.nl_value.specs.Plain.{Plain, PlainNumber, PlainWords}
@@ -22,15 +22,16 @@ pub record Trees : Type 0 where
   pub setup : Node
   pub go : Node
   pub until : Option Node
+  pub when : Option Node
   pub metrics : List Node
 
 abbrev pub maybe_listed : Option Node → List Node
 maybe_listed None = []
 maybe_listed (Some tree) = tree ∷ []
 
--- the same as a list: setup, go, the condition if there is one, and the metrics
+-- the same as a list: setup, go, the conditions that there are, and the metrics
 abbrev pub listed : Trees → List Node
-listed t = t.setup ∷ t.go ∷ (maybe_listed t.until ++ t.metrics)
+listed t = t.setup ∷ t.go ∷ (maybe_listed t.until ++ (maybe_listed t.when ++ t.metrics))
 
 -- a text of the experiment, and the tree that it is beside the program
 pub record Lone : Type 0 where
@@ -52,7 +53,8 @@ lones (bytes ∷ texts) (tree ∷ trees) = lone bytes tree ∷ lones texts trees
 
 -- ---- the run
 
--- `source` is the code part of the model. A run's number counts from 1, a number of steps that is 0 sets no end, and a budget is in units.
+-- `source` is the code part of the model. A run ends where `until` is true, and measures where `when` is, or at its end where there is no `when`.
+-- A run's number counts from 1, a number of steps that is 0 sets no end, and a budget is in units.
 pub record Job : Type 0 where
   pub program : Checked
   pub source : Bytes
@@ -65,9 +67,9 @@ pub record Job : Type 0 where
   pub setup : Lone
   pub go : Lone
   pub until : Option Lone
+  pub when : Option Lone
   pub metrics : List Lone
   pub steps : ℕ
-  pub every_step : Bool
   pub budget : ℕ
 
 -- ---- what a run begins with

@@ -4,9 +4,10 @@ use Rattle.nl_fixed.specs.Nouns.{Bytes, Texts}
 use Rattle.nl_value.specs.Plain.{Plain}
 use Rattle.nl_tree.specs.declared.declared.Form.{Form}
 use Rattle.nl_tree.specs.declared.declared.Form.TheVariants as form
-use Rattle.nl_run.specs.Course.{Finish, Standing, commands, condition, course_within, outcome_of, rows_of, step_or_end, steps, steps_from, value}
+use Rattle.nl_run.specs.Course.{Finish, Standing, commands, course_within, judged, outcome_of, rows_of, step_or_end, steps, steps_from, value}
 use Rattle.nl_run.specs.Job.{Job, Lone}
 use Rattle.nl_run.specs.declared.rows.Row.{Row}
+use Rattle.nl_run.specs.declared.rows.RunEnd.{RunEnd}
 use Rattle.nl_run.specs.declared.rows.RunEnd.TheVariants as end_
 
 -- the units that are left are some of those that there were
@@ -43,9 +44,9 @@ MetricsSpend =
 
 abbrev pub ConditionsSpend : Type 0
 ConditionsSpend =
-    (j : Job) (l : Lone) (s : Standing) (next other : Bool → Standing → Finish)
+    (j : Job) (called : Bytes) (l : Lone) (s : Standing) (next other : Bool → Standing → Finish)
     → ((b : Bool) (t : Standing) → t.left + spent_by j form.Reporter l s ≡ s.left → next b t ≡ other b t)
-    → condition j (Some l) s next ≡ condition j (Some l) s other
+    → judged j called l s next ≡ judged j called l s other
 
 -- ---- rows
 
@@ -58,13 +59,19 @@ EndsLast (r ∷ s ∷ rs) = (r.end ≡ end_.Open) × EndsLast (s ∷ rs)
 abbrev pub TheLastRowAloneEnds : Type 0
 TheLastRowAloneEnds = (j : Job) → EndsLast (rows_of j)
 
--- a row that measures has more steps than the one before it, and one that only ends has no fewer
-abbrev pub RisesBy : ℕ → ℕ → Option Texts → Type 0
-RisesBy before step (Some cells) = before < step
-RisesBy before step None = before ≤ step
+-- A row that measures has more steps than the one before it, and so has one that only ends, if the end is a regular one. One that only ends by a
+-- spent budget or an error has no fewer.
+abbrev pub RisesTo : ℕ → ℕ → RunEnd → Type 0
+RisesTo before step end_.Budget = before ≤ step
+RisesTo before step (end_.Error text) = before ≤ step
+RisesTo before step regular = before < step
+
+abbrev pub RisesBy : ℕ → ℕ → Option Texts → RunEnd → Type 0
+RisesBy before step (Some cells) how = before < step
+RisesBy before step None how = RisesTo before step how
 
 abbrev pub Rises : Row → Row → Type 0
-Rises r s = RisesBy r.step s.step s.cells
+Rises r s = RisesBy r.step s.step s.cells s.end
 
 abbrev pub StepsRise : List Row → Type 0
 StepsRise [] = ⊤

@@ -10,7 +10,7 @@ use Rattle.nl_exec_meaning.specs.LoneTexts.{Ending, ending_of, scene_in}
 use Rattle.nl_exec.specs.Machines.{IsClosed, IsOpen, form_of, program_of, rest_of, scene_of, spent_of, units_left}
 use Rattle.nl_run.specs.Job.{Job}
 use Rattle.nl_run.specs.Plans.{lone_seen}
-use Rattle.nl_run.specs.Course.{Standing, Finish, ends_as, commands_by, value_by, put_back, setup_name, go_name, until_name, metric_name, with_cell, cells, with_row, truth_by, after_setup, after_go, after_until, go_step, steps}
+use Rattle.nl_run.specs.Course.{Standing, Finish, ends_as, commands_by, value_by, put_back, setup_name, go_name, until_name, when_name, metric_name, with_cell, cells, with_row, truth_by, after_setup, after_go, after_until, after_when, go_step, steps}
 use Rattle.nl_run.specs.declared.rows.Row.{Row}
 use Rattle.nl_run.specs.declared.rows.RunEnd.{RunEnd}
 use Rattle.nl_run.specs.declared.rows.RunEnd.TheVariants as end_
@@ -57,7 +57,9 @@ abbrev pub settled : Open → Job → Ending → Standing → Finish
 settled open_.Setup j e s = commands_by j setup_name j.setup e s (after_setup j (steps j))
 settled open_.Go j e s = commands_by j go_name j.go e s (after_go j (steps j))
 settled (open_.Until l mark) j e s =
-    value_by j until_name (lone_seen l) e s (λ v s1. truth_by j (lone_seen l) v (put_back mark s1) (after_until j (steps j)))
+    value_by j until_name (lone_seen l) e s (λ v s1. truth_by j until_name (lone_seen l) v (put_back mark s1) (after_until j (steps j)))
+settled (open_.When l mark) j e s =
+    value_by j when_name (lone_seen l) e s (λ v s1. truth_by j when_name (lone_seen l) v (put_back mark s1) (after_when j (steps j)))
 settled (open_.Metric at) j e s =
     value_by j (metric_name (at.index + 1)) (lone_seen at.metric) e s (λ v s1.
     with_cell j (metric_name (at.index + 1)) (lone_seen at.metric) v (put_back at.mark s1) (λ cell s2.
@@ -67,6 +69,7 @@ abbrev pub form_in : Open → Form
 form_in open_.Setup = form.Commands
 form_in open_.Go = form.Commands
 form_in (open_.Until l mark) = form.Reporter
+form_in (open_.When l mark) = form.Reporter
 form_in (open_.Metric at) = form.Reporter
 
 abbrev pub text_left : Open → Job → {S : Type 0} {G : Ghosts S} → Progress S G → Outcome → Finish
@@ -88,6 +91,7 @@ abbrev pub IsThere : Open → Job → Type 0
 IsThere open_.Setup j = ⊤
 IsThere open_.Go j = ⊤
 IsThere (open_.Until l mark) j = ⊤
+IsThere (open_.When l mark) j = ⊤
 IsThere (open_.Metric at) j = at.index < length j.metrics
 
 -- the machine has the open text
@@ -109,6 +113,7 @@ abbrev pub steps_in : Open → ℕ
 steps_in open_.Setup = 0
 steps_in open_.Go = 1
 steps_in (open_.Until l mark) = 0
+steps_in (open_.When l mark) = 0
 steps_in (open_.Metric at) = 0
 
 abbrev pub under_way : Phase → ℕ
@@ -153,10 +158,11 @@ moves_behind metrics behind.Step index = metrics + 5 + (metrics - index)
 moves_behind metrics (behind.End how) index = 1 + (metrics - index)
 
 abbrev pub moves_in : ℕ → Open → ℕ
-moves_in metrics open_.Setup = 2 * metrics + 6
-moves_in metrics open_.Go = 2 * metrics + 6
+moves_in metrics open_.Setup = 2 * metrics + 7
+moves_in metrics open_.Go = 2 * metrics + 7
 moves_in metrics (open_.Metric at) = moves_behind metrics at.behind at.index
 moves_in metrics (open_.Until l mark) = metrics + 3
+moves_in metrics (open_.When l mark) = 2 * metrics + 6
 
 abbrev pub moves : ℕ → Phase → ℕ
 moves metrics (phase.Text text) = moves_in metrics text
@@ -172,4 +178,4 @@ room g = units_left g.machine + (spent_of g.machine - g.begun)
 
 -- so many moves for each unit, and those before the next one
 abbrev pub work_left : Job → Phase → {S : Type 0} {G : Ghosts S} → Progress S G → ℕ
-work_left j p g = room g * (2 * length j.metrics + 7) + moves (length j.metrics) p
+work_left j p g = room g * (2 * length j.metrics + 8) + moves (length j.metrics) p

@@ -22,8 +22,8 @@ job_in p = record {
   setup = lone_seen p.setup;
   go = lone_seen p.go;
   until = option_map lone_seen p.until;
+  when = option_map lone_seen p.when;
   metrics = lones p.metrics.now p.trees.now;
   steps = p.steps;
-  every_step = p.every_step;
   budget = p.budget;
 }

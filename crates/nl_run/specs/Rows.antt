@@ -1,5 +1,5 @@
 -- The rows that a run gives.
-use Rattle.std.specs.Prelude.{ℕ, List, [], ◌∷◌, ◌++◌, codes, Some, None}
+use Rattle.std.specs.Prelude.{ℕ, Bool, true, false, ◌==◌, List, [], ◌∷◌, ◌++◌, codes, Some, None}
 use Rattle.std.specs.Fmt.{decimal}
 use Rattle.nl_fixed.specs.Nouns.{Bytes, Texts}
 use Rattle.nl_exec_acts.specs.declared.fail.ErrorKind.{ErrorKind}
@@ -20,18 +20,25 @@ further j step how = record { number = j.number; settings = j.settings; step = s
 abbrev pub ended : RunEnd → Row → Row
 ended how r = record r { end = how }
 
--- the last row carries the end
-abbrev pub last_ended : RunEnd → List Row → List Row
-last_ended how [] = []
-last_ended how (r ∷ []) = ended how r ∷ []
-last_ended how (r ∷ s ∷ rs) = r ∷ last_ended how (s ∷ rs)
+-- a row carries the end of the one behind it, if that is of the same count of steps
+abbrev pub with_end : Bool → Row → Row → List Row
+with_end true last r = ended last.end r ∷ []
+with_end false last r = r ∷ last ∷ []
 
--- the rows of a run that has measured these and ends so: what was spent, and an error, stand in a row of their own
+-- These rows, and behind them one that only ends: where the last of them is of the same count of steps, that one carries the end, and there is
+-- no further row.
+abbrev pub closing : Row → List Row → List Row
+closing last [] = last ∷ []
+closing last (r ∷ []) = with_end (r.step == last.step) last r
+closing last (r ∷ s ∷ rs) = r ∷ closing last (s ∷ rs)
+
+-- The rows of a run that has measured these and ends so. A regular end stands in the row that measured at the present count of steps, if there
+-- is one. A spent budget, and an error, stand in a row of their own.
 abbrev pub closed_by : Job → ℕ → RunEnd → List Row → List Row
 closed_by j step end_.Open rows = rows
-closed_by j step end_.Steps rows = last_ended end_.Steps rows
-closed_by j step end_.Condition rows = last_ended end_.Condition rows
-closed_by j step end_.Stop rows = last_ended end_.Stop rows
+closed_by j step end_.Steps rows = closing (further j step end_.Steps) rows
+closed_by j step end_.Condition rows = closing (further j step end_.Condition) rows
+closed_by j step end_.Stop rows = closing (further j step end_.Stop) rows
 closed_by j step end_.Budget rows = rows ++ further j step end_.Budget ∷ []
 closed_by j step (end_.Error text) rows = rows ++ further j step (end_.Error text) ∷ []
 

@@ -18,6 +18,7 @@ pub enum Called {
     Setup,
     Go,
     Until,
+    When,
     /// The metric of a number, counted from 1.
     Metric(usize),
 }
@@ -37,6 +38,7 @@ fn name_of(alloc: Global, called: Called) -> Result<Str, NoMemory>
         Called::Setup => Str::of(alloc, b"setup"),
         Called::Go => Str::of(alloc, b"go"),
         Called::Until => Str::of(alloc, b"until"),
+        Called::When => Str::of(alloc, b"measure-when"),
         Called::Metric(number) => {
             let name = metric_name(alloc, number)?;
             Str::of(alloc, name.as_bytes())

@@ -1,11 +1,11 @@
 //! Metrics, and what comes behind them.
-ghost use Rattle.std.specs.Prelude.{◌≡◌, ℕ, ◌+◌, ◌≤◌, ◌<◌, ◌^◌, IsTrue, IfOk, false, length, []};
+ghost use Rattle.std.specs.Prelude.{◌≡◌, ℕ, ◌+◌, ◌*◌, ◌≤◌, ◌<◌, ◌^◌, IsTrue, IfOk, false, length, []};
 ghost use Rattle.nl_value.specs.Text.{text_of};
 ghost use Rattle.nl_value.specs.Views.{plain};
 ghost use Rattle.nl_agents.specs.Names.{living_of};
 ghost use Rattle.nl_exec_meaning.specs.Ground.{fits, ground_of};
 ghost use Rattle.nl_exec.specs.Machines.{IsClosed, program_of, spent_of, world_of};
-ghost use Rattle.nl_run.specs.Course.{measured_if, regular_end, steps};
+ghost use Rattle.nl_run.specs.Course.{after_when, regular_end, steps, when};
 ghost use Rattle.nl_run.specs.Job.{Job};
 ghost use Rattle.nl_run.specs.Left.{IsReady, SpendsNone, behind_measure, cells_from, end_of, moves, moves_behind, rest_by, stands};
 ghost use Rattle.nl_run.specs.Plans.{job_in};
@@ -88,8 +88,35 @@ pub fn next_metric<'a, S: Store>(
     })))
 }
 
-/// Measures before the next step, where the run measures at every step.
-pub fn measure_at_step<'a, S: Store>(
+/// Measures before the next step, if the condition of the measures is true.
+pub fn measure_or_step<'a, S: Store>(
+    alloc: Global,
+    plan: &Plan<'a>,
+    progress: &mut Progress<'a, S>,
+    truth: bool,
+) -> Result<Phase<'a>, NoMemory>
+    requires closed { IsClosed progress.old.machine }
+    requires program { program_of progress.old.machine ≡ (job_in plan.now).program }
+    requires steps { progress.old.step ≤ progress.old.begun }
+    requires begun { progress.old.begun ≤ spent_of progress.old.machine }
+    ensures rest { IfOk result (λ phase. (n : ℕ) →
+        rest_by phase (job_in plan.now) progress.new n
+        ≡ after_when (job_in plan.now) (steps (job_in plan.now)) truth (stands progress.old n)) }
+    ensures ready { IfOk result (λ phase. IsReady phase (job_in plan.now) progress.new) }
+    ensures units { SpendsNone progress.new progress.old }
+    ensures moves { IfOk result (λ phase.
+        moves (length (job_in plan.now).metrics) phase
+        ≤ moves_behind (length (job_in plan.now).metrics) Step 0) }
+{
+    if truth {
+        next_metric(alloc, plan, progress, 0, Cells::empty(alloc), Behind::Step)
+    } else {
+        Ok(Phase::Step)
+    }
+}
+
+/// Sees whether the metrics are measured before the next step: begins the condition of the measures, if there is one.
+pub fn measure_on_the_way<'a, S: Store>(
     alloc: Global,
     plan: &Plan<'a>,
     progress: &mut Progress<'a, S>,
@@ -100,21 +127,21 @@ pub fn measure_at_step<'a, S: Store>(
     requires begun { progress.old.begun ≤ spent_of progress.old.machine }
     ensures rest { IfOk result (λ phase. (n : ℕ) →
         rest_by phase (job_in plan.now) progress.new n
-        ≡ measured_if (job_in plan.now).every_step (job_in plan.now) (stands progress.old n) (steps (job_in plan.now))) }
+        ≡ when (job_in plan.now) (job_in plan.now).when (stands progress.old n) (steps (job_in plan.now))) }
     ensures ready { IfOk result (λ phase. IsReady phase (job_in plan.now) progress.new) }
     ensures units { SpendsNone progress.new progress.old }
     ensures moves { IfOk result (λ phase.
-        moves (length (job_in plan.now).metrics) phase
-        ≤ moves_behind (length (job_in plan.now).metrics) Step 0) }
+        moves (length (job_in plan.now).metrics) phase ≤ 2 * length (job_in plan.now).metrics + 6) }
 {
-    if plan.every_step() {
-        next_metric(alloc, plan, progress, 0, Cells::empty(alloc), Behind::Step)
-    } else {
-        Ok(Phase::Step)
-    }
+    let Some(when) = plan.when() else {
+        return Ok(Phase::Step);
+    };
+    let mark = progress.machine.mark();
+    progress.open(alloc, when, Form::Reporter)?;
+    Ok(Phase::Text(Open::When(when, mark)))
 }
 
-/// Ends the run, and measures first where it doesn't at every step.
+/// Ends the run, and measures first where no condition tells when it does.
 pub fn regular_end<'a, S: Store>(
     alloc: Global,
     plan: &Plan<'a>,
@@ -134,18 +161,11 @@ pub fn regular_end<'a, S: Store>(
         moves (length (job_in plan.now).metrics) phase
         ≤ moves_behind (length (job_in plan.now).metrics) (End end) 0) }
 {
-    if plan.every_step() {
-        Ok(Phase::Over(end_of(end)))
-    } else {
-        next_metric(
-            alloc,
-            plan,
-            progress,
-            0,
-            Cells::empty(alloc),
-            Behind::End(end),
-        )
-    }
+    let Some(_) = plan.when() else {
+        let cells = Cells::empty(alloc);
+        return next_metric(alloc, plan, progress, 0, cells, Behind::End(end));
+    };
+    Ok(Phase::Over(end_of(end)))
 }
 
 /// The text of a metric's value as the world stands; None where it is too large.

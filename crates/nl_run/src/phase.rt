@@ -6,7 +6,7 @@ use crate::rows::RunEnd;
 use nl_draw::Mark;
 use nl_fixed::Cells;
 
-/// An end at which a run measures, if it doesn't at every step.
+/// An end at which a run measures, if no condition tells when it does.
 #[derive(Clone, Copy, PartialEq, Eq, Debug)]
 pub enum Regular {
     Steps,
@@ -44,8 +44,10 @@ pub enum Open<'a> {
     Setup,
     /// The text of a step.
     Go,
-    /// The condition; the random stream stood at the mark.
+    /// The condition of the end; the random stream stood at the mark.
     Until(LoneText<'a>, Mark),
+    /// The condition of the measures; the random stream stood at the mark.
+    When(LoneText<'a>, Mark),
     /// A metric.
     Metric(Measuring<'a>),
 }

@@ -38,13 +38,13 @@ pub struct Plan<'a> {
     pub go: LoneText<'a>,
     /// What is true where the run has to end.
     pub until: Option<LoneText<'a>>,
+    /// What is true where the metrics are measured; without it they are at the end.
+    pub when: Option<LoneText<'a>>,
     /// What is measured, and the trees of that.
     pub metrics: &'a Names,
     pub trees: &'a Trees,
     /// The most steps; 0 is no limit.
     pub steps: u64,
-    /// Whether the metrics are measured after each step.
-    pub every_step: bool,
     /// The units of the run.
     pub budget: u64,
     pub ghost few: { number ≤ 100000 },
@@ -140,13 +140,6 @@ impl<'a> Plan<'a> {
         self.steps
     }
 
-    /// Whether the metrics are measured after each step.
-    pub fn every_step(&self) -> bool
-        ensures { result ≡ (job_in self.now).every_step }
-    {
-        self.every_step
-    }
-
     /// The units of the run.
     pub fn budget(&self) -> u64
         ensures { result ≡ (job_in self.now).budget }
@@ -173,6 +166,13 @@ impl<'a> Plan<'a> {
         ensures { option_map lone_seen result ≡ (job_in self.now).until }
     {
         self.until
+    }
+
+    /// What is true where the metrics are measured, if there is such a text.
+    pub fn when(&self) -> Option<LoneText<'a>>
+        ensures { option_map lone_seen result ≡ (job_in self.now).when }
+    {
+        self.when
     }
 
     /// The metric of an index, counted from 0.

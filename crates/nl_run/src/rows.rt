@@ -1,6 +1,6 @@
 //! The rows that a run gives.
-ghost use Rattle.std.specs.Prelude.{◌≡◌, OnOk};
-ghost use Rattle.nl_run.specs.Rows.{last_ended};
+ghost use Rattle.std.specs.Prelude.{◌≡◌, ◌++◌, ◌==◌, OnOk};
+ghost use Rattle.nl_run.specs.Rows.{closing, with_end};
 
 use nl_experiment_sweep::Settings;
 use nl_fixed::{Cells, NoMemory, Str};
@@ -78,7 +78,7 @@ impl Model for Rows {
 
 impl Rows {
     ghost use Rattle.std.specs.Prelude.{◌≡◌, [], ◌∷◌, ◌++◌, OnOk, OnErr};
-    ghost use Rattle.nl_run.specs.Rows.{last_ended};
+    ghost use Rattle.nl_run.specs.Rows.{closing};
 
     /// No rows.
     pub fn empty(alloc: Global) -> Rows
@@ -105,21 +105,35 @@ impl Rows {
         Ok(())
     }
 
-    /// The last row, if there is one, ends in this way.
-    pub fn end_last(&mut self, _alloc: Global, how: RunEnd) -> Result<(), NoMemory>
-        ensures { OnOk result (self.new ≡ last_ended how self.old) }
+    /// Ends the rows by one that only ends: the last row carries its end where both are of the same count of steps; else it comes behind.
+    pub fn close(&mut self, _alloc: Global, last: Row) -> Result<(), NoMemory>
+        ensures { OnOk result (self.new ≡ closing last self.old) }
     {
-        end_last_in(&mut self.list, how)
+        close_in(&mut self.list, last)
     }
 }
 
-// The last of these rows, if there is one, ends in this way.
-fn end_last_in(rows: &mut Vec<Row>, how: RunEnd) -> Result<(), NoMemory>
-    ensures { OnOk result (rows.new.items ≡ last_ended how rows.old.items) }
+// Ends these rows by one that only ends.
+fn close_in(rows: &mut Vec<Row>, last: Row) -> Result<(), NoMemory>
+    ensures { OnOk result (rows.new.items ≡ closing last rows.old.items) }
 {
-    if let Some(row) = rows.pop() {
-        rows.push(row.ended(how))?;
+    let Some(row) = rows.pop() else {
+        rows.push(last)?;
+        return Ok(());
+    };
+    put_with_end(rows, row, last)
+}
+
+// Appends a row, with the end of the one behind it if that is of the same count of steps; else both.
+fn put_with_end(rows: &mut Vec<Row>, row: Row, last: Row) -> Result<(), NoMemory>
+    ensures { OnOk result (rows.new.items ≡ rows.old.items ++ with_end (row.step == last.step) last row) }
+{
+    if row.step == last.step {
+        rows.push(row.ended(last.end))?;
+        return Ok(());
     }
+    rows.push(row)?;
+    rows.push(last)?;
     Ok(())
 }
 

@@ -57,7 +57,10 @@ fn close<S: Store>(
 {
     match how {
         RunEnd::Open => Ok(()),
-        RunEnd::Steps | RunEnd::Condition | RunEnd::Stop => progress.rows.end_last(alloc, how),
+        RunEnd::Steps | RunEnd::Condition | RunEnd::Stop => {
+            let row = plan.further(alloc, progress.step, how)?;
+            progress.rows.close(alloc, row)
+        }
         RunEnd::Budget | RunEnd::Error(_) => {
             let row = plan.further(alloc, progress.step, how)?;
             progress.rows.push(alloc, row)
@@ -82,8 +85,8 @@ fn ended_by<'a>(phase: Phase<'a>, spent: bool) -> Result<RunEnd, Phase<'a>>
     }
 }
 
-// The condition with its tree, if there is one.
-fn until_in<'a>(text: &'a Option<Str>, tree: &'a Option<Tree>) -> Option<LoneText<'a>>
+// A condition with its tree, if there is one.
+fn condition_in<'a>(text: &'a Option<Str>, tree: &'a Option<Tree>) -> Option<LoneText<'a>>
     ensures { option_map lone_seen result ≡ maybe_lone text.now (option_map plain tree.now) }
 {
     match (text, tree) {
@@ -139,11 +142,11 @@ impl<'a, S: Store> Run<'a, S> {
                 text: &fields.go,
                 tree: &texts.go,
             },
-            until: until_in(&fields.until, &texts.until),
+            until: condition_in(&fields.until, &texts.until),
+            when: condition_in(&fields.measure_when, &texts.measure_when),
             metrics: &fields.metrics,
             trees: &texts.metrics,
             steps: fields.steps,
-            every_step: fields.every_step,
             budget: fields.budget,
         };
         Run::begin(alloc, plan)

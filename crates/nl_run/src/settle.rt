@@ -7,7 +7,7 @@ ghost use Rattle.nl_exec_meaning.specs.Ground.{Ground, fits, ground_of};
 ghost use Rattle.nl_exec.specs.Endings.{EndFits, end_seen};
 ghost use Rattle.nl_exec.specs.Machines.{IsClosed, program_of, spent_of, world_of};
 ghost use Rattle.nl_run.specs.Calls.{called_name};
-ghost use Rattle.nl_run.specs.Course.{Finish, Standing, after_until, commands_by, ends_as, fails_at_first, metric_name, steps, value_by, with_cell};
+ghost use Rattle.nl_run.specs.Course.{Finish, Standing, after_until, commands_by, ends_as, fails_at_first, metric_name, put_back, steps, truth_by, value_by, with_cell};
 ghost use Rattle.nl_run.specs.Job.{Job};
 ghost use Rattle.nl_run.specs.Left.{IsReady, SpendsNone, cells_from, moves, moves_behind, rest_by, settled, stands};
 ghost use Rattle.nl_run.specs.Plans.{job_in, lone_seen};
@@ -16,7 +16,7 @@ ghost use Rattle.nl_run.specs.inner.Cells as spec;
 ghost use Rattle.nl_run.specs.inner.Cells.{GivesValue, goes_or_ends, truth_or, value_or_ends};
 
 use crate::errors::{Called, fault_at, fault_at_first};
-use crate::measures::{cell_of, measure_at_step, next_metric, regular_end};
+use crate::measures::{cell_of, measure_on_the_way, measure_or_step, next_metric, regular_end};
 use crate::phase::{Behind, Measuring, Phase, Regular};
 use crate::plan::{LoneText, Plan};
 use crate::progress::Progress;
@@ -142,11 +142,11 @@ pub fn settle_setup<'a, S: Store>(
     ensures ready { IfOk result (λ phase. IsReady phase (job_in plan.now) progress.new) }
     ensures units { SpendsNone progress.new progress.old }
     ensures moves { IfOk result (λ phase.
-        moves (length (job_in plan.now).metrics) phase < 2 * length (job_in plan.now).metrics + 6) }
+        moves (length (job_in plan.now).metrics) phase < 2 * length (job_in plan.now).metrics + 7) }
 {
     match commands_end(alloc, plan, Called::Setup, plan.setup(), end)? {
         Err(how) => Ok(Phase::Over(how)),
-        Ok(_) => measure_at_step(alloc, plan, progress),
+        Ok(_) => measure_on_the_way(alloc, plan, progress),
     }
 }
 
@@ -167,7 +167,7 @@ pub fn settle_go<'a, S: Store>(
     ensures ready { IfOk result (λ phase. IsReady phase (job_in plan.now) progress.new) }
     ensures units { SpendsNone progress.new progress.old }
     ensures moves { IfOk result (λ phase.
-        moves (length (job_in plan.now).metrics) phase < 2 * length (job_in plan.now).metrics + 6) }
+        moves (length (job_in plan.now).metrics) phase < 2 * length (job_in plan.now).metrics + 7) }
 {
     match commands_end(alloc, plan, Called::Go, plan.go(), end)? {
         Err(how) => Ok(Phase::Over(how)),
@@ -176,7 +176,7 @@ pub fn settle_go<'a, S: Store>(
             // What the sum rests on: each step has spent a unit.
             let _begun = progress.begun;
             progress.step += 1;
-            measure_at_step(alloc, plan, progress)
+            measure_on_the_way(alloc, plan, progress)
         }
     }
 }
@@ -191,13 +191,55 @@ fn truth_in(value: &Value) -> Option<bool>
     }
 }
 
-// What comes by the value of the condition: the end, or a step.
-fn judge<'a, S: Store>(
+// What comes by the truth of the value of a condition: that truth, or how it ends the run.
+fn judge(
+    alloc: Global,
+    plan: &Plan<'_>,
+    called: Called,
+    text: LoneText<'_>,
+    truth: Option<bool>,
+) -> Result<Result<bool, RunEnd>, NoMemory>
+    ensures { IfOk result (λ r. (s : Standing) (next : Bool → Standing → Finish) →
+        goes_or_ends r s next
+        ≡ truth_or truth (job_in plan.now) (called_name called) (lone_seen text.entry) s next) }
+{
+    match truth {
+        Some(truth) => Ok(Ok(truth)),
+        None => {
+            let end = error_at_first(alloc, plan, called, text, ErrorKind::WrongType)?;
+            Ok(Err(end))
+        }
+    }
+}
+
+// Whether a condition is true, or how it ends the run. What comes next does so where the stream is put back to a mark.
+fn truth_end(
+    alloc: Global,
+    plan: &Plan<'_>,
+    called: Called,
+    text: LoneText<'_>,
+    end: End,
+) -> Result<Result<bool, RunEnd>, NoMemory>
+    ensures { IfOk result (λ r. (mark : ℕ) (s : Standing) (next : Bool → Standing → Finish) →
+        goes_or_ends r (put_back mark s) next
+        ≡ value_by (job_in plan.now) (called_name called) (lone_seen text.entry) (end_seen end) s (λ v s1.
+        truth_by (job_in plan.now) (called_name called) (lone_seen text.entry) v (put_back mark s1) next)) }
+{
+    match value_end(alloc, plan, called, text, end)? {
+        Err(how) => Ok(Err(how)),
+        Ok(value) => {
+            let judged = judge(alloc, plan, called, text, truth_in(&value))?;
+            Ok(judged)
+        }
+    }
+}
+
+// What comes by the condition of the end: the end, or a step.
+fn end_or_step<'a, S: Store>(
     alloc: Global,
     plan: &Plan<'a>,
     progress: &mut Progress<'a, S>,
-    until: LoneText<'a>,
-    truth: Option<bool>,
+    met: bool,
 ) -> Result<Phase<'a>, NoMemory>
     requires closed { IsClosed progress.old.machine }
     requires program { program_of progress.old.machine ≡ (job_in plan.now).program }
@@ -205,24 +247,20 @@ fn judge<'a, S: Store>(
     requires begun { progress.old.begun ≤ spent_of progress.old.machine }
     ensures rest { IfOk result (λ phase. (n : ℕ) →
         rest_by phase (job_in plan.now) progress.new n
-        ≡ truth_or truth (job_in plan.now) (lone_seen until.entry) (stands progress.old n)
-        (after_until (job_in plan.now) (steps (job_in plan.now)))) }
+        ≡ after_until (job_in plan.now) (steps (job_in plan.now)) met (stands progress.old n)) }
     ensures ready { IfOk result (λ phase. IsReady phase (job_in plan.now) progress.new) }
     ensures units { SpendsNone progress.new progress.old }
     ensures moves { IfOk result (λ phase.
         moves (length (job_in plan.now).metrics) phase < length (job_in plan.now).metrics + 3) }
 {
-    match truth {
-        Some(true) => regular_end(alloc, plan, progress, Regular::Condition),
-        Some(false) => Ok(Phase::Wanting),
-        None => {
-            let end = error_at_first(alloc, plan, Called::Until, until, ErrorKind::WrongType)?;
-            Ok(Phase::Over(end))
-        }
+    if met {
+        regular_end(alloc, plan, progress, Regular::Condition)
+    } else {
+        Ok(Phase::Wanting)
     }
 }
 
-/// What comes behind the condition.
+/// What comes behind the condition of the end.
 pub fn settle_until<'a, S: Store>(
     alloc: Global,
     plan: &Plan<'a>,
@@ -243,11 +281,42 @@ pub fn settle_until<'a, S: Store>(
     ensures moves { IfOk result (λ phase.
         moves (length (job_in plan.now).metrics) phase < length (job_in plan.now).metrics + 3) }
 {
-    match value_end(alloc, plan, Called::Until, until, end)? {
+    match truth_end(alloc, plan, Called::Until, until, end)? {
         Err(how) => Ok(Phase::Over(how)),
-        Ok(value) => {
+        Ok(met) => {
             progress.machine.put_back(before);
-            let phase = judge(alloc, plan, progress, until, truth_in(&value))?;
+            let phase = end_or_step(alloc, plan, progress, met)?;
+            Ok(phase)
+        }
+    }
+}
+
+/// What comes behind the condition of the measures.
+pub fn settle_when<'a, S: Store>(
+    alloc: Global,
+    plan: &Plan<'a>,
+    progress: &mut Progress<'a, S>,
+    when: LoneText<'a>,
+    asked_at: Mark,
+    end: End,
+) -> Result<Phase<'a>, NoMemory>
+    requires closed { IsClosed progress.old.machine }
+    requires program { program_of progress.old.machine ≡ (job_in plan.now).program }
+    requires steps { progress.old.step ≤ progress.old.begun }
+    requires begun { progress.old.begun ≤ spent_of progress.old.machine }
+    ensures rest { IfOk result (λ phase. (n : ℕ) →
+        rest_by phase (job_in plan.now) progress.new n
+        ≡ settled (open_.When when.entry asked_at) (job_in plan.now) (end_seen end) (stands progress.old n)) }
+    ensures ready { IfOk result (λ phase. IsReady phase (job_in plan.now) progress.new) }
+    ensures units { SpendsNone progress.new progress.old }
+    ensures moves { IfOk result (λ phase.
+        moves (length (job_in plan.now).metrics) phase < 2 * length (job_in plan.now).metrics + 6) }
+{
+    match truth_end(alloc, plan, Called::When, when, end)? {
+        Err(how) => Ok(Phase::Over(how)),
+        Ok(truth) => {
+            progress.machine.put_back(asked_at);
+            let phase = measure_or_step(alloc, plan, progress, truth)?;
             Ok(phase)
         }
     }

@@ -13,7 +13,7 @@ use crate::measures::regular_end;
 use crate::phase::{Open, Phase, Regular};
 use crate::plan::Plan;
 use crate::progress::Progress;
-use crate::settle::{settle_go, settle_metric, settle_setup, settle_until};
+use crate::settle::{settle_go, settle_metric, settle_setup, settle_until, settle_when};
 use nl_agents::Store;
 use nl_exec::{End, Turn};
 use nl_fixed::NoMemory;
@@ -80,7 +80,7 @@ fn begin_step<'a, S: Store>(
     ensures ready { IfOk result (λ phase. IsReady phase (job_in plan.now) progress.new) }
     ensures units { SpendsNone progress.new progress.old }
     ensures moves { IfOk result (λ phase.
-        moves (length (job_in plan.now).metrics) phase ≡ 2 * length (job_in plan.now).metrics + 6) }
+        moves (length (job_in plan.now).metrics) phase ≡ 2 * length (job_in plan.now).metrics + 7) }
 {
     progress.open(alloc, plan.go(), Form::Commands)?;
     Ok(Phase::Text(Open::Go))
@@ -113,6 +113,7 @@ fn settle<'a, S: Store>(
         Open::Setup => settle_setup(alloc, plan, progress, end),
         Open::Go => settle_go(alloc, plan, progress, end),
         Open::Until(until, mark) => settle_until(alloc, plan, progress, until, mark, end),
+        Open::When(when, mark) => settle_when(alloc, plan, progress, when, mark, end),
         Open::Metric(measuring) => settle_metric(alloc, plan, progress, measuring, end),
     }
 }

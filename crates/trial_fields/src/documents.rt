@@ -33,7 +33,7 @@ const DOCUMENTS: &[(&str, Said)] = &[
     ("", Said::Fault(PlanKind::MissingKey, "name")),
     ("name = \"x\"", Said::Read),
     (
-        "name = \"x\"\nformat = 2",
+        "name = \"x\"\nformat = 3",
         Said::Fault(PlanKind::BadLiteral, "format"),
     ),
     (
@@ -316,7 +316,7 @@ fn is_usual(fields: &Fields) -> bool {
         && fields.go.as_bytes() == b"go".as_slice()
         && fields.until.is_none()
         && fields.steps == 0
-        && !fields.every_step
+        && fields.measure_when.is_none()
         && fields.budget == 10_000_000
         && fields.metrics.as_slice().is_empty()
         && fields.bounds == [-16, 16, -16, 16]
@@ -337,6 +337,14 @@ fn what_is_left_out_is_usual(rt: HostRuntime) {
 const WHOLE: &str =
     "format = 1\nname = \"fire\"\nseed = 9223372036854775807\nrepetitions = 2\nsequential = false\nsetup = \"s\"\ngo = \"g\"\nuntil = \"u\"\nsteps = 3\nevery-step = true\nbudget = 1000000000\nmetrics = [\"a\", \"b\"]\n[world]\nmin-pxcor = -1\nmax-pxcor = 2\nmin-pycor = -3\nmax-pycor = 4\nwrap-x = false\nwrap-y = false\n[globals]\nZ = 1\nb = true\n[[vary]]\nname = \"Speed\"\nvalues = [1, \"red\"]\n[[vary]]\nname = \"c\"\nfrom = 1\nstep = \"0.5\"\nto = 3\n";
 
+// Every step is where `true` is true.
+fn is_always(text: &Option<Str>) -> bool {
+    match text {
+        Some(text) => text.as_bytes() == b"true".as_slice(),
+        None => false,
+    }
+}
+
 fn is_head(fields: &Fields) -> bool {
     fields.name.as_bytes() == b"fire".as_slice()
         && fields.seed == 9_223_372_036_854_775_807
@@ -346,7 +354,7 @@ fn is_head(fields: &Fields) -> bool {
         && fields.go.as_bytes() == b"g".as_slice()
         && fields.until.is_some()
         && fields.steps == 3
-        && fields.every_step
+        && is_always(&fields.measure_when)
         && fields.budget == 1_000_000_000
         && fields.metrics.as_slice().len() == 2
         && fields.bounds == [-1, 2, -3, 4]

@@ -19,6 +19,7 @@ const FLOATS: &[Row] = &[
     ("until = -0.0", "until"),
     ("steps = 2.0", "steps"),
     ("every-step = 0.5", "every-step"),
+    ("format = 2\nmeasure-when = 0.5", "measure-when"),
     ("budget = 1e6", "budget"),
     ("metrics = 1.5", "metrics"),
     ("metrics = [\"a\", 1.5]", "metrics"),
@@ -73,6 +74,7 @@ const WRONG_KINDS: &[Row] = &[
     ("until = {}", "until"),
     ("steps = 1979-05-27", "steps"),
     ("every-step = \"true\"", "every-step"),
+    ("format = 2\nmeasure-when = true", "measure-when"),
     ("budget = [1]", "budget"),
     ("metrics = \"count turtles\"", "metrics"),
     ("metrics = [\"a\", [\"b\"]]", "metrics"),
@@ -605,5 +607,85 @@ fn earlier_keys_are_told_first(rt: HostRuntime) {
     );
     for (line, key, kind) in ENTRIES {
         assert!(rt; line_says(alloc, line, Said::Fault(*kind, *key)), "{line}");
+    }
+}
+
+// Which keys each format has, and what is told first where a format is none.
+const FORMATS: &[(&str, Said)] = &[
+    ("every-step = true", Said::Read),
+    ("format = 1\nevery-step = false", Said::Read),
+    ("format = 2", Said::Read),
+    ("format = 2\nmeasure-when = \"\"", Said::Read),
+    ("measure-when = \"true\"\nformat = 2", Said::Read),
+    (
+        "measure-when = \"true\"",
+        Said::Fault(PlanKind::UnknownKey, "measure-when"),
+    ),
+    (
+        "format = 1\nmeasure-when = 1.5",
+        Said::Fault(PlanKind::UnknownKey, "measure-when"),
+    ),
+    (
+        "format = 2\nevery-step = true",
+        Said::Fault(PlanKind::UnknownKey, "every-step"),
+    ),
+    (
+        "format = 2\nevery-step = true\nafter = 1",
+        Said::Fault(PlanKind::UnknownKey, "after"),
+    ),
+    (
+        "format = 2\nmeasure-when = 1",
+        Said::Fault(PlanKind::WrongKind, "measure-when"),
+    ),
+    (
+        "format = 2\nmeasure-when = 1.5",
+        Said::Fault(PlanKind::FloatValue, "measure-when"),
+    ),
+    (
+        "format = 2\nmeasure-when = []",
+        Said::Fault(PlanKind::WrongKind, "measure-when"),
+    ),
+    (
+        "budget = 0\nformat = 2\nmeasure-when = 1",
+        Said::Fault(PlanKind::WrongKind, "measure-when"),
+    ),
+    (
+        "steps = -1\nformat = 2\nmeasure-when = 1",
+        Said::Fault(PlanKind::BadLiteral, "steps"),
+    ),
+    (
+        "format = 0\nevery-step = true\nmeasure-when = \"true\"",
+        Said::Fault(PlanKind::BadLiteral, "format"),
+    ),
+    (
+        "format = 3\nevery-step = 1\nmeasure-when = 1",
+        Said::Fault(PlanKind::BadLiteral, "format"),
+    ),
+    (
+        "format = \"2\"\nevery-step = true\nmeasure-when = \"true\"",
+        Said::Fault(PlanKind::WrongKind, "format"),
+    ),
+    (
+        "format = 2.0\nevery-step = true\nmeasure-when = \"true\"",
+        Said::Fault(PlanKind::FloatValue, "format"),
+    ),
+    (
+        "format = true\nevery-step = true\nmeasure-when = \"true\"",
+        Said::Fault(PlanKind::WrongKind, "format"),
+    ),
+    (
+        "format = 3\nother = 1",
+        Said::Fault(PlanKind::UnknownKey, "other"),
+    ),
+    (
+        "format = 2.0\nother = 1",
+        Said::Fault(PlanKind::UnknownKey, "other"),
+    ),
+];
+
+#[test]
+fn each_format_has_its_keys(rt: HostRuntime) {
+    for (lines, said) in FORMATS {
+        assert!(rt; line_says(rt.alloc(), lines, *said), "{lines}");
     }
 }

@@ -4,6 +4,8 @@
 #[cfg(test)]
 mod budgets;
 #[cfg(test)]
+mod conditions;
+#[cfg(test)]
 mod draws;
 #[cfg(test)]
 mod errors;

@@ -72,7 +72,9 @@ ProgramSays widgets file (Err _) = ⊥
 
 -- the trees of the texts
 abbrev pub TreesSay : Fields → Checked → Result declared.Texts End → Type 0
-TreesSay fields program (Ok texts) = (is_some texts.until ≡ is_some fields.until) × AreTreesFor program (texts_of fields) (trees_of texts)
+TreesSay fields program (Ok texts) =
+    (is_some texts.until ≡ is_some fields.until) × ((is_some texts.measure_when ≡ is_some fields.measure_when)
+    × AreTreesFor program (texts_of fields) (trees_of texts))
 TreesSay fields program (Err (End.Plan fault)) = IsFirstBad program (texts_of fields) fault
 TreesSay fields program (Err End.Memory) = Unit {0}
 TreesSay fields program (Err _) = ⊥

@@ -7,7 +7,7 @@ use Rattle.nl_value.specs.Views.{plain}
 use Rattle.nl_value.specs.declared.values.Value.{Value}
 use Rattle.nl_exec_acts.specs.declared.fail.ErrorKind.TheVariants.{WrongType}
 use Rattle.nl_exec_meaning.specs.Ground.{Ground, fits}
-use Rattle.nl_run.specs.Course.{Finish, Standing, ends_as, fails_at_first, until_name}
+use Rattle.nl_run.specs.Course.{Finish, Standing, ends_as, fails_at_first}
 use Rattle.nl_run.specs.Job.{Job, Lone}
 use Rattle.nl_run.specs.declared.rows.RunEnd.{RunEnd}
 
@@ -29,12 +29,12 @@ abbrev pub GivesValue : Ground → Result Value RunEnd → Type 0
 GivesValue g (Ok value) = IsTrue (fits g (plain value))
 GivesValue g (Err how) = ⊤
 
--- ---- the value of the condition
+-- ---- the value of a condition
 
 abbrev pub truth_in : Plain → Option Bool
 truth_in (PlainTruth truth) = Some truth
 truth_in other = None
 
-abbrev pub truth_or : Option Bool → Job → Lone → Standing → (Bool → Standing → Finish) → Finish
-truth_or (Some truth) j l s next = next truth s
-truth_or None j l s next = fails_at_first j until_name l WrongType s
+abbrev pub truth_or : Option Bool → Job → Bytes → Lone → Standing → (Bool → Standing → Finish) → Finish
+truth_or (Some truth) j called l s next = next truth s
+truth_or None j called l s next = fails_at_first j called l WrongType s

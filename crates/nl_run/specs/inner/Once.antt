@@ -54,6 +54,7 @@ there_once : (text : Open) (j : Job) → IsProp (IsThere text j)
 there_once open_.Setup j = Unit-prop
 there_once open_.Go j = Unit-prop
 there_once (open_.Until l mark) j = Unit-prop
+there_once (open_.When l mark) j = Unit-prop
 there_once (open_.Metric at) j = le_prop
 
 text_once : {S : Type 0} {G : Ghosts S} (p : RunPhase) (j : Job) (g : Progress S G) → IsProp (TextStands p j g)

@@ -34,4 +34,4 @@ returns c =
     let Q : Bytes → Type 0 = λ b. ProgramSays (widgets_of c.in_ok-experiment.experiment) b (Ok c.in_ok-program.program) in
     let verdict = subst Q c.as_slice.ensures.value (subst P c.widgets.ensures.names c.in_ok-program.ensures) in
     let job : Job = record { model = c.args.model; experiment = c.in_ok-experiment.experiment; program = c.in_ok-program.program; texts = c.in_ok-texts.texts } in
-    all_judged c.args.experiment.now job c.in_ok-experiment.ensures verdict c.in_ok-texts.ensures.0 c.in_ok-texts.ensures.1
+    all_judged c.args.experiment.now job c.in_ok-experiment.ensures verdict c.in_ok-texts.ensures.0 c.in_ok-texts.ensures.1.0 c.in_ok-texts.ensures.1.1

@@ -69,6 +69,6 @@ returns-in_ok-phase-in-Ended-clause-falls g c =
     let kept = c.in_ok-phase-in-Ended.ensures.units in
     let room_is : room last ≡ units_left after + (spent_of after - spent_of after) =
     omega (arith, kept.spent, kept.left, kept.begun, c.spent-now.ensures) in
-    fewer_moves (room last) (room now) (2 * length j.metrics + 7) (moves (length j.metrics) c.in_ok-phase-in-Ended.phase) (moves_in (length j.metrics) c.args.text)
+    fewer_moves (room last) (room now) (2 * length j.metrics + 8) (moves (length j.metrics) c.in_ok-phase-in-Ended.phase) (moves_in (length j.metrics) c.args.text)
     (no_more (units_left m) (spent_of m) now.begun (spent_of after) (units_left after) (room last) c.requires.ready.begun early c.in_ok-advance.ensures.bounded room_is)
     c.in_ok-phase-in-Ended.ensures.moves
