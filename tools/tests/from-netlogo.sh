@@ -52,6 +52,20 @@ run "$nlspace" rerun m.nlogo e.toml 8
 ends 0
 [[ $(< "$work/out") == '"8","to all around","0.5","5","false",'* ]] || fail "the row is $(< "$work/out")"
 
+begin 'from-netlogo: where metrics are measured at every step, the condition of the measures is told of'
+convert '358s/runMetricsEveryStep="false"/runMetricsEveryStep="true"/' 'all told'
+ends 0
+mentions 'm.nlogo:373: measure-when: left out, as the metrics are measured at every step'
+[[ $(< "$work/out") == *$'\nevery-step = true\n'* ]] || fail 'the metrics are measured otherwise'
+is_accepted
+
+begin 'from-netlogo: a condition of the measures with a word that is left out'
+convert '373s/ticks/timer/' 'all told'
+ends 0
+mentions 'm.nlogo:373: measure-when: left out, as nlspace leaves out the word timer'
+[[ $(< "$work/out") == *$'\nevery-step = false\n'* ]] || fail 'the metrics are measured otherwise'
+is_accepted
+
 begin 'from-netlogo: the only experiment needs no name'
 convert '/name="all told"/,/<\/experiment>/d'
 ends 0

@@ -355,7 +355,7 @@ setup repeat 10 [ go ]
       <value value="false"/>
     </enumeratedValueSet>
   </experiment>
-  <experiment name="all told" repetitions="1" runMetricsEveryStep="true">
+  <experiment name="all told" repetitions="1" runMetricsEveryStep="false">
     <preExperiment>show "begin"</preExperiment>
     <setup>random-seed new-seed
 setup</setup>
