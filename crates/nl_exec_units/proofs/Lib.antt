@@ -1,0 +1,4 @@
+pub mod Beside
+pub mod Looping
+pub mod Running
+pub mod Telling
