@@ -1,9 +1,9 @@
 -- That what a machine answers to so many units is forced by what it holds.
-use Rattle.std.specs.Prelude.{◌≡◌, ℕ, ◌+◌}
+use Rattle.std.specs.Prelude.{◌≡◌, ℕ, ◌+◌, ◌<◌}
 use Rattle.nl_agents.specs.declared.store.Store.{Ghosts}
 use Rattle.nl_exec_meaning.specs.State.{Budget}
 use Rattle.nl_exec_units.specs.Further.{Further}
-use Rattle.nl_exec.specs.Machines.{rest_of, with_more}
+use Rattle.nl_exec.specs.Machines.{rest_of, units_left, with_more}
 use Rattle.nl_exec.specs.declared.slices.Machine.{Machine}
 
 -- what is left of the open text is whole with its units, or cut
@@ -21,3 +21,7 @@ LeavesAllFurther m units = (n : ℕ) → rest_of m (units + n) ≡ with_more n (
 -- they exclude each other
 abbrev pub IsForced : {S : Type 0} {G : Ghosts S} → Machine S G → Type 0
 IsForced m = (units : ℕ) → EndsForWant m units → LeavesAllFurther m units → ⊥
+
+-- what is left wants a unit beyond so many, and the budget has one
+abbrev pub WantsFurther : {S : Type 0} {G : Ghosts S} → Machine S G → ℕ → Type 0
+WantsFurther m units = EndsForWant m units × (units < units_left m)
