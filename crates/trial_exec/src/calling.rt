@@ -7,6 +7,7 @@ use crate::playing::{SEED, is_end, let_go, program_of, shape_of, tree_of};
 use crate::rows::{Ends, WIDE};
 use nl_agents::Store;
 use nl_exec::{End, Machine, Turn, begin_in_slices, run_in_slices};
+use nl_exec_forced::laws::{answers_are_forced, answers_when_it_must, rests_are_whole_or_cut};
 use nl_fixed::{NoMemory, Num};
 use nl_plain::Plain;
 use nl_store::Indexed;
@@ -100,6 +101,20 @@ fn two_slices<S: Store>(alloc: Global, program: &Program, text: &Tree) -> bool {
     };
     let right = goes_on(alloc, &mut machine, 3, 3, 2)
         && ends(alloc, &mut machine, 10, Ends::Done, 6, 0);
+    let_go(machine);
+    right
+}
+
+// A slice that is too short for the text leaves more to do, as it must.
+fn short_slice<S: Store>(alloc: Global, program: &Program, text: &Tree) -> bool {
+    let Some(mut machine) = begun::<S>(alloc, program, text, 100) else {
+        return false;
+    };
+    rests_are_whole_or_cut(&machine);
+    answers_are_forced(&machine);
+    let turn = answers_when_it_must(alloc, &mut machine, 3);
+    let right = is_more(&turn) && stands(&machine, 3, 2);
+    let_go(turn);
     let_go(machine);
     right
 }
@@ -327,6 +342,7 @@ fn draws_again<'a, S: Store>(alloc: Global, program: &'a Program, text: &'a Tree
 #[derive(Clone, Copy)]
 enum Trial {
     TwoSlices,
+    ShortSlice,
     SixSlices,
     ScarceSlice,
     EmptySlice,
@@ -356,6 +372,7 @@ fn text_of(trial: Trial) -> (Form, &'static str) {
 fn tried<'a, S: Store>(alloc: Global, trial: Trial, program: &'a Program, text: &'a Tree) -> bool {
     match trial {
         Trial::TwoSlices => two_slices::<S>(alloc, program, text),
+        Trial::ShortSlice => short_slice::<S>(alloc, program, text),
         Trial::SixSlices => six_slices::<S>(alloc, program, text),
         Trial::ScarceSlice => scarce_slice::<S>(alloc, program, text),
         Trial::EmptySlice => empty_slice::<S>(alloc, program, text),
@@ -392,6 +409,7 @@ fn goes_well(alloc: Global, trial: Trial) -> bool {
 #[test]
 fn slices_stop_at_any_unit(rt: HostRuntime) {
     assert!(rt; goes_well(rt.alloc(), Trial::TwoSlices));
+    assert!(rt; goes_well(rt.alloc(), Trial::ShortSlice));
     assert!(rt; goes_well(rt.alloc(), Trial::SixSlices));
     assert!(rt; goes_well(rt.alloc(), Trial::ScarceSlice));
     assert!(rt; goes_well(rt.alloc(), Trial::EmptySlice));
