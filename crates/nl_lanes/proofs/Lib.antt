@@ -1,0 +1,12 @@
+pub mod Cases
+pub mod Counts
+pub mod Driving
+pub mod Ends
+pub mod Keeping
+pub mod Kept
+pub mod Once
+pub mod Orders
+pub mod Progress
+pub mod Puts
+pub mod Rounding
+pub mod Turning
