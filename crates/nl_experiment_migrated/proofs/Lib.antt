@@ -1,0 +1,9 @@
+pub mod Accepted
+pub mod Fitting
+pub mod Members
+pub mod OneText
+pub mod Putting
+pub mod Saying
+pub mod Staying
+pub mod Twice
+pub mod Writing
